@@ -7,6 +7,7 @@
     lists      the same over lists, judged by `Whole` and with room for 1 and 16 frames, by DESKS, the program that desks.sh makes
     serve      by `serve` over a file; then what was answered 503 is sent again, and all is asked that can be asked, before and after
                the desk is started again
+    log        the same by `serve --log`; the log has a line for each reply
     open       `serve` is refused before it listens
     init       `init` is refused
     migrate    `migrate` is refused
@@ -296,6 +297,8 @@ def checking(refusing, place):
     desk.end()
     remove(store)
     return "refused" if ended else "looked", met
+
+
 def setting(refusing, place):
     """A refused `callers` leaves the callers before, or those of its file, and can be run again. Who stays sees the same."""
     store = os.path.join(refusing.room, "set")
@@ -321,12 +324,12 @@ def setting(refusing, place):
 class Desk:
     """A desk over a store."""
 
-    def __init__(self, refusing, store, place=0, capacity=16):
+    def __init__(self, refusing, store, place=0, capacity=16, more=()):
         with socket.socket() as probe:
             probe.bind(("127.0.0.1", 0))
             self.port = probe.getsockname()[1]
         refusing.refuse(place)
-        words = [refusing.program, "serve", "--cache", str(capacity), "--port", str(self.port), store]
+        words = [refusing.program, "serve", "--cache", str(capacity), "--port", str(self.port), *more, store]
         self.process = subprocess.Popen(words, env=refusing.environment, stdout=subprocess.PIPE, stderr=subprocess.PIPE)
         self.line = self.process.stdout.readline()
 
@@ -344,9 +347,10 @@ class Desk:
         return replies_of(b"".join(written))
 
     def end(self):
+        """Stops it. Tells what stood on standard error."""
         see(self.process.poll() is None, "the desk ended", self.process.poll())
         self.process.kill()
-        self.process.communicate()
+        return self.process.communicate()[1]
 
 
 def remove(store):
@@ -355,11 +359,11 @@ def remove(store):
             os.remove(os.path.join(os.path.dirname(store), name))
 
 
-def serve(capacity):
+def serve(capacity, more=()):
     def way(refusing, place):
         store = os.path.join(refusing.room, "served")
         shutil.copy(refusing.made, store)
-        desk = Desk(refusing, store, 0, capacity)
+        desk = Desk(refusing, store, 0, capacity, more)
         refusing.refuse(place)
         replies = desk.exchange(SCRIPT)
         met = refusing.met()
@@ -372,7 +376,7 @@ def serve(capacity):
         got = desk.exchange(again + QUESTIONS)
         see(got == told[len(given) :], "sent again: got", got, "wanted", told[len(given) :])
         see(all(reply.startswith(b"HTTP/1.1 200 ") for reply in got[: len(refused)]), "a refused call, sent again", got)
-        desk.end()
+        see_log(desk.end(), replies, got, more)
         see_tables(store, plain)
         desk = Desk(refusing, store, 0, capacity)
         got = desk.exchange(QUESTIONS)
@@ -382,6 +386,16 @@ def serve(capacity):
         return "a 503" if refused else "a connection's end" if len(replies) < len(SCRIPT) else "all replies", met
 
     return way
+
+
+def see_log(errors, first, then, more):
+    """A log has a line for each reply, in their order; those of the last round may be lost. One connection was given up at most."""
+    lines = errors.decode("ascii").splitlines()
+    faults = [line.split()[2:] for line in lines if line.split()[2] == "FAULT"]
+    told = [line.split()[4] for line in lines if line.split()[2] != "FAULT"]
+    wanted = [reply.split()[1].decode() for reply in first + then] if more else []
+    see(told == wanted[: len(told)] and (not more or len(told) >= len(first)), "the log", lines, "wanted", wanted)
+    see(faults == [["FAULT", "54"]] if more and len(first) < len(SCRIPT) else not faults, "the log", lines)
 
 
 def see_tables(store, plain):
@@ -428,6 +442,7 @@ WAYS = {
     "large": [replay(("replay", "--cache", "1"), False, least=1 << 14)],
     "lists": [replay((judge,), is_cut, True) for judge in ("whole", "1", "16") for is_cut in (False, True)],
     "serve": [serve(capacity) for capacity in (1, 16)],
+    "log": [serve(16, ("--log",))],
 }
 
 

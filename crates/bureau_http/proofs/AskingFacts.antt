@@ -60,6 +60,19 @@ unknown rows parts body token is_token is_caller =
 pub without_token : (rows : List CallerRow) (parts : Parts) (body : List ℕ) → None ≡ parts.token → what_of rows parts body ≡ Err UnknownToken
 without_token rows parts body is_token = ap (λ t. by_caller (caller_in rows t) parts body) (sym is_token)
 
+-- ---- whose token it is
+
+pub known : (rows : List CallerRow) (parts : Parts) (token : List ℕ) (caller : Caller) → Some token ≡ parts.token → Some caller ≡ caller_with rows token
+    → Some caller ≡ caller_in rows parts.token
+known rows parts token caller is_token is_caller = is_caller ∙ ap (λ t. caller_in rows t) is_token
+
+pub unknown_caller : (rows : List CallerRow) (parts : Parts) (token : List ℕ) → Some token ≡ parts.token → None ≡ caller_with rows token
+    → None ≡ caller_in rows parts.token
+unknown_caller rows parts token is_token is_caller = is_caller ∙ ap (λ t. caller_in rows t) is_token
+
+pub no_token : (rows : List CallerRow) (parts : Parts) → None ≡ parts.token → None ≡ caller_in rows parts.token
+no_token rows parts is_token = ap (λ t. caller_in rows t) is_token
+
 -- ---- where a 503 may come
 
 pub token_there : (parts : Parts) (token : List ℕ) → Some token ≡ parts.token → has_token parts ≡ true

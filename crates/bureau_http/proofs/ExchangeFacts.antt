@@ -1,5 +1,5 @@
 -- What a request is told, as an exchange.
-use Rattle.std.proofs.Common.{◌≡◌, inl, inr, Bool, List, Option, Ok, Err, refl, sym, ap, ◌∙◌, subst}
+use Rattle.std.proofs.Common.{◌≡◌, inl, inr, Bool, List, Option, Ok, Err, refl, sym, ap, subst}
 use Rattle.requests.specs.Refusal.{allow_of_refusal, status_of}
 use Rattle.requests.specs.Reply.{reply_text}
 use Rattle.requests.specs.Status.{code_of}
@@ -9,10 +9,10 @@ use Rattle.requests.specs.declared.reply.ReplyHead.{ReplyHead}
 use Rattle.requests.specs.declared.resource.Resource.{Resource}
 use Rattle.bureau_store.specs.Tables.{Tables}
 use Rattle.bureau_store.specs.declared.caller.Caller.{Caller}
-use Rattle.bureau.specs.Joint.{CallBy, IsStep, tables_left}
-use Rattle.bureau.specs.Outcome.{Outcome, answered, accepted, outcome}
+use Rattle.bureau.specs.Joint.{CallBy, tables_left}
+use Rattle.bureau.specs.Outcome.{Outcome, answered, accepted}
 use Rattle.bureau.specs.Replies.{reply_as}
-use Rattle.bureau.specs.View.{view_of}
+use Rattle.bureau.proofs.RunFacts.{step_callers}
 use Rattle.bureau_http.specs.Asked.{What}
 use Rattle.bureau_http.specs.Exchange.{IsAnsweredBy, allow_by, body_told, call_from, exchange_text, refusal_answer}
 use Rattle.bureau_http.specs.Served.{HasExchanged, asked_as}
@@ -25,11 +25,6 @@ use Rattle.bureau_http.specs.declared.reply.Told.TheVariants.{Answered, Refused,
 outcome_keeps : (caller : Caller) (come : Outcome) (this : Tables) → (tables_left caller come this).callers ≡ this.callers
 outcome_keeps caller (answered answer) this = refl
 outcome_keeps caller (accepted effect text) this = refl
-
-pub step_keeps : (this next : Tables) (call_by : CallBy) → IsStep this call_by next → next.callers ≡ this.callers
-step_keeps this next call_by (inl same) = ap (λ t. t.callers) same.1
-step_keeps this next call_by (inr done) =
-    ap (λ t. t.callers) done.1 ∙ outcome_keeps call_by.caller (outcome (view_of call_by.caller this) call_by.call) this
 
 -- ---- which answer
 
@@ -44,7 +39,7 @@ answered_by this next (Err refusal) has_token NoRoom is = inr (is.0, refl)
 
 pub callers_by : (this next : Tables) (what : What) (has_token : Bool) (told : Told) → IsTold this what has_token told next → next.callers ≡ this.callers
 callers_by this next what has_token (Answered reply) is =
-    step_keeps this next (record { caller = is.0.0; call = is.0.1; answer = reply_as reply }) is.2
+    step_callers this next (record { caller = is.0.0; call = is.0.1; answer = reply_as reply }) is.2
 callers_by this next what has_token (Refused refusal) is = ap (λ t. t.callers) is.1
 callers_by this next what has_token NoRoom is = ap (λ t. t.callers) is.1
 

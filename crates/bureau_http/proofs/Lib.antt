@@ -9,3 +9,4 @@ mod ConnectionFacts
 pub mod ReplayFacts
 mod LawfulFacts
 mod RestFacts
+mod NotedFacts

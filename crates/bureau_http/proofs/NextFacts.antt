@@ -1,6 +1,8 @@
 -- What is served next, after what was served so far.
 use Rattle.std.proofs.Common.{◌≡◌, ℕ, ◌+◌, ◌<◌, List, [], ◌∷◌, ◌++◌, length, map, take, get_or, Option, Result, Ok, Err, IfSome, subst}
 use Rattle.std.specs.Io.KnownBytes.{prepend_known}
+use Rattle.lemmas.proofs.ResultFacts.{some_is}
+use Rattle.log_lines.specs.declared.note.Note.{Note}
 use Rattle.catalogue.specs.View.{Goes, Tells, View}
 use Rattle.bureau_store.specs.Tables.{Tables}
 use Rattle.bureau.specs.Joint.{CallBy, IsRun}
@@ -15,7 +17,7 @@ use Rattle.bureau_http.specs.declared.serving.Step.{Step}
 use Rattle.bureau_http.specs.declared.serving.Step.TheVariants as step
 use Rattle.bureau_http.proofs.IsolatedFacts.{Alike, Alone}
 use Rattle.bureau_http.proofs.ListFacts.{IsPlain, in_part, one_more}
-use Rattle.bureau_http.proofs.ServingFacts.{ActOnce, map_some, ran_more, served_end, served_err, served_last, some_at, stays}
+use Rattle.bureau_http.proofs.ServingFacts.{ActOnce, map_some, ran_more, served_end, served_err, served_last, stays}
 
 -- a change acts once, by the law of all runs
 pub acts_once : ((this next : Tables) (calls : List CallBy) → IsRun this calls next → ActsOnce this calls next)
@@ -62,7 +64,7 @@ module _ {Desk : Type 0} (view : View Desk Tables) (desk between after : Desk) (
       told = λ ours clean this stand.
           map_some sent (so_far.told ours (next_goes.clean clean) this stand) (λ bytes so.
           fact this bytes so (subst (λ r. Serves Then so.now ordinal held rest mid written_after r so.following) same
-          (some_at _ left so.following so.left_are
+          (some_is _ left so.following so.left_are
           (next.told (goes.ours ours (next_goes.clean clean)) clean so.now (stands_after view desk between this (calls_of so.exchanges) so.now so.run)))));
     }
 
@@ -71,21 +73,21 @@ module _ {Desk : Type 0} (view : View Desk Tables) (desk between after : Desk) (
     ended_served count counted is = next_served (λ this. IsServed Whole this rest written written_after (Ok (record { requests = count }))) (Ok step.CleanEnd) is (λ this bytes so served.
         served_end First Then Whole (kept_on view desk between after) (kept_once view desk after once) this ordinal held rest left written mid written_after bytes so count counted served)
 
-    pub last_served : answer ≡ Ok step.Ends
+    pub last_served : (note : Note) → answer ≡ Ok (step.Ends note)
         → Tells view desk after (λ this. IfSome sent (IsServed (IsKeptRun view desk after) this rest written written_after (Ok (record { requests = ordinal }))))
-    last_served is = next_served (λ this. IsServed Whole this rest written written_after (Ok (record { requests = ordinal }))) (Ok step.Ends) is (λ this bytes so served.
-        served_last First Then Whole (kept_on view desk between after) (kept_once view desk after once) this ordinal held rest left written mid written_after bytes so served)
+    last_served note is = next_served (λ this. IsServed Whole this rest written written_after (Ok (record { requests = ordinal }))) (Ok (step.Ends note)) is (λ this bytes so served.
+        served_last First Then Whole (kept_on view desk between after) (kept_once view desk after once) this ordinal held rest left written mid written_after bytes so note served)
 
     pub failed_served : (fault : ConnFault) → answer ≡ Err fault
         → Tells view desk after (λ this. IfSome sent (IsServed (IsKeptRun view desk after) this rest written written_after (Err fault)))
     failed_served fault is = next_served (λ this. IsServed Whole this rest written written_after (Err fault)) (Err fault) is (λ this bytes so served.
         served_err First Then Whole (kept_on view desk between after) (kept_once view desk after once) this ordinal held rest left written mid written_after bytes so fault served)
 
-    pub one_served : answer ≡ Ok step.Stays
+    pub one_served : (note : Note) → answer ≡ Ok (step.Stays note)
         → Tells view desk after (λ this. IfSome sent (IsSoFar (IsKeptRun view desk after) this (ordinal + 1) (prepend_known held rest) written written_after))
-    one_served is = next_served (λ this. IsSoFar Whole this (ordinal + 1) (prepend_known held rest) written written_after) (Ok step.Stays) is (λ this bytes so served.
+    one_served note is = next_served (λ this. IsSoFar Whole this (ordinal + 1) (prepend_known held rest) written written_after) (Ok (step.Stays note)) is (λ this bytes so served.
         stays First Then Whole (kept_on view desk between after) (kept_once view desk after once) this ordinal rest left written mid written_after bytes so
-        served.0 (prepend_known held rest) served.1 served.2)
+        served.0 (prepend_known held rest) served.1 served.2.0)
 
   -- ---- the next connection of a list
 

@@ -5,6 +5,8 @@ use Rattle.std.proofs.lemmas.Grind.{flat_map-append}
 use Rattle.std.proofs.lemmas.List.{length-map, map-append}
 use Rattle.std.specs.Io.KnownBytes.{Appends, Keeps, prepend_known}
 use Rattle.std.specs.List.{AllByRecursion}
+use Rattle.lemmas.proofs.ResultFacts.{if_some}
+use Rattle.log_lines.specs.declared.note.Note.{Note}
 use Rattle.transfer.specs.Transfer.{AppendsFront}
 use Rattle.transfer.specs.declared.fault.TransferFault.{TransferFault}
 use Rattle.transfer.specs.declared.fault.TransferFault.TheVariants as transfer
@@ -50,11 +52,11 @@ written_as {A} (Err fault) old new text ok err = front_as A fault old new text e
 abbrev pub Join : (First Then Whole : Tables → List CallBy → Tables → Type 0) → Type 0
 Join First Then Whole = (this mid next : Tables) (xs ys : List CallBy) → First this xs mid → Then mid ys next → Whole this (xs ++ ys) next
 
-all_on : (P : Exchange → Type 0) (xs ys : List Exchange) → AllByRecursion P xs → AllByRecursion P ys → AllByRecursion P (xs ++ ys)
+pub all_on : (P : Exchange → Type 0) (xs ys : List Exchange) → AllByRecursion P xs → AllByRecursion P ys → AllByRecursion P (xs ++ ys)
 all_on P [] ys h k = k
 all_on P (x ∷ xs) ys h k = (h.0, all_on P xs ys h.1 k)
 
-reads_on : (rows : List CallerRow) (ordinal : ℕ) (bytes : List ℕ) (first : List Asked) (following : List ℕ) (asked : Asked) (rest : List ℕ)
+pub reads_on : (rows : List CallerRow) (ordinal : ℕ) (bytes : List ℕ) (first : List Asked) (following : List ℕ) (asked : Asked) (rest : List ℕ)
     → ReadsTo rows ordinal bytes first following → IsRequest rows (ordinal + length first) following asked rest
     → ReadsTo rows ordinal bytes (first ++ asked ∷ []) rest
 reads_on rows ordinal bytes [] following asked rest h k =
@@ -68,7 +70,7 @@ calls_more : (exchanges : List Exchange) (exchange : Exchange) → calls_of (exc
 calls_more exchanges exchange =
     flat_map-append call_in exchanges (exchange ∷ []) ∙ ap (λ l. calls_of exchanges ++ l) (append-nil (call_in exchange))
 
-text_more : (exchanges : List Exchange) (exchange : Exchange) → replies_text (exchanges ++ exchange ∷ []) ≡ replies_text exchanges ++ exchange_text exchange
+pub text_more : (exchanges : List Exchange) (exchange : Exchange) → replies_text (exchanges ++ exchange ∷ []) ≡ replies_text exchanges ++ exchange_text exchange
 text_more exchanges exchange =
     flat_map-append exchange_text exchanges (exchange ∷ []) ∙ ap (λ l. replies_text exchanges ++ l) (append-nil (exchange_text exchange))
 
@@ -88,7 +90,7 @@ here : (P : List CallerRow → ℕ → Type 0) (this now : Tables) (ordinal : �
 here P this now ordinal exchanges same count p =
     subst (λ n. P this.callers n) (at_place ordinal exchanges count) (subst (λ rows. P rows ordinal) same p)
 
-more_count : (exchanges : List Exchange) (exchange : Exchange) → length (exchanges ++ exchange ∷ []) ≡ 1 + length exchanges
+pub more_count : (exchanges : List Exchange) (exchange : Exchange) → length (exchanges ++ exchange ∷ []) ≡ 1 + length exchanges
 more_count exchanges exchange = let e = length-append exchanges (exchange ∷ []) in omega arith
 
 run_more : (First Then Whole : Tables → List CallBy → Tables → Type 0) → Join First Then Whole → (this now next : Tables) (exchanges : List Exchange) (exchange : Exchange)
@@ -262,14 +264,15 @@ module _ (First Then Whole : Tables → List CallBy → Tables → Type 0) (join
       without First Then Whole join once this ordinal rest left old mid new bytes so (Ok (record { requests = count })) clean is.1 (refl, is.0) tt (inl refl, omega arith)
       (written_none First Then Whole join once this ordinal rest left old mid new bytes so is.2)
 
-  pub served_last : Serves Then so.now ordinal held rest mid new (Ok step.Ends) so.following
+  pub served_last : (note : Note) → Serves Then so.now ordinal held rest mid new (Ok (step.Ends note)) so.following
       → IsServed Whole this rest old new (Ok (record { requests = ordinal })) bytes
-  served_last is =
+  served_last note is =
       let at = so.count in
-      let e = more_count so.exchanges is.exchange in
-      with_one First Then Whole join once this ordinal rest left old mid new bytes so (Ok (record { requests = ordinal })) closed is.exchange (λ following. tt) is.has
-      (connection_last First Then Whole join once this ordinal rest left old mid new bytes so is.exchange is.asked) (inr refl, omega arith)
-      (written_more First Then Whole join once this ordinal rest left old mid new bytes so is.exchange is.written)
+      let done = is.0 in
+      let e = more_count so.exchanges done.exchange in
+      with_one First Then Whole join once this ordinal rest left old mid new bytes so (Ok (record { requests = ordinal })) closed done.exchange (λ following. tt) done.has
+      (connection_last First Then Whole join once this ordinal rest left old mid new bytes so done.exchange done.asked) (inr refl, omega arith)
+      (written_more First Then Whole join once this ordinal rest left old mid new bytes so done.exchange done.written)
 
 -- nothing is served
 pub nothing_served : (Runs : Tables → List CallBy → Tables → Type 0) → ActOnce Runs → (this : Tables) (left kept : Option (List ℕ)) (bytes : List ℕ) → Runs this [] this → left ≡ Some bytes
@@ -288,17 +291,10 @@ nothing_served Runs once this left kept bytes run is_left = record {
   };
 }
 
-pub each_is : {A : Type 0} (P : A → Type 0) (o : Option A) → ((a : A) → o ≡ Some a → P a) → IfSome o P
-each_is P None h = tt
-each_is P (Some a) h = h a refl
-
-pub some_at : {A : Type 0} (P : A → Type 0) (o : Option A) (a : A) → o ≡ Some a → IfSome o P → P a
-some_at P o a e h = (subst (λ x. IfSome x P) e h)
-
 -- before the first request
 pub nothing_yet : (Runs : Tables → List CallBy → Tables → Type 0) (this : Tables) (held left old : Option (List ℕ)) → Runs this [] this → held ≡ left
     → IfSome left (IsSoFar Runs this 1 held old old)
-nothing_yet Runs this held left old run are = each_is _ left (λ bytes is_left. record {
+nothing_yet Runs this held left old run are = if_some _ left (λ bytes is_left. record {
   exchanges = [];
   now = this;
   run = run;
@@ -360,10 +356,10 @@ asked_test false rows ordinal bytes parts body following answer next e =
 
 -- a whole request whose reply wasn't written whole
 pub whole_cut : (Runs : Tables → List CallBy → Tables → Type 0) (this : Tables) (ordinal : ℕ) (bytes : List ℕ) (parts : Parts) (body following : List ℕ) (ends : Bool) (old new : Option (List ℕ))
-    (answer : Result (Unit {0}) ConnFault) (fault : ConnFault) → IsNext bytes (whole parts body following) → ends ≡ (parts.closes || nat_le most_requests ordinal)
-    → answer ≡ Err fault → IsExchanged Runs this (what_of this.callers parts body) (has_token parts) (is_bare parts) ends old new answer
+    (IsSo : Exchange → Note → Type 0) (answer : Result Note ConnFault) (fault : ConnFault) → IsNext bytes (whole parts body following) → ends ≡ (parts.closes || nat_le most_requests ordinal)
+    → answer ≡ Err fault → IsExchanged Runs this (what_of this.callers parts body) (has_token parts) (is_bare parts) ends IsSo old new answer
     → (fault ≡ Write) × Exchanged Runs this (IsAsked this.callers ordinal bytes) (AppendsFront old new)
-whole_cut Runs this ordinal bytes parts body following ends old new answer fault next e is done =
+whole_cut Runs this ordinal bytes parts body following ends old new IsSo answer fault next e is done =
     let failed : fault ≡ Write = subst IsFailedWrite is done.failed in (
       failed,
       record {

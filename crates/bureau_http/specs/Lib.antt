@@ -2,6 +2,7 @@ pub mod Asked
 pub mod ConnFault
 pub mod Connection
 pub mod Exchange
+pub mod Noted
 pub mod Told
 pub mod Served
 pub mod Isolated

@@ -1,8 +1,9 @@
 -- What serving a connection does: the bureau's calls, and the bytes that are written. What a run is here is for the
 -- contracts to say: one of the tables alone, or one in which what is told as accepted is kept.
-use Rattle.std.specs.Prelude.{◌≡◌, ◌⊎◌, ℕ, ◌+◌, Bool, List, [], ◌∷◌, ◌++◌, length, map, take, Option, Some, Result, Ok, Err}
+use Rattle.std.specs.Prelude.{◌≡◌, ◌⊎◌, ℕ, ◌+◌, Bool, List, [], ◌∷◌, ◌++◌, length, map, take, Option, Some, IfOk, Result, Ok, Err}
 use Rattle.std.specs.Io.KnownBytes.{Appends, prepend_known}
 use Rattle.std.specs.List.{AllByRecursion}
+use Rattle.log_lines.specs.declared.note.Note.{Note}
 use Rattle.transfer.specs.Transfer.{AppendsFront}
 use Rattle.requests.specs.NextRequest.{IsNext, IsUnfinished, clean_end, end_inside}
 use Rattle.bureau_store.specs.Tables.{Tables}
@@ -13,6 +14,7 @@ use Rattle.bureau.specs.Repeat.{ActsOnce, StaysStale}
 use Rattle.bureau_http.specs.Asked.{Asked, What}
 use Rattle.bureau_http.specs.Connection.{IsConnection, IsLast, IsRequest, ReadsTo, Stop, clean, inside, closed, cut}
 use Rattle.bureau_http.specs.Exchange.{Exchange, IsAnswered, call_in, calls_of, exchange_text, replies_text}
+use Rattle.bureau_http.specs.Noted.{IsNoted}
 use Rattle.bureau_http.specs.declared.fault.ConnFault.{ConnFault}
 use Rattle.bureau_http.specs.declared.fault.ConnFault.TheVariants.{Read, Write, EndInside, Memory}
 use Rattle.bureau_http.specs.declared.serving.Served.{Served}
@@ -119,23 +121,34 @@ pub record Exchanged (Runs : Tables → List CallBy → Tables → Type 0) (this
   pub has : HasExchanged Runs this exchange
   pub written : Writes (exchange_text exchange)
 
+-- the same, with what is noted of the request that stands next in these bytes
+abbrev pub ExchangedAs : (Tables → List CallBy → Tables → Type 0) → Tables → (Asked → Type 0) → (List ℕ → Type 0) → List ℕ → Note → Type 0
+ExchangedAs Runs this IsNow Writes bytes note = (done : Exchanged Runs this IsNow Writes) × IsNoted this.callers bytes done.exchange note
+
 -- What serving the next request does: the bytes that were held and left to read began so, what the desk was asked is a run,
 -- and the reply was written.
 abbrev pub Serves : (Tables → List CallBy → Tables → Type 0) → Tables → ℕ → List ℕ → Option (List ℕ) → Option (List ℕ) → Option (List ℕ) → Result Step ConnFault → List ℕ → Type 0
 Serves Runs this ordinal held left old new (Ok step.CleanEnd) bytes = IsNext bytes clean_end × Runs this [] this × Appends old new []
-Serves Runs this ordinal held left old new (Ok step.Stays) bytes =
-    (following : List ℕ) × (prepend_known held left ≡ Some following) × Exchanged Runs this (λ asked. IsRequest this.callers ordinal bytes asked following) (Appends old new)
-Serves Runs this ordinal held left old new (Ok step.Ends) bytes = Exchanged Runs this (IsLast this.callers ordinal bytes) (Appends old new)
+Serves Runs this ordinal held left old new (Ok (step.Stays note)) bytes =
+    (following : List ℕ) × (prepend_known held left ≡ Some following)
+    × ExchangedAs Runs this (λ asked. IsRequest this.callers ordinal bytes asked following) (Appends old new) bytes note
+Serves Runs this ordinal held left old new (Ok (step.Ends note)) bytes = ExchangedAs Runs this (IsLast this.callers ordinal bytes) (Appends old new) bytes note
 Serves Runs this ordinal held left old new (Err Read) bytes = Runs this [] this × Appends old new [] × IsUnfinishedOf held left bytes
 Serves Runs this ordinal held left old new (Err Write) bytes = Exchanged Runs this (IsAsked this.callers ordinal bytes) (AppendsFront old new)
 Serves Runs this ordinal held left old new (Err EndInside) bytes = IsNext bytes end_inside × Runs this [] this × Appends old new []
 Serves Runs this ordinal held left old new (Err Memory) bytes = Runs this [] this × Appends old new [] × IsUnfinishedOf held left bytes
 
+-- the connection goes on after it
+abbrev pub Stays : Step → Type 0
+Stays step.CleanEnd = ⊥
+Stays (step.Stays note) = Unit {0}
+Stays (step.Ends note) = ⊥
+
 -- what holds where the input ended before a request stood whole
 abbrev pub IfEnded : Result Step ConnFault → Type 0 → Type 0
 IfEnded (Ok step.CleanEnd) Fact = Fact
-IfEnded (Ok step.Stays) Fact = Unit {0}
-IfEnded (Ok step.Ends) Fact = Unit {0}
+IfEnded (Ok (step.Stays note)) Fact = Unit {0}
+IfEnded (Ok (step.Ends note)) Fact = Unit {0}
 IfEnded (Err Read) Fact = Unit {0}
 IfEnded (Err Write) Fact = Unit {0}
 IfEnded (Err EndInside) Fact = Fact
@@ -151,10 +164,11 @@ abbrev pub IsFailedWrite : {A : Type 0} → Result A ConnFault → Type 0
 IsFailedWrite (Ok a) = Unit {0}
 IsFailedWrite (Err fault) = fault ≡ Write
 
-pub record IsExchanged (Runs : Tables → List CallBy → Tables → Type 0) (this : Tables) (what : What) (has_token is_bare closes : Bool) (old new : Option (List ℕ)) (answer : Result (Unit {0}) ConnFault) : Type 0 where
+pub record IsExchanged (Runs : Tables → List CallBy → Tables → Type 0) (this : Tables) (what : What) (has_token is_bare closes : Bool) (IsSo : Exchange → Note → Type 0) (old new : Option (List ℕ)) (answer : Result Note ConnFault) : Type 0 where
   pub told : Answer
   pub has : HasExchanged Runs this (asked_as what has_token is_bare closes told)
   pub failed : IsFailedWrite answer
+  pub noted : IfOk answer (IsSo (asked_as what has_token is_bare closes told))
   pub written : IsWritten answer old new (exchange_text (asked_as what has_token is_bare closes told))
 
 -- the requests that were served so far, none of which ends the connection

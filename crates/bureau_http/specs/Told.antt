@@ -1,7 +1,10 @@
 -- No part of what is promised: private contracts cite it. What a request is told, between what the bureau answers and what is written.
 use Rattle.std.specs.Prelude.{◌≡◌, ℕ, Bool, true, List, length, Option, None, Ok, Err}
+use Rattle.log_lines.specs.Words.{word_of}
+use Rattle.log_lines.specs.declared.note.Note.{Note}
 use Rattle.requests.specs.Refusal.{allow_of_refusal}
 use Rattle.requests.specs.Reply.{reply_text}
+use Rattle.requests.specs.Status.{code_of}
 use Rattle.requests.specs.declared.reply.ReplyHead.{ReplyHead}
 use Rattle.requests.specs.declared.resource.Resource.{Resource}
 use Rattle.bureau_store.specs.Tables.{Tables}
@@ -37,6 +40,13 @@ head_told told closes = record {
 -- the bytes of the reply
 unfoldable pub told_text : Told → Bool → Bool → List ℕ
 told_text told is_bare closes = reply_text (head_told told closes) is_bare (body_told (answer_told told))
+
+-- a note of this method, this path, and the reply
+pub record IsToldAs (verb place : List ℕ) (told : Told) (is_bare closes : Bool) (note : Note) : Type 0 where
+  pub method : note.method ≡ word_of verb
+  pub path : note.path ≡ word_of place
+  pub status : note.status ≡ code_of (status_numbered (answer_told told).status)
+  pub went : note.went ≡ length (told_text told is_bare closes)
 
 -- what is told is right for what was asked, and the tables are those after it
 abbrev pub IsTold : Tables → What → Bool → Told → Tables → Type 0

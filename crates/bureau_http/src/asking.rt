@@ -4,6 +4,7 @@ ghost use Rattle.bureau.specs.Calls.{call_as};
 ghost use Rattle.bureau_http.specs.Asked as Spec;
 ghost use Rattle.bureau_http.specs.Asked.{has_token, what_of};
 ghost use Rattle.bureau_http.specs.Exchange.{call_from};
+ghost use Rattle.bureau_http.specs.Noted.{IsKnown};
 ghost use Rattle.bureau_http.specs.Told.{IsOfLookUp, IsTold, answer_told};
 ghost use Rattle.bureau.specs.Kept.{IsKeptRun};
 ghost use Rattle.catalogue.specs.View.{Goes, IsOpen, Tells};
@@ -14,9 +15,10 @@ ghost use Rattle.requests.specs.Request.{number_of};
 use crate::desk::Desk;
 use crate::reply::Told;
 use bureau::Call;
+use bureau_store::Caller;
 use requests::{Action, Refusal, Request, Routes};
 
-/// Asks the desk what a whole request asks, and answers what it is told.
+/// Asks the desk what a whole request asks, and answers what it is told, and whose token it has.
 ///
 /// First the caller counts, then the path, the method, and the ids in the path; then the call goes to the desk.
 pub(crate) fn answer_to<D: Desk>(
@@ -24,35 +26,36 @@ pub(crate) fn answer_to<D: Desk>(
     routes: &Routes,
     request: &Request,
     bytes: &[u8],
-) -> Told
+) -> (Told, Option<Caller>)
     requires { IsAt bytes.now request.now }
     ensures goes { Goes D.tables_view desk.old desk.new }
-    ensures closed { has_token (parts_in bytes.now request.now) ≡ true → IsOfLookUp result →
+    ensures closed { has_token (parts_in bytes.now request.now) ≡ true → IsOfLookUp result.0 →
         IsOpen D.tables_view desk.new }
     ensures told { Tells D.tables_view desk.old desk.new (λ this.
         (next : Tables)
         × IsTold this (what_of this.callers (parts_in bytes.now request.now) (body_in bytes.now request.now))
-        (has_token (parts_in bytes.now request.now)) result next
+        (has_token (parts_in bytes.now request.now)) result.0 next
         × IsKeptRun D.tables_view desk.old desk.new this
         (call_from (what_of this.callers (parts_in bytes.now request.now) (body_in bytes.now request.now))
-        (answer_told result)) next) }
+        (answer_told result.0)) next
+        × IsKnown this.callers (parts_in bytes.now request.now) (answer_told result.0) result.1) }
 {
     let Some(token) = request.token(bytes) else {
-        return Told::Refused(Refusal::UnknownToken);
+        return (Told::Refused(Refusal::UnknownToken), None);
     };
     let action = request.action(bytes, routes);
     let Ok(found) = desk.caller_of(token) else {
-        return Told::NoRoom;
+        return (Told::NoRoom, None);
     };
     let Some(caller) = found else {
-        return Told::Refused(Refusal::UnknownToken);
+        return (Told::Refused(Refusal::UnknownToken), None);
     };
     match action {
         Ok(action) => {
             let call = call_of(action, request, bytes);
-            Told::Answered(desk.answer(&caller, &call))
+            (Told::Answered(desk.answer(&caller, &call)), Some(caller))
         }
-        Err(refusal) => Told::Refused(refusal),
+        Err(refusal) => (Told::Refused(refusal), Some(caller)),
     }
 }
 

@@ -1,4 +1,4 @@
-//! What answers calls.
+//! A desk: who has a token, and what is answered to a call. The bureau over any store and judge is one.
 ghost use Rattle.std.specs.Prelude.{◌≡◌, IfOk, IfSome};
 ghost use Rattle.catalogue.specs.View.{IsLawful, Tells, View};
 ghost use Rattle.bureau.specs.Answering.{IsAnswered};

@@ -2,7 +2,7 @@
 //!
 //! - [`Desk`]: what answers calls
 //! - [`serve_one`]: one connection, to its end; [`Served`], [`ConnFault`]
-//! - [`serve_next`]: the next request of a connection; [`Step`], [`Retries`]
+//! - [`serve_next`]: the next request of a connection; [`Step`], with what the log notes of it; [`Retries`]
 //! - [`serve_list`]: connections in memory, one after the other; [`RunFault`]
 //! - [`replay`]: the same over a store in memory that begins with the callers of a file
 //! - [`one_connection`]: a law: a connection's bytes are requests and a stop in one way only
@@ -29,6 +29,7 @@ mod desk;
 mod fault;
 mod law;
 mod list;
+mod noting;
 mod replaying;
 mod reply;
 mod serving;

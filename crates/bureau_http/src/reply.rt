@@ -3,6 +3,7 @@ ghost use Rattle.std.specs.Prelude.{◌≡◌, ◌++◌, ◌+◌, ◌≤◌, [],
 ghost use Rattle.std.specs.Io.KnownBytes.{Appends};
 ghost use Rattle.arrayvec.specs.ArrayVec.{array_vec_len};
 ghost use Rattle.transfer.specs.Transfer.{AppendsFront};
+ghost use Rattle.requests.specs.Status.{code_of};
 ghost use Rattle.bureau_http.specs.Exchange.{body_told, status_numbered};
 ghost use Rattle.bureau_http.specs.Told.{answer_told, head_told, told_text};
 ghost use Rattle.bureau_http.specs.declared.fault.ConnFault.TheVariants.{Write as NotWritten};
@@ -75,6 +76,20 @@ impl Told {
         ensures { result.now ≡ (if is_bare then [] else body_told (answer_told self.now)) }
     {
         if is_bare { b"" } else { self.body() }
+    }
+
+    // The number of the status.
+    pub(crate) fn status(&self, closes: bool) -> u16
+        ensures { result ≡ code_of (status_numbered (answer_told self.now).status) }
+    {
+        self.head(closes).status.code().as_u16()
+    }
+
+    // How many bytes the reply has.
+    pub(crate) fn len(&self, is_bare: bool, closes: bool) -> usize
+        ensures { result ≡ length (told_text self.now is_bare closes) }
+    {
+        head_text(&self.head(closes)).len() + self.body_for(is_bare).len()
     }
 
     /// Writes the reply.

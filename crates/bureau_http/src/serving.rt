@@ -2,18 +2,21 @@
 ghost use Rattle.std.specs.Prelude.{◌≡◌, ◌<◌, ◌||◌, ℕ, List, nat_le, IfOk, IfSome};
 ghost use Rattle.std.specs.Io.KnownBytes.{Consumes, Keeps, prepend_known};
 ghost use Rattle.bureau_http.specs.Asked.{has_token, most_requests, what_of};
-ghost use Rattle.bureau_http.specs.Served.{HasRun, IfEnded, IsExchanged, IsServed, Serves};
+ghost use Rattle.bureau_http.specs.Noted.{IsNotedOf};
+ghost use Rattle.bureau_http.specs.Served.{HasRun, IfEnded, IsExchanged, IsServed, Serves, Stays};
 ghost use Rattle.bureau.specs.Kept.{IsKeptRun};
 ghost use Rattle.bureau.specs.Runs.{IsLawfulRun};
 ghost use Rattle.catalogue.specs.View.{Goes, Tells};
 ghost use Rattle.requests.specs.Order.{is_bare};
-ghost use Rattle.requests.specs.NextRequest.{IsAt, body_in, closes, parts_in};
+ghost use Rattle.requests.specs.NextRequest.{IsAt, body_in, closes, parts_in, request_len};
 
 use crate::asking::answer_to;
 use crate::desk::Desk;
 use crate::fault::ConnFault;
+use crate::noting::{note_of, note_refused};
 use crate::reply::Told;
 use bureau::repeats;
+use log_lines::Note;
 use requests::{NextRequest, Request, Routes, read_next};
 use std::alloc::Global;
 use std::io::{Read, Write};
@@ -30,14 +33,14 @@ pub struct Served {
 }
 
 /// What came next in a connection.
-#[derive(Clone, Copy, Debug, PartialEq, Eq)]
+#[derive(Drop)]
 pub enum Step {
     /// The end of its input.
     CleanEnd,
-    /// A request, whose reply doesn't end the connection.
-    Stays,
-    /// A request, whose reply ends the connection.
-    Ends,
+    /// A request, whose reply doesn't end the connection, and what is noted of it.
+    Stays(Note),
+    /// A request, whose reply ends the connection, and what is noted of it.
+    Ends(Note),
 }
 
 /// How many interrupted reads and writes are made again.
@@ -116,22 +119,24 @@ pub(crate) fn serve_connection<D: Desk, R: Read, W: Write>(
                     requests: ordinal - 1,
                 });
             }
-            Step::Stays => ordinal += 1,
-            Step::Ends => return Ok(Served { requests: ordinal }),
+            Step::Stays(_) => ordinal += 1,
+            Step::Ends(_) => return Ok(Served { requests: ordinal }),
         }
     }
 }
 
-/// Serves what stands next in a connection: reads its request at this ordinal, counted from 1, answers it, and writes the
-/// reply. Bytes that came further stay in the intake, for the next one.
+/// Serves what stands next in a connection: reads its request at this ordinal, counted from 1, answers it, and
+/// writes the reply. Bytes that came further stay in the intake, for the next one.
 ///
-/// It reads no byte where a whole request is at hand. Where the input ends before, the bytes that came stay in the intake. In any
-/// case the bytes that are left, in the intake and in the reader, are the last of those that were there.
+/// It reads no byte where a whole request is at hand. Where the input ends before, the bytes that came stay in the
+/// intake. In any case the bytes that are left, in the intake and in the reader, are the last of those that were
+/// there.
 ///
 /// # Errors
 ///
-/// [`ConnFault::Read`], [`ConnFault::EndInside`] and [`ConnFault::Memory`] where no request stands whole; the desk is asked
-/// nothing then. [`ConnFault::Write`] where the request was answered, and a front part of the reply written.
+/// [`ConnFault::Read`], [`ConnFault::EndInside`] and [`ConnFault::Memory`] where no request stands whole; the desk
+/// is asked nothing then. [`ConnFault::Write`] where the request was answered, and a front part of the reply
+/// written.
 pub fn serve_next<D: Desk, R: Read, W: Write>(
     desk: &mut D,
     routes: &Routes,
@@ -144,7 +149,7 @@ pub fn serve_next<D: Desk, R: Read, W: Write>(
     ensures goes { Goes D.tables_view desk.old desk.new }
     ensures ran { Tells D.tables_view desk.old desk.new (λ this.
         HasRun (IsKeptRun D.tables_view desk.old desk.new) this) }
-    ensures within { IfOk result (λ step. step ≡ Step.Stays → ordinal < 10000) }
+    ensures within { IfOk result (λ step. Stays step → ordinal < 10000) }
     ensures next { Tells D.tables_view desk.old desk.new (λ this.
         IfSome (prepend_known intake.old (R.remaining reader.old))
         (Serves (IsKeptRun D.tables_view desk.old desk.new) this ordinal intake.new
@@ -161,11 +166,11 @@ pub fn serve_next<D: Desk, R: Read, W: Write>(
         NextRequest::Refused(refused) => {
             let told = Told::Refused(refused.refusal);
             told.write(writer, refused.is_bare, true, &mut retries.writes)?;
-            Ok(Step::Ends)
+            Ok(Step::Ends(note_refused(&told, intake.len(), refused.is_bare)))
         }
         NextRequest::Whole(request) => {
             let closes = ends_after(&request, ordinal);
-            serve_request(
+            let note = serve_request(
                 desk,
                 routes,
                 &request,
@@ -175,7 +180,11 @@ pub fn serve_next<D: Desk, R: Read, W: Write>(
                 &mut retries.writes,
             )?;
             request.take_off(intake);
-            Ok(if closes { Step::Ends } else { Step::Stays })
+            if closes {
+                Ok(Step::Ends(note))
+            } else {
+                Ok(Step::Stays(note))
+            }
         }
     }
 }
@@ -187,7 +196,7 @@ fn ends_after(request: &Request, ordinal: u64) -> bool
     request.closes() || ordinal >= MOST_REQUESTS
 }
 
-// Answers a whole request, and writes the reply.
+// Answers a whole request, and writes the reply. What is noted of it.
 fn serve_request<D: Desk, W: Write>(
     desk: &mut D,
     routes: &Routes,
@@ -196,15 +205,17 @@ fn serve_request<D: Desk, W: Write>(
     closes: bool,
     writer: &mut W,
     retries: &mut u32,
-) -> Result<(), ConnFault>
+) -> Result<Note, ConnFault>
     requires { IsAt bytes.now request.now }
     ensures goes { Goes D.tables_view desk.old desk.new }
     ensures exchanged { Tells D.tables_view desk.old desk.new (λ this.
         IsExchanged (IsKeptRun D.tables_view desk.old desk.new) this
         (what_of this.callers (parts_in bytes.now request.now) (body_in bytes.now request.now))
         (has_token (parts_in bytes.now request.now)) (is_bare (parts_in bytes.now request.now)) closes
+        (IsNotedOf this.callers (parts_in bytes.now request.now) (request_len request.now))
         (W.contents writer.old) (W.contents writer.new) result) }
 {
-    let told = answer_to(desk, routes, request, bytes);
-    told.write(writer, request.is_bare(bytes), closes, retries)
+    let (told, caller) = answer_to(desk, routes, request, bytes);
+    told.write(writer, request.is_bare(bytes), closes, retries)?;
+    Ok(note_of(&told, caller, request, bytes, closes))
 }

@@ -1,6 +1,7 @@
 //! What the system gives a run: words, files, connections to a port, random keys and clocks.
 ghost use Rattle.std.specs.Prelude.{◌≡◌, ◌≢◌, ◌⊎◌};
 
+use crate::log_writer::LogWriter;
 use bureau_program::Surroundings;
 use bureau_store::StoreFault;
 use command_line::LineFault;
@@ -21,13 +22,20 @@ use store_runs::{Ended, Stores};
 #[derive(Drop)]
 pub(crate) struct System<'a> {
     rt: &'a HostRuntime,
+    // Standard error, for a log. None where it is closed.
+    log: Option<LogWriter>,
     // Those of the port that is listened on.
-    sockets: Option<SocketRounds<'a, HostRuntime>>,
+    sockets: Option<SocketRounds<'a, HostRuntime, LogWriter>>,
 }
 
 impl<'a> System<'a> {
+    // To be made before any file is opened: where standard error is closed, the first one gets its descriptor.
     pub(crate) fn new(rt: &'a HostRuntime) -> System<'a> {
-        System { rt, sockets: None }
+        System {
+            rt,
+            log: LogWriter::of_stderr(rt),
+            sockets: None,
+        }
     }
 }
 
@@ -113,7 +121,7 @@ impl Surroundings for System<'_> {
 
     ghost known_words = { λ _. None };
 
-    ghost known_port = { λ _ _ _. Unit {0} };
+    ghost known_port = { λ _ _ _ _. Unit {0} };
 
     fn words(&self, alloc: Global) -> Result<Vec<String>, LineFault> {
         match env::args(self.rt) {
@@ -126,10 +134,11 @@ impl Surroundings for System<'_> {
         }
     }
 
-    fn listen(&mut self, alloc: Global, port: u16, most_open: u32) -> io::Result<()> {
+    fn listen(&mut self, alloc: Global, port: u16, most_open: u32, log: bool) -> io::Result<()> {
         let address = SocketAddr::from((Ipv4Addr::LOCALHOST, port));
         let (rt, slots) = (self.rt, most_open as usize);
-        match SocketRounds::new(rt, alloc, rt, address, slots, Patience::usual()) {
+        let log = if log { self.log.take() } else { None };
+        match SocketRounds::new(rt, alloc, rt, address, slots, Patience::usual(), log) {
             Ok(sockets) => {
                 self.sockets = Some(sockets);
                 Ok(())
@@ -162,7 +171,8 @@ fn names_a_file(name: &str) -> bool {
     name != ":memory:" && !name.starts_with("file:")
 }
 
-// Makes an empty file that its owner alone may read and write, whatever the umask is. The log of a store is made as its file is.
+// Makes an empty file that its owner alone may read and write, whatever the umask is. The log of a store is made as
+// its file is.
 fn make_private(rt: &HostRuntime, name: &str) -> io::Result<()> {
     let file = OpenOptions::new()
         .write(true)

@@ -1,12 +1,11 @@
 -- The calls of any number of runs, and the callers that were set between them, are one course.
-use Rattle.std.proofs.Common.{◌≡◌, ◌∙◌, ℕ, arith, false, List, None, Option, Some, [], ◌∷◌, ◌++◌, ap, append-nil, inl, inr, refl, subst, sym}
+use Rattle.std.proofs.Common.{◌≡◌, ◌∙◌, ℕ, false, List, None, Option, Some, [], ◌∷◌, ◌++◌, ap, append-nil, inl, inr, refl, subst, sym}
 use Rattle.std.proofs.Math.Logic.{∥∥₁_elim, ∥∥₁_map}
 use Rattle.std.specs.Prelude.{if◌then◌else◌}
 use Rattle.faults.specs.declared.any.AnyFault.{AnyFault}
 use Rattle.bureau_store.specs.SetCallers.{with_callers}
 use Rattle.bureau_store.specs.Tables.{AreInOrder, Tables, opened}
 use Rattle.bureau_store.specs.declared.caller.Caller.{Caller}
-use Rattle.bureau_store.specs.declared.caller.Caller.TheVariants.{Publisher, Client}
 use Rattle.bureau_store.specs.declared.caller.CallerRow.{CallerRow}
 use Rattle.bureau.specs.Course.{Callers, IsAloneWhereItStays, IsCourse, Stage}
 use Rattle.bureau.specs.Call.{Call}
@@ -14,6 +13,9 @@ use Rattle.bureau.specs.Joint.{CallBy, IsRun, IsStep, tables_left}
 use Rattle.bureau.specs.Kept.{IsToldOfNoTables, IsWithOneRefused, TellNothing}
 use Rattle.bureau.specs.Outcome.{Answer, Outcome, accepted, answer_of, answered, forbidden, may_ask, no_room, outcome, outcome_allowed}
 use Rattle.bureau.specs.View.{view_of}
+use Rattle.bureau.proofs.AgreesFacts.{view_caller}
+use Rattle.bureau.proofs.KeptFacts.{not_503}
+use Rattle.bureau.proofs.RepeatFacts.{split_run, run_join}
 use Rattle.connections.specs.Rounds.{Log}
 use Rattle.bureau_sql.specs.Files.{HoldTables, HoldsStore}
 use Rattle.sqlite_disk.specs.declared.Disk as disk
@@ -43,29 +45,9 @@ join_courses : (a b c : Tables) (xs ys : List Stage) → IsCourse a xs b → IsC
 join_courses a b c [] ys first second = subst (λ at. IsCourse at ys c) first second
 join_courses a b c (x ∷ xs) ys first second = (first.0, first.1, join_courses first.0 b c xs ys first.2 second)
 
--- two runs, one after the other
-join : (a b c : Tables) (xs ys : List CallBy) → IsRun a xs b → IsRun b ys c → IsRun a (xs ++ ys) c
-join a b c [] ys first second = subst (λ at. IsRun at ys c) first second
-join a b c (x ∷ xs) ys first second = (first.0, first.1, join first.0 b c xs ys first.2 second)
-
--- a run in two parts
-split : (before rest : List CallBy) (old new : Tables) → IsRun old (before ++ rest) new → (at : Tables) × IsRun old before at × IsRun at rest new
-split [] rest old new run = (old, refl, run)
-split (x ∷ before) rest old new run =
-    let later = split before rest run.0 new run.2 in
-    (later.0, (run.0, run.1, later.1), later.2)
-
--- who may not ask is told so, whatever the tables are
-caller_seen : (caller : Caller) (this : Tables) → (view_of caller this).caller ≡ caller
-caller_seen Publisher this = refl
-caller_seen (Client name) this = refl
-
 not_asked : (caller : Caller) (call : Call) (this : Tables) → may_ask caller call ≡ false → outcome (view_of caller this) call ≡ answered forbidden
 not_asked caller call this refused =
-    ap (λ may. if may then outcome_allowed (view_of caller this) call else answered forbidden) (ap (λ who. may_ask who call) (caller_seen caller this) ∙ refused)
-
-not_503 : ◌≡◌ {A = ℕ} 200 503 → ⊥
-not_503 same = omega (arith, same)
+    ap (λ may. if may then outcome_allowed (view_of caller this) call else answered forbidden) (ap (λ who. may_ask who call) (view_caller caller this) ∙ refused)
 
 -- what tells nothing from the tables changes none, and would over other tables be told the same
 silent_step : (call_by : CallBy) (old new : Tables) → IsToldOfNoTables call_by → IsStep old call_by new → new ≡ old
@@ -118,13 +100,13 @@ found_made closing (call_by ∷ calls) next (inr later) =
 -- with it the calls are a run to the tables that are found
 made_run : (opening closing next : Tables) (calls made : List CallBy) → IsRun opening calls closing → HasMade closing calls next made → IsRun opening made next
 made_run opening closing next calls made run has =
-    let parts = split has.before (has.call_by ∷ has.after) opening closing (subst (λ (l : List CallBy). IsRun opening l closing) has.were run) in
+    let parts = split_run has.before (has.call_by ∷ has.after) opening closing (subst (λ (l : List CallBy). IsRun opening l closing) has.were run) in
     let rest = parts.2 in
     let later = silent_run has.after rest.0 closing next has.silent rest.2 in
     let stays : closing ≡ parts.0 = later.0 ∙ silent_step has.call_by parts.0 rest.0 (inl has.was_refused) rest.1 in
     let first : IsRun opening has.before closing = subst (IsRun opening has.before) (sym stays) parts.1 in
     let second : IsRun closing (as_made has.call_by closing ∷ has.after) next = (next, inr (refl, has.next_is), later.1) in
-    subst (λ (l : List CallBy). IsRun opening l next) (sym has.are) (join opening closing next has.before (as_made has.call_by closing ∷ has.after) first second)
+    subst (λ (l : List CallBy). IsRun opening l next) (sym has.are) (run_join opening closing next has.before (as_made has.call_by closing ∷ has.after) first second)
 
 as_found : (run : Run) (next : Tables) → IsRun run.before run.calls run.closing → MayStand run next
     → (found : List Stage) × AreFoundAs run next found × IsCourse run.before found next

@@ -1,5 +1,5 @@
 -- What a run does: from the words of a command line to what it reads, what both streams get, and the exit status.
-use Rattle.std.specs.Prelude.{◌≡◌, ◌≢◌, ◌⊎◌, ℕ, [], List, map, Option, Result, Ok, Err, IfSome, string_bytes}
+use Rattle.std.specs.Prelude.{◌≡◌, ◌≢◌, ◌⊎◌, ℕ, Bool, [], List, map, Option, Result, Ok, Err, IfSome, string_bytes}
 use Rattle.std.specs.Io.KnownBytes.{Keeps}
 use Rattle.clap.specs.Words.{fault_of}
 use Rattle.sqlite_disk.specs.declared.Disk as disk
@@ -41,17 +41,17 @@ IsReplay files callers names outputs status =
     IsServed files callers names outputs status ⊎ IsEndedBy NotRead outputs status ⊎ IsEndedBy Memory outputs status
 
 -- What a run may find: files by their names, what the two files of a store of a name may hold, the ports that it asks for, each with
--- how many connections may be open at once, what ended its rounds, and the rounds before it and by its end.
+-- how many connections may be open at once and whether a log is kept, what ended its rounds, and the rounds before it and by its end.
 pub record Found : Type 1 where
   pub files : List ℕ → KnownFile
   pub stores : List ℕ → Image → Type 0
-  pub ports : ℕ → ℕ → Type 0
+  pub ports : ℕ → ℕ → Bool → Type 0
   pub over : RoundFault → Type 0
   pub log : Log
   pub log_after : Log
 
 -- the same, by what is known of the surroundings
-abbrev pub found_in : (List ℕ → KnownFile) → (List ℕ → Image → Type 0) → (ℕ → ℕ → Type 0) → (RoundFault → Type 0) → Log → Log → Found
+abbrev pub found_in : (List ℕ → KnownFile) → (List ℕ → Image → Type 0) → (ℕ → ℕ → Bool → Type 0) → (RoundFault → Type 0) → Log → Log → Found
 found_in files stores ports over log log_after =
     record { files = files; stores = stores; ports = ports; over = over; log = log; log_after = log_after }
 
@@ -60,7 +60,7 @@ abbrev pub NobodyCame : Found → Type 0
 NobodyCame found = found.log_after ≡ found.log
 
 module _ (found : Found) (from : Image) {D : Type 0} {g : disk.Ghosts D} where
-  -- `serve --port P --cache N --connections K --open M STORE`
+  -- `serve --port P --cache N --connections K --open M --log STORE`
   pub record IsServe (service : Service) (name : List ℕ) (outputs : Outputs) (status : ℕ) (ended : Ended D g) : Type 0 where
     pub named : found.stores name from
     pub served : IsServeRun (file_ends (session_of service found.ports found.over found.log found.log_after) from ended) service.port
@@ -77,8 +77,8 @@ module _ (found : Found) (from : Image) {D : Type 0} {g : disk.Ghosts D} where
       Keeps input rest × IsReplay found.files (string_bytes callers) (map string_bytes names.items) outputs status × NobodyCame found × IsNothing ended
   IsAnswered (Ok (line.Init store callers)) input rest outputs status ended =
       Keeps input rest × NobodyCame found × IsInit found.files found.stores from (string_bytes store) (string_bytes callers) outputs status ended
-  IsAnswered (Ok (line.Serve port cache connections most_open store)) input rest outputs status ended =
-      Keeps input rest × IsServe (record { port = port; cache = cache; connections = connections; most_open = most_open }) (string_bytes store) outputs status ended
+  IsAnswered (Ok (line.Serve port cache connections most_open log store)) input rest outputs status ended =
+      Keeps input rest × IsServe (record { port = port; cache = cache; connections = connections; most_open = most_open; log = log }) (string_bytes store) outputs status ended
   IsAnswered (Ok (line.Migrate store)) input rest outputs status ended =
       Keeps input rest × NobodyCame found × IsMigrate found.stores from (string_bytes store) outputs status ended
   IsAnswered (Ok (line.ErrSysmods files)) input rest outputs status ended =

@@ -1,5 +1,5 @@
 -- What `serve` does with a store, what it prints, and why it ends.
-use Rattle.std.specs.Prelude.{◌≡◌, ◌≤◌, ◌⊎◌, ◌++◌, ℕ, List, codes, decimal, false, replicate, Option, Some, None}
+use Rattle.std.specs.Prelude.{◌≡◌, ◌≤◌, ◌⊎◌, ◌++◌, ℕ, Bool, List, codes, decimal, false, replicate, Option, Some, None}
 use Rattle.std.specs.Io.KnownBytes.{Appends, Keeps}
 use Rattle.faults.specs.declared.any.AnyFault.{AnyFault}
 use Rattle.transfer.specs.Transfer.{AppendsFront}
@@ -103,12 +103,12 @@ abbrev pub free_in : Session → Slots
 free_in session = replicate session.most_open None
 
 -- that of a service, of the ports that were asked for, of what ended the rounds, and of their logs
-abbrev pub session_of : Service → (ℕ → ℕ → Type 0) → (RoundFault → Type 0) → Log → Log → Session
+abbrev pub session_of : Service → (ℕ → ℕ → Bool → Type 0) → (RoundFault → Type 0) → Log → Log → Session
 session_of service Listens Over log log_after = record {
   room = service.cache;
   most_open = service.most_open;
   connections = service.connections;
-  Listens = Listens service.port service.most_open;
+  Listens = Listens service.port service.most_open service.log;
   Over = Over;
   log = log;
   log_after = log_after;

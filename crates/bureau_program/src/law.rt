@@ -16,15 +16,16 @@ ghost use Rattle.bureau_program.specs.Served.{KeepsServed};
 use sqlite::{FileFrom, Start};
 use store_runs::Ended;
 
-/// Once `init` has made a store, any number of runs of the program may come one after the other, and each may stop at any
-/// moment. The next one finds the store in the files again, with the tables after all that was acknowledged, and perhaps
-/// after the change that was on its way at each stop. The calls of all runs, and the callers that were set between them,
-/// are together one course of the bureau. Each caller who stays is answered as if alone.
+/// Once `init` has made a store, any number of runs of the program may come one after the other, and each may stop
+/// at any moment. The next one finds the store in the files again, with the tables after all that was acknowledged,
+/// and perhaps after the change that was on its way at each stop. The calls of all runs, and the callers that were
+/// set between them, are together one course of the bureau. Each caller who stays is answered as if alone.
 ///
-/// A stop in `serve` leaves the tables after all that was acknowledged, and where the device failed, perhaps those with the
-/// one change that was on its way; one in `callers` leaves the tables before it or after it. So, over all runs, each reply to
-/// a caller who stays, other than 503, is that of a bureau which got the publisher's and that caller's own calls before it,
-/// and perhaps the one on its way at each stop. That each run of the program is such a run, [`what_a_run_keeps`] says.
+/// A stop in `serve` leaves the tables after all that was acknowledged, and where the device failed, perhaps those
+/// with the one change that was on its way; one in `callers` leaves the tables before it or after it. So, over all
+/// runs, each reply to a caller who stays, other than 503, is that of a bureau which got the publisher's and that
+/// caller's own calls before it, and perhaps the one on its way at each stop. That each run of the program is such
+/// a run, [`what_a_run_keeps`] says.
 pub fn any_number_of_runs()
     ensures made { (source : List ℕ) (image : Image) → HoldCallers source image
         → (runs : List FileRun) (last : Image) → AreRunsOver image runs last
@@ -34,9 +35,10 @@ pub fn any_number_of_runs()
         → HoldAfter opening runs last }
 {}
 
-/// Each run of the program is one of those runs, by what its own contract says that it keeps ([`crate::run`]: `KeepsServed` of
-/// `serve`; `KeepsCallers` of a `callers` that was given callers; `KeepsTables` of any other that opened the files of the
-/// store). `ended` stands for what is left of the files. One that opened none keeps the tables too.
+/// Each run of the program is one of those runs, by what its own contract says that it keeps ([`crate::run`]:
+/// `KeepsServed` of `serve`; `KeepsCallers` of a `callers` that was given callers; `KeepsTables` of any other that
+/// opened the files of the store). `ended` stands for what is left of the files. One that opened none keeps the
+/// tables too.
 pub fn what_a_run_keeps<D: Start>(ended: &Ended<FileFrom<D>>)
     ensures serves { (from : Image) (log log_after : Log) (outcome : Option AnyFault)
         → KeepsServed from log log_after outcome ended.now → EndsWell from ended.now

@@ -1,7 +1,7 @@
 //! The program of the bureau, over any surroundings: what a command line asks for, from bytes to bytes.
 //!
-//! The runs over files and over a store that serves nobody stand in crates below (`report_runs`, `store_runs`). Here are
-//! those that serve, and the run that chooses.
+//! The runs over files and over a store that serves nobody stand in crates below (`report_runs`, `store_runs`).
+//! Here are those that serve, and the run that chooses.
 //!
 //! - [`run`]: a whole run, by the words of its command line
 //! - [`run_replay`]: what a desk in memory writes to connections that stand in files

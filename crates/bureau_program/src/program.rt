@@ -20,10 +20,10 @@ use transfer::RETRIES;
 
 /// Does what the words of the command line ask for, and returns the exit status, and what is left of a store's files.
 ///
-/// Standard input is read where `-` stands for a FILE of `holds` or of a report, and nowhere else. Every other FILE is
-/// opened by its name.
-/// What is made of it goes to standard output, and a fault's line to standard error. Connections come where the line asks
-/// for `serve`, and nowhere else. `start` stands for what the files of STORE hold as the run begins.
+/// Standard input is read where `-` stands for a FILE of `holds` or of a report, and nowhere else. Every other FILE
+/// is opened by its name. What is made of it goes to standard output, and a fault's line to standard error.
+/// Connections come where the line asks for `serve`, and nowhere else. `start` stands for what the files of STORE
+/// hold as the run begins.
 pub fn run<S: Surroundings, D: Start, I: Read, O: Write, E: Write>(
     surroundings: &mut S,
     alloc: Global,
@@ -93,6 +93,7 @@ fn answer<S: Surroundings, D: Start, I: Read, O: Write, E: Write>(
                 cache,
                 connections,
                 most_open,
+                log,
                 store,
             },
         ) => {
@@ -101,6 +102,7 @@ fn answer<S: Surroundings, D: Start, I: Read, O: Write, E: Write>(
                 cache,
                 connections,
                 most_open,
+                log,
             };
             let store = store.as_str();
             run_serve(surroundings, alloc, service, store, start, output, errors)

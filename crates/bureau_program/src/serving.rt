@@ -36,6 +36,8 @@ pub struct Service {
     pub connections: u32,
     /// How many of them are open at once at most.
     pub most_open: u32,
+    /// Whether a log is kept.
+    pub log: bool,
 }
 
 /// What a desk has beside its store, before anybody comes.
@@ -52,9 +54,10 @@ pub struct Prepared {
 /// Serves the desk whose store a file has, side by side to so many connections to a port of 127.0.0.1. Prints where it
 /// listens, once it does. Returns the exit status, and what is left of the files.
 ///
-/// A fault is told on `errors` alone. Behind the line there are three: a device that failed, after which nothing more is
-/// served; a system that tells no more of connections; and want of memory for the desk itself. Whatever a stop leaves of the files
-/// from then on, the next opening finds the store in it, with the tables after the calls of the connections that came.
+/// A fault is told on `errors` alone. Behind the line there are three: a device that failed, after which nothing
+/// more is served; a system that tells no more of connections; and want of memory for the desk itself. Whatever a
+/// stop leaves of the files from then on, the next opening finds the store in it, with the tables after the calls
+/// of the connections that came.
 pub fn run_serve<S: Surroundings, D: Start, W: Write, E: Write>(
     surroundings: &mut S,
     alloc: Global,
@@ -159,7 +162,7 @@ fn announce<S: Surroundings, W: Write>(
     ensures within { IfOk result (λ prepared. IsWithin prepared.connections) }
     ensures line { OnOk result (Appends (W.contents writer.old) (W.contents writer.new)
         (listening_text service.port)) }
-    ensures port { OnOk result (S.known_port surroundings.old service.port service.most_open) }
+    ensures port { OnOk result (S.known_port surroundings.old service.port service.most_open service.log) }
     ensures none { S.log surroundings.new ≡ S.log surroundings.old }
     ensures fault { IfErr result (λ fault. IsUnheard fault service.port
         (W.contents writer.old) (W.contents writer.new)) }
@@ -180,7 +183,7 @@ fn listen_and_tell<S: Surroundings, W: Write>(
 ) -> Result<(), AnyFault>
     ensures line { OnOk result (Appends (W.contents writer.old) (W.contents writer.new)
         (listening_text service.port)) }
-    ensures port { OnOk result (S.known_port surroundings.old service.port service.most_open) }
+    ensures port { OnOk result (S.known_port surroundings.old service.port service.most_open service.log) }
     ensures none { S.log surroundings.new ≡ S.log surroundings.old }
     ensures fault { IfErr result (λ fault. IsUnheard fault service.port
         (W.contents writer.old) (W.contents writer.new)) }
@@ -265,11 +268,11 @@ fn listen<S: Surroundings>(
     alloc: Global,
     service: Service,
 ) -> Result<(), AnyFault>
-    ensures port { S.known_port surroundings.old service.port service.most_open }
+    ensures port { S.known_port surroundings.old service.port service.most_open service.log }
     ensures none { S.log surroundings.new ≡ S.log surroundings.old }
     ensures fault { IfErr result IsNotListening }
 {
-    match surroundings.listen(alloc, service.port, service.most_open) {
+    match surroundings.listen(alloc, service.port, service.most_open, service.log) {
         Ok(()) => Ok(()),
         Err(error) if error.kind() == ErrorKind::OutOfMemory => {
             Err(AnyFault::from(ProgramFault::Memory))
@@ -278,13 +281,13 @@ fn listen<S: Surroundings>(
     }
 }
 
-/// Serves so many connections to a desk over a store, side by side, with a cache that all callers share. Gives the store
-/// back.
+/// Serves so many connections to a desk over a store, side by side, with a cache that all callers share. Gives the
+/// store back.
 ///
 /// # Errors
 ///
-/// [`Halt::Device`] once the store's device has failed: then nothing more is looked at. [`Halt::Rounds`] where there are no more
-/// rounds.
+/// [`Halt::Device`] once the store's device has failed: then nothing more is looked at. [`Halt::Rounds`] where
+/// there are no more rounds.
 pub fn serve_in_rounds<S: Store, R: Rounds>(
     alloc: Global,
     store: S,

@@ -1,6 +1,6 @@
-//! What surrounds a run: the words of its command line, files by their names, ports and the connections to them, and random
-//! keys.
-ghost use Rattle.std.specs.Prelude.{◌≡◌, ℕ, List, Option, None, map, string_bytes, IfOk, IfErr, IfSome};
+//! What surrounds a run: the words of its command line, files by their names, ports and the connections to them,
+//! and random keys.
+ghost use Rattle.std.specs.Prelude.{◌≡◌, ℕ, Bool, List, Option, None, map, string_bytes, IfOk, IfErr, IfSome};
 ghost use Rattle.faults.specs.Refusal.{IsRefusal};
 
 use command_line::LineFault;
@@ -12,15 +12,16 @@ use store_runs::Stores;
 
 /// The words of a command line, the files that they may name, and the connections that come to a port.
 ///
-/// Those of a system tell nothing of what they have. Others, as lists of words, of files and of events of connections, can tell
-/// all of it. So what is proved of every `Surroundings` says which words and which files a run reads, and which connections
-/// it serves. No connection comes before a port is listened on.
+/// Those of a system tell nothing of what they have. Others, as lists of words, of files and of events of
+/// connections, can tell all of it. So what is proved of every `Surroundings` says which words and which files a
+/// run reads, and which connections it serves. No connection comes before a port is listened on.
 pub trait Surroundings: Stores + Rounds {
     /// The words after the program's name, where they are known.
     ghost known_words: { Self → Option (List (List ℕ)) };
 
-    /// That this port was asked for, for so many connections at once. A body gives it from `listen` alone.
-    ghost known_port: { Self → ℕ → ℕ → Type 0 };
+    /// That this port was asked for, for so many connections at once, with a log or without. A body gives it from
+    /// `listen` alone.
+    ghost known_port: { Self → ℕ → ℕ → Bool → Type 0 };
 
     /// The words after the program's name.
     ///
@@ -32,14 +33,15 @@ pub trait Surroundings: Stores + Rounds {
             (λ known. map string_bytes words.items ≡ known)) }
         ensures fault { IfErr result (IsRefusal LineFault.Memory (λ _. known_words self.now ≡ None)) };
 
-    /// Listens on a port of 127.0.0.1. From then on the connections are those that come to it, so many of them at once at
-    /// most.
+    /// Listens on a port of 127.0.0.1. From then on the connections are those that come to it, so many of them at
+    /// once at most. Where a log is to be kept, standard error gets a line for each of their requests, and for each
+    /// of them that failed.
     ///
     /// # Errors
     ///
     /// The port is in use, or may not be listened on; or memory ran out.
-    fn listen(&mut self, alloc: Global, port: u16, most_open: u32) -> io::Result<()>
-        ensures named { known_port self.old port most_open }
+    fn listen(&mut self, alloc: Global, port: u16, most_open: u32, log: bool) -> io::Result<()>
+        ensures named { known_port self.old port most_open log }
         ensures none { Self.log self.new ≡ Self.log self.old };
 
     /// Random keys for a hasher, which no client can know.

@@ -1,8 +1,9 @@
 -- What the words of a command line ask for, as clap defines the matches of a command.
-use Rattle.std.specs.Prelude.{◌≡◌, ◌≤◌, ℕ, pos, true, List, [], ◌∷◌, codes, map, Option, Some, None, Ok, option_map, string_bytes}
+use Rattle.std.specs.Prelude.{◌≡◌, ◌≤◌, ℕ, pos, Bool, true, false, if◌then◌else◌, List, [], ◌∷◌, codes, map, Option, Some, None, Ok, option_map, string_bytes}
+use Rattle.std.specs.Str.{bytes_eq}
 use Rattle.std.specs.Str.Parse.{ParsesUnsigned}
 use Rattle.clap.specs.Words.{App, Row, Rule, Text, all_of, first_of, new_app, new_rule, one_of, subcommand_of, with_rule, with_subcommand}
-use Rattle.clap.specs.declared.builder.ArgAction.TheVariants.{Append, Set}
+use Rattle.clap.specs.declared.builder.ArgAction.TheVariants.{Append, Set, SetTrue}
 use Rattle.clap.specs.declared.builder.value_parser.ValueParser.TheVariants.{Signed}
 use Rattle.command_line.specs.declared.line.Line.{Line}
 use Rattle.run_parts.specs.declared.report_files.ReportFiles.{ReportFiles}
@@ -55,10 +56,14 @@ open_rule = number_rule (codes "open") 1 8192 (codes "1024")
 abbrev pub init_app : App
 init_app = with_rule (with_rule (new_app (codes "init")) (required_rule (codes "store"))) (required_rule (codes "callers"))
 
--- `serve --port P --cache N --connections K --open M STORE`
+-- `--log`: whether a log is kept
+abbrev pub log_rule : Rule
+log_rule = record (new_rule (codes "log")) { long = Some (codes "log"); action = Some SetTrue }
+
+-- `serve --port P --cache N --connections K --open M --log STORE`
 abbrev pub serve_app : App
 serve_app =
-    with_rule (with_rule (with_rule (with_rule (with_rule (new_app (codes "serve")) port_rule) cache_rule) connections_rule) open_rule)
+    with_rule (with_rule (with_rule (with_rule (with_rule (with_rule (new_app (codes "serve")) port_rule) cache_rule) connections_rule) open_rule) log_rule)
     (required_rule (codes "store"))
 
 -- `replay --cache N CALLERS FILE..`
@@ -148,11 +153,16 @@ IsManyConnections = IsNumberIn 1 1000000
 abbrev pub IsManyOpen : Option Text → ℕ → Type 0
 IsManyOpen = IsNumberIn 1 8192
 
+-- a flag is set
+abbrev pub is_set : Option Text → Bool
+is_set None = false
+is_set (Some text) = bytes_eq text (codes "true")
+
 -- the command that a line has
 abbrev pub command_of : Line → Text
 command_of (Holds file) = codes "holds"
 command_of (Init store callers) = codes "init"
-command_of (Serve port cache connections most_open store) = codes "serve"
+command_of (Serve port cache connections most_open log store) = codes "serve"
 command_of (Replay cache callers files) = codes "replay"
 command_of (Migrate store) = codes "migrate"
 command_of (ErrSysmods files) = codes "errsysmods"
@@ -175,11 +185,12 @@ abbrev pub HasValues : List Row → Line → Type 0
 HasValues rows (Holds file) = first_of (codes "file") rows ≡ Some (string_bytes file)
 HasValues rows (Init store callers) =
     (first_of (codes "store") rows ≡ Some (string_bytes store)) × (first_of (codes "callers") rows ≡ Some (string_bytes callers))
-HasValues rows (Serve port cache connections most_open store) =
+HasValues rows (Serve port cache connections most_open log store) =
     IsPort (one_of (codes "port") rows) port
     × IsCapacity (one_of (codes "cache") rows) cache
     × IsManyConnections (one_of (codes "connections") rows) connections
     × IsManyOpen (one_of (codes "open") rows) most_open
+    × (log ≡ is_set (first_of (codes "log") rows))
     × (first_of (codes "store") rows ≡ Some (string_bytes store))
 HasValues rows (Replay cache callers files) =
     IsCapacity (one_of (codes "cache") rows) cache
@@ -214,12 +225,16 @@ abbrev pub options_said : ReportFiles → List (Option Text)
 options_said files =
     option_map string_bytes files.categories ∷ option_map string_bytes files.received ∷ option_map string_bytes files.name ∷ []
 
+-- what a flag says
+abbrev pub flag_said : Bool → Option Text
+flag_said flag = if flag then Some (codes "true") else None
+
 -- what a line says: its command, its numbers, its texts, and what may be left out
 abbrev pub said : Line → Text × List ℕ × List Text × List (Option Text)
 said (Holds file) = (codes "holds", [], string_bytes file ∷ [], [])
 said (Init store callers) = (codes "init", [], string_bytes store ∷ string_bytes callers ∷ [], [])
-said (Serve port cache connections most_open store) =
-    (codes "serve", port ∷ cache ∷ connections ∷ most_open ∷ [], string_bytes store ∷ [], [])
+said (Serve port cache connections most_open log store) =
+    (codes "serve", port ∷ cache ∷ connections ∷ most_open ∷ [], string_bytes store ∷ [], flag_said log ∷ [])
 said (Replay cache callers files) = (codes "replay", cache ∷ [], string_bytes callers ∷ map string_bytes files.items, [])
 said (Migrate store) = (codes "migrate", [], string_bytes store ∷ [], [])
 said (ErrSysmods files) = (codes "errsysmods", [], texts_said files, options_said files)

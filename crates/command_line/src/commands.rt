@@ -2,7 +2,7 @@
 ghost use Rattle.std.specs.Prelude.{◌≡◌, false, codes, IfOk};
 ghost use Rattle.clap.specs.Words.{app_of, rule_of};
 ghost use Rattle.clap.specs.declared.builder.command.Command.TheViews.{out-Command as fields_of};
-ghost use Rattle.command_line.specs.Line.{bureau_app, cache_rule, callers_app, categories_rule, chain_app, check_app, commands_named, connections_rule, err_sysmods_app, holds_app, init_app, migrate_app, missing_fix_app, name_rule, open_rule, port_rule, received_rule, replay_app, required_rule, serve_app, several_rule, zone_rule};
+ghost use Rattle.command_line.specs.Line.{bureau_app, cache_rule, callers_app, categories_rule, chain_app, check_app, commands_named, connections_rule, err_sysmods_app, holds_app, init_app, log_rule, migrate_app, missing_fix_app, name_rule, open_rule, port_rule, received_rule, replay_app, required_rule, serve_app, several_rule, zone_rule};
 
 use crate::help::{STATUSES_AND_FAULTS, VERSION};
 use clap::{Arg, ArgAction, Command};
@@ -69,7 +69,7 @@ fn init_command<'a>(alloc: Global) -> Result<Command<'a>, NoMemory>
         .arg(callers)
 }
 
-// `serve --port P --cache N --connections K --open M STORE`
+// `serve --port P --cache N --connections K --open M --log STORE`
 fn serve_command<'a>(alloc: Global) -> Result<Command<'a>, NoMemory>
     ensures app { IfOk result (λ command. app_of command ≡ serve_app) }
     ensures local { IfOk result (λ command. (fields_of command).has_globals ≡ false) }
@@ -81,6 +81,7 @@ fn serve_command<'a>(alloc: Global) -> Result<Command<'a>, NoMemory>
         .arg(cache_option(alloc))?
         .arg(connections_option(alloc))?
         .arg(open_option(alloc))?
+        .arg(log_option(alloc))?
         .arg(store)
 }
 
@@ -337,4 +338,15 @@ fn open_option<'a>(alloc: Global) -> Arg<'a>
         .value_name("M")
         .default_value("1024")
         .help("How many connections are open at once at most, 1 to 8192")
+}
+
+// `--log`
+fn log_option<'a>(alloc: Global) -> Arg<'a>
+    ensures rule { rule_of result ≡ log_rule }
+    ensures local { result.global ≡ false }
+{
+    Arg::new(alloc, "log")
+        .long("log")
+        .action(ArgAction::SetTrue)
+        .help("Writes a line to standard error for each request and each connection that failed")
 }

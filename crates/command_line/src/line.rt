@@ -2,7 +2,7 @@
 ghost use Rattle.std.specs.Prelude.{◌≡◌, ◌≢◌, ℕ, false, [], codes, map, option_map, string_bytes, IfOk, IfErr, IfSome, IsNone, OnOk};
 ghost use Rattle.clap.specs.Words.{fault_of, first_of, found_of, kind_of, one_of, rows_of, subcommand_rows_of};
 ghost use Rattle.faults.specs.Refusal.{IsRefusal};
-ghost use Rattle.command_line.specs.Line.{bureau_app, HasFiles, HasOneLine, IsFound, IsLineIn, IsLineOf, IsLineWith, IsNumberIn, IsPort};
+ghost use Rattle.command_line.specs.Line.{bureau_app, HasFiles, HasOneLine, IsFound, IsLineIn, IsLineOf, IsLineWith, IsNumberIn, IsPort, is_set};
 ghost use Rattle.command_line.specs.declared.line.Line.{Line};
 ghost use Rattle.command_line.specs.declared.line.LineFault.TheVariants.{Memory};
 
@@ -25,14 +25,15 @@ pub enum Line {
         store: String,
         callers: String,
     },
-    /// `serve --port P --cache N --connections K --open M STORE`: K connections to a port of 127.0.0.1, 1 to 65,535, are
+    /// `serve --port P --cache N --connections K --open M --log STORE`: K connections to a port of 127.0.0.1, 1 to 65,535, are
     /// served side by side over the store in a file. N frames at most are kept, 1 to 65,536, K is 1 to 1,000,000, and M of
-    /// them at most are open at once, 1 to 8,192.
+    /// them at most are open at once, 1 to 8,192. A log is kept where `--log` is given.
     Serve {
         port: u16,
         cache: u32,
         connections: u32,
         most_open: u32,
+        log: bool,
         store: String,
     },
     /// `replay --cache N CALLERS FILE..`: what is written to connections whose bytes stand in files, over a store in
@@ -176,6 +177,7 @@ fn serve_with(alloc: Global, matches: &ArgMatches) -> Result<Option<Line>, NoMem
     let Some(most_open) = number_with(matches, "open", 1, 8192) else {
         return Ok(None);
     };
+    let log = flag_with(matches, "log");
     let Some(store) = matches.get_str("store") else {
         return Ok(None);
     };
@@ -185,6 +187,7 @@ fn serve_with(alloc: Global, matches: &ArgMatches) -> Result<Option<Line>, NoMem
         cache,
         connections,
         most_open,
+        log,
         store,
     }))
 }
@@ -302,6 +305,16 @@ fn text_with(alloc: Global, matches: &ArgMatches, name: &str) -> Result<Option<S
     match matches.get_str(name) {
         Some(text) => Ok(Some(String::from_str(alloc, text)?)),
         None => Ok(None),
+    }
+}
+
+// Whether a flag is set.
+fn flag_with(matches: &ArgMatches, name: &str) -> bool
+    ensures { result ≡ is_set (first_of name.now (rows_of (found_of matches.now))) }
+{
+    match matches.get_str(name) {
+        Some(text) => text == "true",
+        None => false,
     }
 }
 

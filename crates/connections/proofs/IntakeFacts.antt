@@ -21,12 +21,12 @@ whole_in old new text (Some rest) kept count =
 
 -- they are held now
 pub grown : {E : Type 0} (r : Result (Unit {0}) E) (old : Connection) (text held : List ℕ) → old.phase ≡ Open → OnOk r (held ≡ old.held ++ text)
-    → OnOk r (Grows text old (record { held = held; out = old.out; ordinal = old.ordinal; phase = old.phase }))
+    → OnOk r (Grows text old (record { held = held; out = old.out; note = old.note; ordinal = old.ordinal; phase = old.phase }))
 grown (Err e) old text held at is = is
 grown (Ok a) old text held at is = (
   at,
-  ap (λ l. record { held = l; out = old.out; ordinal = old.ordinal; phase = old.phase }) is
-      ∙ ap (λ p. record { held = old.held ++ text; out = old.out; ordinal = old.ordinal; phase = p }) at,
+  ap (λ l. record { held = l; out = old.out; note = old.note; ordinal = old.ordinal; phase = old.phase }) is
+      ∙ ap (λ p. record { held = old.held ++ text; out = old.out; note = old.note; ordinal = old.ordinal; phase = p }) at,
 )
 
 -- what was seen of bytes was seen of them with more after them

@@ -4,6 +4,7 @@ mod DeviceFacts
 mod OwnFacts
 mod MemoryFacts
 mod SettledFacts
+mod TurnFacts
 pub mod SideFacts
 pub mod RoundFacts
 pub mod CallFacts

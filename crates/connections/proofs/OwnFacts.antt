@@ -1,18 +1,21 @@
 -- What one connection had.
-use Rattle.std.proofs.Common.{◌≡◌, ◌≢◌, ◌⊎◌, inl, inr, ℕ, ◌+◌, ◌||◌, Bool, true, false, List, [], ◌∷◌, ◌++◌, length, map, Some, None, slice_get, refl, sym, ap, ◌∙◌, subst, arith, append_assoc, append-nil, length-append}
+use Rattle.std.proofs.Common.{◌≡◌, ◌≢◌, ◌⊎◌, inl, inr, ℕ, ◌+◌, ◌||◌, Bool, true, false, List, [], ◌∷◌, ◌++◌, length, map, Some, None, slice_get, refl, sym, ap, ◌∙◌, subst, arith, append_assoc, append-nil}
 use Rattle.std.proofs.lemmas.Bool.Decides.{eqb_tells}
 use Rattle.std.specs.List.{AllByRecursion}
+use Rattle.std.proofs.Math.Bool.{or-false}
+use Rattle.log_lines.specs.declared.note.Note.{Note}
 use Rattle.requests.specs.NextRequest.{IsUnfinished}
 use Rattle.bureau_store.specs.declared.caller.CallerRow.{CallerRow}
 use Rattle.bureau_http.specs.Asked.{Asked}
 use Rattle.bureau_http.specs.Connection.{IsConnection, IsLast, IsRequest, ReadsTo, clean, inside, closed, cut}
 use Rattle.bureau_http.specs.Exchange.{Exchange, IsAnswered, exchange_text, replies_text}
-use Rattle.connections.specs.Items.{Answers, Asks, Event, Grows, Happens, IsDone, IsEnded, IsStarved, Item, Leaves, Loses, Moves, Slots, Puts, Sends, Step, Steps, came, bytes, wrote, ended, failed, late, fresh, happens, went, stray, missed, answered, lost, starved, finished}
+use Rattle.bureau_http.proofs.ServingFacts.{all_on, reads_on, text_more, more_count}
+use Rattle.connections.specs.Items.{Answers, Asks, Event, Grows, Happens, IsDone, IsEnded, IsStarved, Item, Leaves, Loses, Moves, Slots, PutsWith, Sends, Step, Steps, came, bytes, wrote, ended, failed, late, fresh, happens, went, stray, missed, answered, lost, starved, finished}
 use Rattle.connections.specs.Own.{EachIsServed, IsServedAlone, Stays, StaysBy, asked_in, ended_well, exchanges_at, got, got_in, is_finish, sent, sent_in}
 use Rattle.connections.specs.declared.connection.Connection.{Connection}
 use Rattle.connections.specs.declared.connection.Phase.TheVariants.{Open, Ended, Last}
 use Rattle.connections.proofs.SlotFacts.{get_other, get_same, left_here, moved_here, none_left, none_moved, other_left, other_moved}
-use Rattle.connections.proofs.ReadingFacts.{Later, all_on, asked_more, asked_of, at_slot, reads_later, reads_on, text_more}
+use Rattle.connections.proofs.ReadingFacts.{Later, asked_more, asked_of, at_slot, reads_later}
 
 -- ---- what a connection that is there had so far
 
@@ -139,9 +142,6 @@ put_out : (exchanges : List Exchange) (exchange : Exchange) (written out : List 
 put_out exchanges exchange written out has none =
     ap (λ l. l ++ exchange_text exchange) (all_out exchanges written out has none) ∙ sym (text_more exchanges exchange)
 
-more_count : (exchanges : List Exchange) (exchange : Exchange) → length (exchanges ++ exchange ∷ []) ≡ 1 + length exchanges
-more_count exchanges exchange = let e = length-append exchanges (exchange ∷ []) in omega arith
-
 next_ordinal : (exchanges : List Exchange) (exchange : Exchange) (ordinal : ℕ) → ordinal ≡ 1 + length exchanges
     → ordinal + 1 ≡ 1 + length (exchanges ++ exchange ∷ [])
 next_ordinal exchanges exchange ordinal e = let more = more_count exchanges exchange in omega arith
@@ -151,17 +151,17 @@ answered_more : (exchanges : List Exchange) (exchange : Exchange) → AllByRecur
 answered_more exchanges exchange all one = all_on IsAnswered exchanges (exchange ∷ []) all (one, tt)
 
 -- it was answered, and its reply was put
-put_by : (rows : List CallerRow) (text : List ℕ) (exchanges : List Exchange) (exchange : Exchange) (written : List ℕ) (old new : Connection)
-    → IsGoing rows text exchanges written old → old.out ≡ [] → IsAnswered exchange → Puts rows exchange old new
+put_by : (rows : List CallerRow) (text : List ℕ) (exchanges : List Exchange) (exchange : Exchange) (written : List ℕ) (old new : Connection) (note : Note)
+    → IsGoing rows text exchanges written old → old.out ≡ [] → IsAnswered exchange → PutsWith note rows exchange old new
     → IsThere rows text (exchanges ++ exchange ∷ []) written new
-put_by rows text exchanges exchange written old new goes none answer (inl stays) = subst (IsThere rows text (exchanges ++ exchange ∷ []) written) (sym stays.2) (inl (record {
+put_by rows text exchanges exchange written old new note goes none answer (inl stays) = subst (IsThere rows text (exchanges ++ exchange ∷ []) written) (sym stays.2) (inl (record {
   goes = goes.goes;
   reads = reads_more rows text exchanges exchange old.ordinal old.held stays.0 goes.ordinal goes.reads stays.1;
   ordinal = next_ordinal exchanges exchange old.ordinal goes.ordinal;
   answered = answered_more exchanges exchange goes.answered answer;
   out = put_out exchanges exchange written old.out goes.out none;
 }))
-put_by rows text exchanges exchange written old new goes none answer (inr ends) = subst (IsThere rows text (exchanges ++ exchange ∷ []) written) (sym ends.1) (inr (record {
+put_by rows text exchanges exchange written old new note goes none answer (inr ends) = subst (IsThere rows text (exchanges ++ exchange ∷ []) written) (sym ends.1) (inr (record {
   last = refl;
   connection = closed_by rows text exchanges exchange old.ordinal old.held goes.ordinal goes.reads ends.0;
   answered = answered_more exchanges exchange goes.answered answer;
@@ -170,7 +170,7 @@ put_by rows text exchanges exchange written old new goes none answer (inr ends) 
 
 answered_by : (rows : List CallerRow) (text : List ℕ) (exchanges : List Exchange) (exchange : Exchange) (written : List ℕ) (old new : Connection)
     → IsThere rows text exchanges written old → Answers rows exchange old new → IsThere rows text (exchanges ++ exchange ∷ []) written new
-answered_by rows text exchanges exchange written old new (inl goes) h = put_by rows text exchanges exchange written old new goes h.0.0 h.1 h.2
+answered_by rows text exchanges exchange written old new (inl goes) h = put_by rows text exchanges exchange written old new h.2.0 goes h.0.0 h.1 h.2.2
 answered_by rows text exchanges exchange written old new (inr last) h = absurd (h.0.1 last.last)
 
 more_front : (exchanges : List Exchange) (exchange : Exchange) (written : List ℕ) → (rest : List ℕ) × (replies_text exchanges ≡ written ++ rest)
@@ -323,10 +323,6 @@ nothing_more slot item items e f g h none = record {
   not_well = ap (λ b. b || ended_well slot items) h ∙ none.not_well;
 }
 
-or_false : (b : Bool) → (b || false) ≡ b
-or_false true = refl
-or_false false = refl
-
 -- with this item it left, so
 gone_by : (rows : List CallerRow) (slot : ℕ) (text : List ℕ) (exchanges all : List Exchange) (written : List ℕ) (well : Bool) (item : Item) (items : List Item)
     → got_in slot item ≡ [] → all ≡ exchanges ++ asked_in slot item → sent_in slot item ≡ [] → is_finish slot item ≡ well
@@ -336,7 +332,7 @@ gone_by rows slot text exchanges all written well item items e f g h is none =
     (sym (append-nil text) ∙ ap (λ l. text ++ l) (sym (ap (λ l. l ++ got slot items) e ∙ none.got_none)))
     (f ∙ ap (λ l. exchanges ++ l) (sym (append-nil (asked_in slot item)) ∙ ap (λ l. asked_in slot item ++ l) (sym none.asked_none)))
     (sym (append-nil written) ∙ ap (λ l. written ++ l) (sym (ap (λ l. l ++ sent slot items) g ∙ none.sent_none)))
-    (sym (ap (λ b. b || ended_well slot items) h ∙ ap (λ b. well || b) none.not_well ∙ or_false well)) is
+    (sym (ap (λ b. b || ended_well slot items) h ∙ ap (λ b. well || b) none.not_well ∙ or-false well)) is
 
 -- what follows, where the connection is there, and where it isn't
 abbrev On : List CallerRow → ℕ → List Item → Slots → Type 0

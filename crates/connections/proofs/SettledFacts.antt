@@ -2,12 +2,13 @@
 use Rattle.std.proofs.Common.{◌≡◌, ◌≢◌, inl, inr, ℕ, zero, suc, ◌<◌, true, List, [], ◌++◌, codes, drop, length, Option, Some, None, slice_get, slice_set, refl, sym, ap, ◌∙◌, subst, arith, length-append}
 use Rattle.std.proofs.Math.ListN.{replicate}
 use Rattle.std.proofs.lemmas.Bool.Decides.{eqb_tells}
+use Rattle.log_lines.specs.declared.note.Note.{Note}
 use Rattle.requests.specs.NextRequest.{IsUnfinished}
 use Rattle.bureau_store.specs.Tables.{Tables}
 use Rattle.bureau_store.specs.declared.caller.CallerRow.{CallerRow}
 use Rattle.bureau.specs.Joint.{CallBy}
 use Rattle.bureau_http.specs.Exchange.{Exchange, exchange_text}
-use Rattle.connections.specs.Items.{Event, IsReady, Leaves, Slots, Puts, came, bytes, wrote, ended, failed, late, fresh, slot_of}
+use Rattle.connections.specs.Items.{Event, IsReady, Leaves, Slots, PutsWith, came, bytes, wrote, ended, failed, late, fresh, slot_of}
 use Rattle.connections.specs.Turns.{AreSettled, AreSettledBut, IsSettled, Misses, Occurs, Turns, rest_of, stays}
 use Rattle.connections.specs.declared.connection.Connection.{Connection}
 use Rattle.connections.specs.declared.connection.Phase.{Phase}
@@ -27,9 +28,9 @@ text_there : (exchange : Exchange) → 0 < length (exchange_text exchange)
 unfolding exchange_text
 text_there exchange = protocol_there (drop 9 (exchange_text exchange))
 
-put_settled : (rows : List CallerRow) (exchange : Exchange) (old new : Connection) → Puts rows exchange old new → IsSettled new
-put_settled rows exchange old new (inl stays) = subst IsSettled (sym stays.2) (inl (text_there exchange))
-put_settled rows exchange old new (inr ends) = subst IsSettled (sym ends.1) (inl (text_there exchange))
+put_settled : (note : Note) (rows : List CallerRow) (exchange : Exchange) (old new : Connection) → PutsWith note rows exchange old new → IsSettled new
+put_settled note rows exchange old new (inl stays) = subst IsSettled (sym stays.2) (inl (text_there exchange))
+put_settled note rows exchange old new (inr ends) = subst IsSettled (sym ends.1) (inl (text_there exchange))
 
 -- ---- what else stands in the slots
 
@@ -111,7 +112,7 @@ module _ (slot : ℕ) (a b : Connection) (t u : Slots) (at : slice_get t slot �
 pub stays_settled : (Runs : Tables → List CallBy → Tables → Type 0) (this : Tables) (a b : Connection) (turn : Turn) → stays turn ≡ true → Turns Runs this turn a b
     → IsSettled b
 stays_settled Runs this a b Waits e h = h.2
-stays_settled Runs this a b Answered e h = put_settled this.callers h.0 a b h.2.2
+stays_settled Runs this a b Answered e h = put_settled h.2.2.0 this.callers h.0 a b h.2.2.2
 stays_settled Runs this a b Lost e h = absurd (cc)
 stays_settled Runs this a b Starved e h = absurd (cc)
 stays_settled Runs this a b Finished e h = absurd (cc)

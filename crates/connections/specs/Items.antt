@@ -1,18 +1,20 @@
 -- What happens to connections that stand beside one desk, each in its slot: one item after the other.
 use Rattle.std.specs.Prelude.{◌≡◌, ◌≢◌, ◌⊎◌, ℕ, ◌+◌, ◌≤◌, List, [], ◌∷◌, ◌++◌, length, sum_by, Option, Some, None, slice_get, slice_set}
 use Rattle.std.specs.List.{flat_map}
+use Rattle.log_lines.specs.declared.note.Note.{Note}
 use Rattle.requests.specs.NextRequest.{IsUnfinished}
 use Rattle.bureau_store.specs.declared.caller.CallerRow.{CallerRow}
 use Rattle.bureau_http.specs.Asked.{Asked}
 use Rattle.bureau_http.specs.Connection.{IsLast, IsRequest}
 use Rattle.bureau_http.specs.Exchange.{Exchange, IsAnswered, exchange_text}
+use Rattle.bureau_http.specs.Noted.{IsNoted}
 use Rattle.connections.specs.declared.connection.Connection.{Connection}
 use Rattle.connections.specs.declared.connection.Phase.TheVariants.{Open, Ended, Last}
 use Rattle.connections.specs.declared.event.Event as code
 
--- a connection that has just come: nothing came over it, nothing has to go out, and its next request is its first
+-- a connection that has just come: nothing came over it, nothing has to go out or was noted, and its next request is its first
 abbrev pub fresh : Connection
-fresh = record { held = []; out = []; ordinal = 1; phase = Open }
+fresh = record { held = []; out = []; note = None; ordinal = 1; phase = Open }
 
 -- what stands in each slot
 abbrev pub Slots : Type 0
@@ -83,16 +85,16 @@ pub record Leaves (old : Slots) (slot : ℕ) (new : Slots) (Why : Connection →
 
 -- these bytes came to a connection that reads on
 abbrev pub Grows : List ℕ → Connection → Connection → Type 0
-Grows text old new = (old.phase ≡ Open) × (new ≡ record { held = old.held ++ text; out = old.out; ordinal = old.ordinal; phase = Open })
+Grows text old new = (old.phase ≡ Open) × (new ≡ record { held = old.held ++ text; out = old.out; note = old.note; ordinal = old.ordinal; phase = Open })
 
 -- these bytes were the first of what has to go out, and were written
 abbrev pub Sends : List ℕ → Connection → Connection → Type 0
 Sends text old new =
-    (rest : List ℕ) × (old.out ≡ text ++ rest) × (new ≡ record { held = old.held; out = rest; ordinal = old.ordinal; phase = old.phase })
+    (rest : List ℕ) × (old.out ≡ text ++ rest) × (new ≡ record { held = old.held; out = rest; note = old.note; ordinal = old.ordinal; phase = old.phase })
 
 -- its peer ended its side: no more bytes come
 abbrev pub IsEnded : Connection → Connection → Type 0
-IsEnded old new = (old.phase ≡ Open) × (new ≡ record { held = old.held; out = old.out; ordinal = old.ordinal; phase = Ended })
+IsEnded old new = (old.phase ≡ Open) × (new ≡ record { held = old.held; out = old.out; note = old.note; ordinal = old.ordinal; phase = Ended })
 
 -- Its last reply went out whole, and it isn't the last one of all.
 abbrev pub IsReady : Connection → Type 0
@@ -102,13 +104,18 @@ IsReady old = (old.out ≡ []) × (old.phase ≢ Last)
 abbrev pub Asks : List CallerRow → Connection → Asked → Type 0
 Asks rows old asked = IsLast rows old.ordinal old.held asked ⊎ ((following : List ℕ) × IsRequest rows old.ordinal old.held asked following)
 
--- The request that stands next was answered. Its reply has to go out, and the bytes after it are held on; or it was the last.
-abbrev pub Puts : List CallerRow → Exchange → Connection → Connection → Type 0
-Puts rows exchange old new =
+-- The request that stands next was answered. Its reply has to go out, with this note beside it, and the bytes after the request are
+-- held on; or it was the last.
+abbrev pub PutsWith : Note → List CallerRow → Exchange → Connection → Connection → Type 0
+PutsWith note rows exchange old new =
     ((following : List ℕ) × IsRequest rows old.ordinal old.held exchange.asked following
-    × (new ≡ record { held = following; out = exchange_text exchange; ordinal = old.ordinal + 1; phase = old.phase }))
+    × (new ≡ record { held = following; out = exchange_text exchange; note = Some note; ordinal = old.ordinal + 1; phase = old.phase }))
     ⊎ (IsLast rows old.ordinal old.held exchange.asked
-    × (new ≡ record { held = []; out = exchange_text exchange; ordinal = old.ordinal; phase = Last }))
+    × (new ≡ record { held = []; out = exchange_text exchange; note = Some note; ordinal = old.ordinal; phase = Last }))
+
+-- The note is what the log notes of that request.
+abbrev pub Puts : List CallerRow → Exchange → Connection → Connection → Type 0
+Puts rows exchange old new = (note : Note) × IsNoted rows old.held exchange note × PutsWith note rows exchange old new
 
 abbrev pub Answers : List CallerRow → Exchange → Connection → Connection → Type 0
 Answers rows exchange old new = IsReady old × IsAnswered exchange × Puts rows exchange old new

@@ -1,4 +1,4 @@
-//! One connection.
+//! One connection: what of its request came, what of its reply has still to go out, and how it ends.
 ghost use Rattle.std.specs.Prelude.{◌≡◌, ◌+◌, ◌<◌, ◌≤◌, [], length, take, OnOk};
 ghost use Rattle.bureau.specs.Kept.{IsKeptRun};
 ghost use Rattle.catalogue.specs.View.{Goes, Tells};
@@ -9,6 +9,7 @@ use crate::incoming::Incoming;
 use crate::outgoing::Outgoing;
 use bureau_http::{ConnFault, Desk, Retries, Step, serve_next};
 use faults::NoMemory;
+use log_lines::Note;
 use requests::Routes;
 use std::alloc::Global;
 use std::io;
@@ -62,6 +63,8 @@ pub struct Connection {
     pub held: Incoming,
     /// What has to go out, and was not yet written.
     pub out: Outgoing,
+    /// What the log notes of the request whose reply has to go out, or went out last. `None` before the first.
+    pub note: Option<Note>,
     /// The ordinal of its next request, counted from 1.
     pub ordinal: u64,
     /// How far it has come.
@@ -76,6 +79,7 @@ impl Connection {
         Connection {
             held: Incoming::new(alloc),
             out: Outgoing::new(alloc),
+            note: None,
             ordinal: 1,
             phase: Phase::Open,
         }
@@ -166,12 +170,12 @@ impl Connection {
         self.held = Incoming::of(held);
         match step {
             Ok(Step::CleanEnd) => self.rests(),
-            Ok(Step::Stays) => {
-                self.put(alloc, text);
+            Ok(Step::Stays(note)) => {
+                self.put(alloc, text, note);
                 Turn::Answered
             }
-            Ok(Step::Ends) => {
-                self.put_last(alloc, text);
+            Ok(Step::Ends(note)) => {
+                self.put_last(alloc, text, note);
                 Turn::Answered
             }
             Err(ConnFault::EndInside) => self.rests(),
@@ -193,11 +197,12 @@ impl Connection {
     }
 
     // A reply has to go out. A connection over which nothing else came keeps no room for what comes.
-    fn put(&mut self, alloc: Global, text: Vec<u8>)
+    fn put(&mut self, alloc: Global, text: Vec<u8>, note: Note)
         requires { self.old.ordinal < 10000 }
         ensures { self.new ≡ record {
           held = self.old.held;
           out = text.items;
+          note = Some note;
           ordinal = self.old.ordinal + 1;
           phase = self.old.phase;
         } }
@@ -206,20 +211,23 @@ impl Connection {
             self.held = Incoming::new(alloc);
         }
         self.out = Outgoing::of(text);
+        self.note = Some(note);
         self.ordinal += 1;
     }
 
     // The last reply has to go out. What came further isn't kept.
-    fn put_last(&mut self, alloc: Global, text: Vec<u8>)
+    fn put_last(&mut self, alloc: Global, text: Vec<u8>, note: Note)
         ensures { self.new ≡ record {
           held = [];
           out = text.items;
+          note = Some note;
           ordinal = self.old.ordinal;
           phase = Phase.Last;
         } }
     {
         self.held = Incoming::new(alloc);
         self.out = Outgoing::of(text);
+        self.note = Some(note);
         self.phase = Phase::Last;
     }
 }

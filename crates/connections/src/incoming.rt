@@ -1,5 +1,6 @@
 //! What came over a connection.
-ghost use Rattle.std.specs.Prelude.{◌≡◌, ◌++◌, true, [], length, OnOk};
+ghost use Rattle.std.specs.Prelude.{◌≡◌, ◌==◌, ◌||◌, ◌++◌, not, true, [], length, OnOk};
+ghost use Rattle.std.specs.List.{list_any};
 ghost use Rattle.requests.specs.NextRequest.{IsUnfinished};
 
 use faults::NoMemory;
@@ -75,13 +76,25 @@ impl Incoming {
         }
     }
 
-    // Whether they hold neither a whole request nor a head that is refused. Bytes that were looked at before aren't looked at again.
+    // Whether they hold neither a whole request nor a head that is refused. Bytes that were looked at before aren't
+    // looked at again.
     pub(crate) fn is_short(&mut self) -> bool
         ensures same { self.new ≡ self.old }
         ensures short { result ≡ true → IsUnfinished self.old }
     {
         self.progress.is_short(self.bytes.bytes())
     }
+
+    /// Whether a request has begun in them: they are more than line ends.
+    pub fn has_begun(&self) -> bool
+        ensures { result ≡ list_any (λ b. not (b == 10 || b == 13)) self.now }
+    {
+        self.bytes
+            .bytes()
+            .iter()
+            .any(|b| !(*b == b'\n' || *b == b'\r'))
+    }
+
     /// How many bytes the request has that stands next, once its head has come and was looked at, and 0 before.
     pub fn wanted(&self) -> usize {
         self.progress.wanted()

@@ -1,7 +1,7 @@
 //! Many connections beside one desk, as values: what came over each, what has to go out, and what is answered when.
 //!
-//! Nothing here reads or writes. Whoever does tells what happened, one [`Event`] after the other, in whatever order, and
-//! writes what [`Connections::outgoing`] shows. So no connection waits for another.
+//! Nothing here reads or writes. Whoever does tells what happened, one [`Event`] after the other, in whatever
+//! order, and writes what [`Connections::outgoing`] shows. So no connection waits for another.
 //!
 //! - [`Connections`]: the connections, each in its slot
 //! - [`Event`]: what is told of one of them

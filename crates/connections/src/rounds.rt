@@ -50,8 +50,8 @@ pub enum Halt {
 
 /// What tells of connections, in rounds, and writes what has to go out.
 ///
-/// The system's own sockets tell nothing of what came over them. Others, as a list of events, can tell all of it. So what is
-/// proved of every `Rounds` says what is served and in which order, and what is shown to be written.
+/// The system's own sockets tell nothing of what came over them. Others, as a list of events, can tell all of it.
+/// So what is proved of every `Rounds` says what is served and in which order, and what is shown to be written.
 pub trait Rounds {
     /// The rounds so far, the oldest first, as far as they are known.
     ghost log: { Self → Log };
@@ -59,8 +59,8 @@ pub trait Rounds {
     /// That this fault ended the rounds. A body gives it from `round` alone.
     ghost is_over: { Self → RoundFault → Type 0 };
 
-    /// Waits until something happens to connections that stand like this, reads and writes what can be, and tells of it. So many
-    /// more may come. What is told counts also where there is an error.
+    /// Waits until something happens to connections that stand like this, reads and writes what can be, and tells
+    /// of it. So many more may come. What is told counts also where there is an error.
     ///
     /// # Errors
     ///
@@ -83,20 +83,23 @@ pub trait Rounds {
     /// Of the connections whose body waits for room, the slot of the one with this index, counted from 0.
     fn short_at(&self, index: usize) -> Option<usize>;
 
-    /// The device has failed, and connections stood like this after the event at which it did. What the last round told behind that event
-    /// was not looked at: what it wrote still stands here, and where it tells that a connection left or came, here stands the one
-    /// before. Of all others what has to go out may be written, as far as that takes no wait.
+    /// The device has failed, and connections stood like this after the event at which it did. What the last round
+    /// told behind that event was not looked at: what it wrote still stands here, and where it tells that a
+    /// connection left or came, here stands the one before. Of all others what has to go out may be written, as far
+    /// as that takes no wait.
     fn show_last(&mut self, connections: &Connections)
         ensures { Logs (log self.old) (log self.new) (last_showing connections.now.slots.items ∷ []) };
 }
 
-/// Serves so many connections side by side to their ends, beside a bureau: what each round tells, one event after the other. After
-/// each it looks whether the device of the bureau's store has failed. Each round is shown the connections as they stand.
+/// Serves so many connections side by side to their ends, beside a bureau: what each round tells, one event after
+/// the other. After each it looks whether the device of the bureau's store has failed. Each round is shown the
+/// connections as they stand.
 ///
 /// # Errors
 ///
-/// [`Halt::Device`] once the device has failed: then nothing more is looked at, whatever connection it is of. [`Halt::Rounds`]
-/// where there are no more rounds, or more connections came than were to: what was told until then was served.
+/// [`Halt::Device`] once the device has failed: then nothing more is looked at, whatever connection it is of.
+/// [`Halt::Rounds`] where there are no more rounds, or more connections came than were to: what was told until then
+/// was served.
 pub fn serve_rounds<S: Store, J: Judge<S>, R: Rounds>(
     alloc: Global,
     bureau: &mut Bureau<S, J>,
@@ -201,8 +204,8 @@ fn left_after(left: u32, events: &[Event]) -> Option<u32>
     Some(rest)
 }
 
-// How many bytes may be read next over each connection of which something was told, and over those whose body didn't fit the
-// limit.
+// How many bytes may be read next over each connection of which something was told, and over those whose body
+// didn't fit the limit.
 fn note_rooms<R: Rounds>(connections: &mut Connections, rounds: &mut R, events: &[Event])
     ensures slots { connections.new.slots.items ≡ connections.old.slots.items }
     ensures within { StaysWithin connections.old connections.new }

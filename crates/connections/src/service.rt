@@ -14,8 +14,8 @@ use chains::Judge;
 use requests::Routes;
 use std::alloc::Global;
 
-/// Goes through events in order, beside a bureau. After each it looks whether the device of the bureau's store has failed, and then
-/// looks at nothing more, whatever connection it is of. Whether it has failed.
+/// Goes through events in order, beside a bureau. After each it looks whether the device of the bureau's store has
+/// failed, and then looks at nothing more, whatever connection it is of. Whether it has failed.
 pub(crate) fn go_while_open<S: Store, J: Judge<S>>(
     alloc: Global,
     bureau: &mut Bureau<S, J>,

@@ -15,11 +15,11 @@ use bureau_http::Desk;
 use requests::{Routes, later_bytes};
 use std::alloc::Global;
 
-/// Goes through events in order. After each, the next request of its connection is answered, where that stands whole and the
-/// last reply went out.
+/// Goes through events in order. After each, the next request of its connection is answered, where that stands
+/// whole and the last reply went out.
 ///
-/// Want of memory ends the connection that it befalls, or is answered 503, and no other. What all of them hold together is at
-/// most the limit and a head's room of each.
+/// Want of memory ends the connection that it befalls, or is answered 503, and no other. What all of them hold
+/// together is at most the limit and a head's room of each.
 pub fn serve_events<D: Desk>(
     alloc: Global,
     desk: &mut D,

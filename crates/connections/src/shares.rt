@@ -4,7 +4,8 @@ ghost use Rattle.std.specs.Prelude.{◌≡◌, ◌+◌, ◌<◌, ◌≤◌, true
 use std::alloc::{AllocError, Global};
 use std::marker::Model;
 
-/// A limit on what all connections hold together, beyond the room for a head that each has. It is shared out to their slots.
+/// A limit on what all connections hold together, beyond the room for a head that each has. It is shared out to
+/// their slots.
 ///
 /// A contract sees the limit, and the share of each slot.
 #[derive(Drop)]

@@ -17,7 +17,7 @@ pub limit_is : 16384 ≡ head_limit
 unfolding head_limit
 limit_is = refl
 
-order : (t : Bool) (a b : ℕ) → nat_le a b ≡ t → (a ≤ b) ⊎ (b ≤ a)
+pub order : (t : Bool) (a b : ℕ) → nat_le a b ≡ t → (a ≤ b) ⊎ (b ≤ a)
 order true a b h = inl (grind (arith, nat_tests))
 order false a b h = inr (grind (arith, nat_tests))
 

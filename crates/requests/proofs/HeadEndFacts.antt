@@ -96,10 +96,10 @@ feed_choice false rest = refl
 
 -- ---- whether only empty lines were there
 
-same_more : (m n : ℕ) → (m == n) ≡ ((1 + m) == suc n)
+pub same_more : (m n : ℕ) → (m == n) ≡ ((1 + m) == suc n)
 same_more m n = grind (arith, nat_tests)
 
-none_of_more : (n : ℕ) → false ≡ (0 == suc n)
+pub none_of_more : (n : ℕ) → false ≡ (0 == suc n)
 none_of_more n = grind (arith, nat_tests)
 
 return_clean : (t : Bool) (m n : ℕ) → (t && (m == n)) ≡ ((if t then 1 + m else 0) == suc n)

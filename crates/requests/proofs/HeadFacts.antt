@@ -1,7 +1,8 @@
 -- How many lines a head has.
-use Rattle.std.proofs.Common.{◌≡◌, ℕ, ◌+◌, ◌≤◌, ◌==◌, ◌||◌, Bool, true, false, List, [], ◌∷◌, ◌++◌, length, drop, refl, sym, ap, ◌∙◌, arith, append_assoc, append-nil, length-append, suc, subst, Result, Ok, Err}
+use Rattle.std.proofs.Common.{◌≡◌, ℕ, ◌+◌, ◌≤◌, ◌==◌, false, List, [], ◌∷◌, ◌++◌, length, drop, refl, sym, ap, ◌∙◌, arith, append_assoc, append-nil, length-append, suc, subst, Result, Ok, Err}
 use Rattle.std.proofs.lemmas.List.Elements.{filter-append}
 use Rattle.std.specs.List.{filter, flat_map}
+use Rattle.std.proofs.lemmas.Bool.{or_parts}
 use Rattle.httparse.specs.Grammar.{LineEnd, crlf, lf, Field, RequestHead, ReadsRequest, print_blank, print_end, print_field, print_request, print_section, print_version}
 use Rattle.httparse.specs.Ascii.{colon, space}
 use Rattle.httparse.specs.Outcome.{IsCompleteAnd}
@@ -55,12 +56,8 @@ feeds_lines h =
     let i = feeds_end h.last in
     omega arith
 
-neither : (x y : Bool) → (x || y) ≡ false → (x ≡ false) × (y ≡ false)
-neither true y h = cc
-neither false y h = (refl, h)
-
 no_line : (b : ℕ) (rest : List ℕ) → is_newline b ≡ false → empty_lines_len (b ∷ rest) ≡ 0
-no_line b rest h = let parts = neither (b == 13) (b == 10) h in rw (parts.0, parts.1) refl
+no_line b rest h = let parts = or_parts (b == 13) (b == 10) h in rw (parts.0, parts.1) refl
 
 skip : (blank : List LineEnd) (rest : List ℕ) → Stops is_newline rest → without_empty_lines (print_blank blank ++ rest) ≡ rest
 skip [] [] stops = absurd stops

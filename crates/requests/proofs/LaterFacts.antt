@@ -55,7 +55,7 @@ body_by true own parts n rest more body following low e =
     ∙ ap (λ l. whole own (take n (rest ++ more)) l) (ap (λ l. l ++ more) back ∙ sym (drop-append-le n rest more short)))
 body_by false own parts n rest more body following low e = absurd (cc)
 
-body_test : (t : Bool) (own : Parts) (n : ℕ) (rest : List ℕ) → nat_le n (length rest) ≡ t
+pub body_test : (t : Bool) (own : Parts) (n : ℕ) (rest : List ℕ) → nat_le n (length rest) ≡ t
     → with_body own n rest ≡ (if t then whole own (take n rest) (drop n rest) else end_inside)
 body_test t own n rest e = rw e refl
 

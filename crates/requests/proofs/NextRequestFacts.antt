@@ -1,5 +1,5 @@
 -- What stands next in a connection, from what was read of it.
-use Rattle.std.proofs.Common.{◌≡◌, ◌⊎◌, inl, inr, ℕ, ◌+◌, ◌-◌, ◌<◌, ◌≤◌, Bool, true, false, List, [], ◌++◌, length, take, drop, nat_le, Option, Some, None, IfErr, IfOk, IfSome, Result, Ok, Err, if◌then◌else◌, refl, sym, ap, ◌∙◌, subst, arith, append-nil, length-append}
+use Rattle.std.proofs.Common.{◌≡◌, ◌⊎◌, inl, inr, ℕ, ◌+◌, ◌-◌, ◌<◌, ◌≤◌, true, false, List, [], ◌++◌, length, take, drop, nat_le, Option, Some, None, IfErr, IfSome, Result, Ok, Err, refl, sym, ap, ◌∙◌, subst, arith, append-nil, length-append}
 use Rattle.std.proofs.lemmas.Bool.Decides.{nat_tests}
 use Rattle.std.proofs.lemmas.List.{drop-append-le, drop-drop, length-drop, take-append-drop, take-append-le, take-take}
 use Rattle.std.specs.Io.KnownBytes.{IsAtEnd, Keeps, prepend_known}
@@ -12,6 +12,7 @@ use Rattle.requests.specs.declared.front.Front.TheVariants.{Head, CleanEnd, EndI
 use Rattle.requests.specs.declared.next_request.Request.{Request}
 use Rattle.requests.specs.declared.next_request.NextRequest.{NextRequest}
 use Rattle.requests.proofs.FrontFacts.{head_stays}
+use Rattle.requests.proofs.LaterFacts.{body_test}
 
 -- what was told of the bytes is told of those that are held and left now
 pub read_as : (IsRight : List ℕ → Next → Type 0) (P : List ℕ → Type 0) (all left : Option (List ℕ)) (held : List ℕ) (answer : NextRequest)
@@ -71,10 +72,6 @@ with_head n parts request first held left answer bytes same front decided read =
 
 -- ---- the body
 
-body_test : (t : Bool) (parts : Parts) (n : ℕ) (bytes : List ℕ) → nat_le n (length bytes) ≡ t
-    → with_body parts n bytes ≡ (if t then whole parts (take n bytes) (drop n bytes) else end_inside)
-body_test t parts n bytes e = rw e refl
-
 -- the body is whole
 pub whole_body : (parts : Parts) (h n : ℕ) (held more : List ℕ) → h + n ≤ length held
     → whole parts (take n (drop h held)) (drop (h + n) held ++ more) ≡ with_body parts n (drop h (held ++ more))
@@ -102,11 +99,6 @@ short_body parts h n held more low short none =
 -- nothing is left at the end
 pub none_left : (left : Option (List ℕ)) (more : List ℕ) → left ≡ Some more → IsAtEnd left → more ≡ []
 none_left left more e end = subst IsAtEnd e end
-
--- what is told of an answer, told further
-pub map_ok : {A E : Type 0} {P Q : A → Type 0} (r : Result A E) → IfOk r P → ((a : A) → P a → Q a) → IfOk r Q
-map_ok (Ok a) p h = h a p
-map_ok (Err e) p h = p
 
 -- ---- where a read failed
 

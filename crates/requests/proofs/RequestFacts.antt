@@ -1,5 +1,5 @@
 -- What a head asks for.
-use Rattle.std.proofs.Common.{◌≡◌, ◌⊎◌, inl, inr, ℕ, ◌+◌, ◌^◌, ◌<◌, ◌≤◌, lit<, ◌&&◌, Bool, true, false, List, [], ◌∷◌, length, nat_le, nat_lt, Some, None, Ok, Err, refl, sym, ap, ◌∙◌, arith}
+use Rattle.std.proofs.Common.{◌≡◌, ◌⊎◌, inl, inr, ℕ, ◌+◌, ◌^◌, ◌<◌, ◌≤◌, lit<, Bool, true, false, List, [], ◌∷◌, length, nat_le, nat_lt, Some, None, Ok, Err, refl, sym, ap, ◌∙◌, arith}
 use Rattle.std.proofs.lemmas.Bool.Decides.{nat_tests}
 use Rattle.std.proofs.lemmas.Int.Digits.{digits_value-lt}
 use Rattle.std.proofs.lemmas.Str.{IsAscii-take}
@@ -9,14 +9,11 @@ use Rattle.std.specs.Char.{digit_value, is_ascii_digit}
 use Rattle.std.specs.List.{list_all}
 use Rattle.std.specs.Str.{IsAscii}
 use Rattle.std.specs.Str.Parse.{AllDigits, digits_value}
+use Rattle.std.proofs.lemmas.Bool.{and_parts}
 use Rattle.requests.specs.Headers.{Pair, has, is_named, sole, values}
 use Rattle.requests.specs.Text.{begins_with, is_number}
 use Rattle.requests.specs.Request.{change_number, is_path, length_by, length_told, length_untold, longest_body, path_of, slash}
 use Rattle.requests.specs.declared.refusal.Refusal.TheVariants.{BadRequest, TooLarge}
-
-both : (x y : Bool) → (x && y) ≡ true → (x ≡ true) × (y ≡ true)
-both true y h = (refl, h)
-both false y h = absurd (cc)
 
 order : (t : Bool) (a b : ℕ) → nat_le a b ≡ t → (a ≤ b) ⊎ (b < a)
 order true a b h = inl (grind (arith, nat_tests))
@@ -104,13 +101,13 @@ digit_below b h = grind (arith, nat_tests)
 all_digits : (text : List ℕ) → list_all is_ascii_digit text ≡ true → AllDigits 10 text
 all_digits [] h = tt
 all_digits (b ∷ text) h =
-    let parts = both (is_ascii_digit b) (list_all is_ascii_digit text) h in
+    let parts = and_parts (is_ascii_digit b) (list_all is_ascii_digit text) h in
     (digit_below b parts.0, all_digits text parts.1)
 
 -- 19 digits fit
 pub few_digits : (text : List ℕ) → is_number text ≡ true → length text ≤ 19 → digits_value 10 text ≤ 18446744073709551615
 few_digits text is few =
-    let digits = both (nat_lt 0 (length text)) (list_all is_ascii_digit text) is in
+    let digits = and_parts (nat_lt 0 (length text)) (list_all is_ascii_digit text) is in
     let below : digits_value 10 text < 10 ^ length text = digits_value-lt 10 text (all_digits text digits.1) in
     let power : 10 ^ length text ≤ 10 ^ 19 = pow-le-pow_right (lit< tt) few in
     omega arith
@@ -123,12 +120,12 @@ byte_ascii b h = grind (arith, nat_tests)
 all_ascii : (text : List ℕ) → list_all (λ b. nat_lt b 128) text ≡ true → IsAscii text
 all_ascii [] h = IsAscii-nil
 all_ascii (b ∷ text) h =
-    let parts = both (nat_lt b 128) (list_all (λ b. nat_lt b 128) text) h in
+    let parts = and_parts (nat_lt b 128) (list_all (λ b. nat_lt b 128) text) h in
     IsAscii-cons b text (byte_ascii b parts.0) (all_ascii text parts.1)
 
 pub path_ascii : (target path : List ℕ) → is_path target ≡ true → path ≡ path_of target → IsAscii path
 path_ascii target path h is =
-    let parts = both (begins_with slash target) (list_all (λ b. nat_lt b 128) target) h in
+    let parts = and_parts (begins_with slash target) (list_all (λ b. nat_lt b 128) target) h in
     rw is (IsAscii-take target _ (all_ascii target parts.1))
 
 pub number_read : (text : List ℕ) (n : ℕ) → is_number text ≡ true → length text ≤ 19 → n ≡ digits_value 10 text → Some n ≡ change_number text

@@ -5,7 +5,10 @@ use Rattle.std.proofs.lemmas.Bool.Decides.{nat_tests}
 use Rattle.std.proofs.lemmas.List.{drop-drop}
 use Rattle.std.proofs.lemmas.List.Sums.{prefix_len-le-length, suffix_len-le-length}
 use Rattle.std.specs.List.{list_any, prefix_len, suffix_len}
+use Rattle.std.proofs.lemmas.Bool.{or_left}
 use Rattle.requests.specs.Text.{before, before_len, after, comma, elements, has_word, is_blank, is_word, with_first}
+use Rattle.requests.proofs.FrontFacts.{order}
+use Rattle.requests.proofs.HeadEndFacts.{none_of_more, same_more}
 
 pub cut_fits : (byte : ℕ) (text : List ℕ) → before_len byte text ≤ length text
 cut_fits byte text = prefix_len-le-length _ text
@@ -28,12 +31,6 @@ trailing_fits text = suffix_len-le-length is_blank text
 abbrev parts : ℕ → List ℕ → List (List ℕ)
 parts n text = take n text ∷ (if n == length text then [] else elements (drop (n + 1) text))
 
-same_next : (m n : ℕ) → (m == n) ≡ ((1 + m) == suc n)
-same_next m n = grind (arith, nat_tests)
-
-none_next : (n : ℕ) → false ≡ (0 == suc n)
-none_next n = grind (arith, nat_tests)
-
 drop_next : (n b : ℕ) (text : List ℕ) → drop (n + 1) text ≡ drop ((1 + n) + 1) (b ∷ text)
 drop_next n b text = let e : suc (n + 1) ≡ (1 + n) + 1 = omega arith in ap (λ k. drop k (b ∷ text)) e
 
@@ -43,11 +40,11 @@ take_next n b text = let e : suc n ≡ 1 + n = omega arith in ap (λ k. take k (
 next_parts : (n b : ℕ) (text : List ℕ) → with_first b (parts n text) ≡ parts (1 + n) (b ∷ text)
 next_parts n b text =
     ap (λ first. first ∷ (if n == length text then [] else elements (drop (n + 1) text))) (take_next n b text)
-    ∙ ap (λ t. take (1 + n) (b ∷ text) ∷ (if t then [] else elements (drop (n + 1) text))) (same_next n (length text))
+    ∙ ap (λ t. take (1 + n) (b ∷ text) ∷ (if t then [] else elements (drop (n + 1) text))) (same_more n (length text))
     ∙ ap (λ rest. take (1 + n) (b ∷ text) ∷ (if (1 + n) == suc (length text) then [] else elements rest)) (drop_next n b text)
 
 zero_parts : (b : ℕ) (text : List ℕ) → [] ∷ elements text ≡ parts 0 (b ∷ text)
-zero_parts b text = ap (λ t. [] ∷ (if t then [] else elements text)) (none_next (length text))
+zero_parts b text = ap (λ t. [] ∷ (if t then [] else elements text)) (none_of_more (length text))
 
 elements_step : (t : Bool) (b : ℕ) (text : List ℕ) → elements text ≡ parts (before_len comma text) text
     → (if t then [] ∷ elements text else with_first b (elements text)) ≡ parts (if not t then 1 + before_len comma text else 0) (b ∷ text)
@@ -58,17 +55,13 @@ elements_are : (text : List ℕ) → elements text ≡ parts (before_len comma t
 elements_are [] = refl
 elements_are (b ∷ text) = elements_step (b == comma) b text (elements_are text)
 
-or_true : (a b : Bool) → a ≡ true → (a || b) ≡ true
-or_true true b e = refl
-or_true false b e = cc
-
 or_false : (a b : Bool) → a ≡ false → (a || b) ≡ b
 or_false true b e = cc
 or_false false b e = refl
 
 -- the first element is the word
 pub word_first : (word text first : List ℕ) → first ≡ before comma text → is_word word first ≡ true → has_word word text ≡ true
-word_first word text first is e = ap (list_any (is_word word)) (elements_are text) ∙ or_true _ _ (ap (is_word word) (sym is) ∙ e)
+word_first word text first is e = ap (list_any (is_word word)) (elements_are text) ∙ or_left _ _ (ap (is_word word) (sym is) ∙ e)
 
 only_first : (word text : List ℕ) (t : Bool) → t ≡ true
     → list_any (is_word word) (if t then [] else elements (after comma text)) ≡ false
@@ -95,10 +88,6 @@ word_after word text first is e more =
     ∙ more_than_first word text (before_len comma text == length text) (grind (arith, nat_tests))
 
 -- ---- numbers
-
-order : (t : Bool) (a b : ℕ) → nat_le a b ≡ t → (a ≤ b) ⊎ (b ≤ a)
-order true a b h = inl (grind (arith, nat_tests))
-order false a b h = inr (grind (arith, nat_tests))
 
 min_is : (a b : ℕ) → ((a ≤ b) × (min a b ≡ a)) ⊎ ((b ≤ a) × (min a b ≡ b))
 min_is a b = elim (order (nat_le a b) a b refl) [ inl h ↦ inl (h, min-eq_left h) | inr h ↦ inr (h, min-eq_right h) ]

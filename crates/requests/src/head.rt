@@ -39,6 +39,23 @@ impl Head {
         self.closes
     }
 
+    /// The method, as the request line has it.
+    pub fn method<'a>(&self, bytes: &'a [u8]) -> &'a [u8]
+        requires { LiesIn bytes.now self.now }
+        ensures { result.now ≡ (parts_at bytes.now self.now).method }
+    {
+        self.method.of(bytes)
+    }
+
+    /// The path, as the request line has it: its target up to the first `?`.
+    pub fn path<'a>(&self, bytes: &'a [u8]) -> &'a [u8]
+        requires { LiesIn bytes.now self.now }
+        ensures { result.now ≡ Spec.path_of (parts_at bytes.now self.now).target }
+    {
+        let (path, _) = cut(self.target.of(bytes), b'?');
+        path
+    }
+
     /// The token of the caller, where there is just one.
     pub fn token<'a>(&self, bytes: &'a [u8]) -> Option<&'a [u8]>
         requires { LiesIn bytes.now self.now }

@@ -1,5 +1,5 @@
 //! Reading what stands next in a connection: a whole request, or its end.
-ghost use Rattle.std.specs.Prelude.{◌≡◌, ◌≤◌, true, drop, length, option_map, take, IfOk, IfErr, IfSome};
+ghost use Rattle.std.specs.Prelude.{◌≡◌, ◌^◌, ◌<◌, ◌≤◌, true, drop, length, option_map, take, IfOk, IfErr, IfSome};
 ghost use Rattle.std.specs.Io.KnownBytes.{Keeps, prepend_known};
 ghost use Rattle.requests.specs.Head.{LiesIn};
 ghost use Rattle.requests.specs.Order.{is_bare};
@@ -72,6 +72,30 @@ impl Request {
         ensures { result ≡ closes self.now }
     {
         self.head.closes()
+    }
+
+    /// The method, as the request line has it.
+    pub fn method<'a>(&self, bytes: &'a [u8]) -> &'a [u8]
+        requires { IsAt bytes.now self.now }
+        ensures { result.now ≡ (parts_in bytes.now self.now).method }
+    {
+        self.head.method(self.head_bytes(bytes))
+    }
+
+    /// The path, as the request line has it: its target up to the first `?`.
+    pub fn path<'a>(&self, bytes: &'a [u8]) -> &'a [u8]
+        requires { IsAt bytes.now self.now }
+        ensures { result.now ≡ Spec.path_of (parts_in bytes.now self.now).target }
+    {
+        self.head.path(self.head_bytes(bytes))
+    }
+
+    /// How many bytes it has: its head, with the empty lines before it, and its body.
+    pub fn len(&self) -> usize
+        requires { request_len self.now < 2 ^ 64 }
+        ensures { result ≡ request_len self.now }
+    {
+        self.head_len + self.body_len
     }
 
     /// The token of the caller, where there is just one.

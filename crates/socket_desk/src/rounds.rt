@@ -1,11 +1,12 @@
-//! Rounds over sockets.
+//! Rounds of reads and writes over the sockets of one port, with the lines of the log.
 use crate::fault::LoopFault;
+use crate::lines::Lines;
 use crate::patience::Patience;
 use crate::sockets::Sockets;
 use connections::{Connections, Event, Round, RoundFault, Rounds};
 use mio::Events;
 use std::alloc::Global;
-use std::io;
+use std::io::{self, Write};
 use std::net::{Net, SocketAddr};
 use std::time::{Clock, Instant};
 
@@ -14,19 +15,24 @@ const EVENTS: usize = 1024;
 
 /// The sockets of a port.
 ///
-/// In each round one read or one write is made of each socket that is ready. Then all of these are told, and so each connection
-/// gets at most one request answered before the next one's turn.
+/// In each round one read or one write is made of each socket that is ready. Then all of these are told, and so
+/// each connection gets at most one request answered before the next one's turn.
+///
+/// Where a log is kept, it gets a line for each reply that went out whole, and for each connection that failed, at
+/// the end of the round. What can't be written to it is left out, and nothing else depends on it.
 #[derive(Drop)]
-pub struct SocketRounds<'c, C> {
+pub struct SocketRounds<'c, C, W> {
     sockets: Sockets,
     events: Events,
     clock: &'c C,
+    log: Option<W>,
     // Some of what was read may not have been told, or not served: then nothing more is read.
     has_stopped: bool,
 }
 
-impl<'c, C: Clock> SocketRounds<'c, C> {
-    /// Listens on an address. It has so many slots, and time goes by this clock.
+impl<'c, C: Clock, W: Write> SocketRounds<'c, C, W> {
+    /// Listens on an address. It has so many slots, and time goes by this clock. A log is kept where there is a
+    /// writer for it.
     ///
     /// # Errors
     ///
@@ -38,11 +44,20 @@ impl<'c, C: Clock> SocketRounds<'c, C> {
         address: SocketAddr,
         slots: usize,
         patience: Patience,
-    ) -> Result<Self, LoopFault> {
+        log: Option<W>,
+    ) -> Result<Self, LoopFault>
+    where
+        W: Drop,
+    {
+        let lines = match &log {
+            Some(_) => Lines::new(alloc, slots)?,
+            None => Lines::none(alloc),
+        };
         Ok(SocketRounds {
-            sockets: Sockets::new(net, alloc, address, slots, patience)?,
+            sockets: Sockets::new(net, alloc, address, slots, patience, lines)?,
             events: Events::with_capacity(alloc, EVENTS)?,
             clock,
+            log,
             has_stopped: false,
         })
     }
@@ -54,6 +69,11 @@ impl<'c, C: Clock> SocketRounds<'c, C> {
     /// The system's own.
     pub fn address(&self) -> io::Result<SocketAddr> {
         self.sockets.address()
+    }
+
+    /// What the log is written to, if one is kept.
+    pub fn log(&self) -> Option<&W> {
+        self.log.as_ref()
     }
 
     // Waits for the sockets, and reads and writes them. What came of it is told.
@@ -70,16 +90,29 @@ impl<'c, C: Clock> SocketRounds<'c, C> {
         self.sockets.begin(left)?;
         self.sockets.wait(&mut self.events)?;
         let now = Instant::now(self.clock)?;
-        self.sockets.round(connections, &self.events, now, told)?;
+        self.sockets.lines.begin(self.clock);
+        let round = self.sockets.round(connections, &self.events, now, told);
+        self.write_lines();
+        round?;
         Ok(if self.sockets.are_closed() {
             Round::Idle
         } else {
             Round::Busy
         })
     }
+
+    // Writes the lines of the round. Those that can't be written are left out.
+    fn write_lines(&mut self) {
+        let text = self.sockets.lines.text();
+        if let Some(log) = &mut self.log {
+            if !text.is_empty() {
+                let _ = log.write_all(text);
+            }
+        }
+    }
 }
 
-impl<C: Clock> Rounds for SocketRounds<'_, C> {
+impl<C: Clock, W: Write> Rounds for SocketRounds<'_, C, W> {
     ghost use Rattle.std.specs.Prelude.{None};
 
     ghost log = { λ _. None };
@@ -114,6 +147,9 @@ impl<C: Clock> Rounds for SocketRounds<'_, C> {
 
     fn show_last(&mut self, connections: &Connections) {
         self.has_stopped = true;
-        self.sockets.show_last(connections);
+        self.sockets.lines.begin(self.clock);
+        self.sockets
+            .show_last(connections, Instant::now(self.clock).ok());
+        self.write_lines();
     }
 }

@@ -1,9 +1,11 @@
 //! The socket of a connection, and when it was heard of.
 use crate::patience::{Patience, Stage};
+use bureau_http::ConnFault;
+use connections::{Connection, Phase};
 use mio::net::TcpStream;
 use std::io::{self, ErrorKind, Read};
 use std::net::Shutdown;
-use std::time::Instant;
+use std::time::{Duration, Instant};
 
 /// Among which a connection waits for a visit.
 #[derive(Clone, Copy, Debug, PartialEq, Eq)]
@@ -14,6 +16,38 @@ pub(crate) enum Listed {
     Ready,
     /// Those whose body doesn't fit the limit yet.
     Short,
+}
+
+/// Why the desk lets a connection go, should it do so next.
+#[derive(Clone, Copy, Debug, PartialEq, Eq)]
+pub(crate) enum Parting {
+    /// There is no memory for it: neither side has ended it.
+    NoMemory,
+    /// Its peer ended its side, inside a request.
+    EndInside,
+    /// Its peer ended its side, or its last reply went out.
+    Done,
+}
+
+impl Parting {
+    // That of a connection in this phase, all of whose replies went out.
+    pub(crate) fn of(connection: &Connection, phase: Phase) -> Parting {
+        match phase {
+            Phase::Open => Parting::NoMemory,
+            Phase::Ended if connection.held.has_begun() => Parting::EndInside,
+            Phase::Ended => Parting::Done,
+            Phase::Last => Parting::Done,
+        }
+    }
+
+    // What the log tells of it.
+    pub(crate) fn fault(self) -> Option<ConnFault> {
+        match self {
+            Parting::NoMemory => Some(ConnFault::Memory),
+            Parting::EndInside => Some(ConnFault::EndInside),
+            Parting::Done => None,
+        }
+    }
 }
 
 /// The socket of a connection, and when it was heard of.
@@ -34,6 +68,8 @@ pub(crate) struct Side {
     pub(crate) is_ahead: bool,
     // among which it waits for a visit
     pub(crate) list: Listed,
+    // why the desk lets it go, should it do so next
+    pub(crate) parting: Parting,
 }
 
 impl Side {
@@ -47,11 +83,12 @@ impl Side {
             is_closing: false,
             is_ahead: true,
             list: Listed::Nowhere,
+            parting: Parting::NoMemory,
         }
     }
 
-    // The desk has nothing more to write. What the client still sends is read for a while, since a socket that is closed while
-    // bytes lie unread in it may lose its last reply (RFC 9112, section 9.6).
+    // The desk has nothing more to write. What the client still sends is read for a while, since a socket that is
+    // closed while bytes lie unread in it may lose its last reply (RFC 9112, section 9.6).
     pub(crate) fn close(&mut self, now: Instant) {
         let _ = self.stream.shutdown(Shutdown::Write);
         self.is_closing = true;
@@ -71,6 +108,11 @@ impl Side {
         }
     }
 
+    // How long its request has taken.
+    pub(crate) fn taken(&self, now: Instant) -> Duration {
+        now.saturating_duration_since(self.since)
+    }
+
     // What came or went was told to the desk, and so many bytes may be read next.
     pub(crate) fn let_read(&mut self, room: usize) {
         self.is_ahead = false;
@@ -78,8 +120,9 @@ impl Side {
         self.room = room;
     }
 
-    // Whether its time is up at this stage. While it waits for its turn, what it sent may lie unread: then this is whether its time
-    // was up already when it had its last turn. Once the desk has ended its side nothing that it sends counts.
+    // Whether its time is up at this stage. While it waits for its turn, what it sent may lie unread: then this is
+    // whether its time was up already when it had its last turn. Once the desk has ended its side nothing that it
+    // sends counts.
     pub(crate) fn is_late(&self, patience: &Patience, stage: Stage, now: Instant) -> bool {
         let seen = if self.list == Listed::Ready && !self.is_closing {
             self.told

@@ -1,8 +1,10 @@
 //! Sockets that don't block, each in its slot, and whose turn it is.
 use crate::fault::LoopFault;
+use crate::lines::Lines;
 use crate::patience::{Patience, Stage};
 use crate::side::{Listed, Side};
 use crate::visits::{ROOM, Visit};
+use bureau_http::ConnFault;
 use connections::{Connections, Event};
 use mio::net::TcpListener;
 use mio::{Events, Interest, Poll, Token};
@@ -15,12 +17,12 @@ use std::time::{Duration, Instant};
 // The token of the listener. Those of sockets are their slots.
 const LISTENER: usize = usize::MAX;
 
-// How many are visited in a round at most, of which there is something to tell: so what was read and not yet told stays small. And
-// how many are accepted.
+// How many are visited in a round at most, of which there is something to tell: so what was read and not yet told
+// stays small. And how many are accepted.
 pub(crate) const MOST: usize = 64;
 
-// How often, in seconds, the loop looks for connections whose time is up, and tries again what the system may refuse for a
-// while: to accept a connection where no descriptor was left.
+// How often, in seconds, the loop looks for connections whose time is up, and tries again what the system may
+// refuse for a while: to accept a connection where no descriptor was left.
 const TICK: u64 = 1;
 
 /// Sockets, each in its slot.
@@ -44,6 +46,8 @@ pub(crate) struct Sockets {
     pub(crate) poll: Poll,
     pub(crate) room: Vec<u8>,
     pub(crate) patience: Patience,
+    // What the log is to tell of this round.
+    pub(crate) lines: Lines,
 }
 
 impl Sockets {
@@ -54,6 +58,7 @@ impl Sockets {
         address: SocketAddr,
         slots: usize,
         patience: Patience,
+        lines: Lines,
     ) -> Result<Sockets, LoopFault> {
         let poll = Poll::new(net)?;
         let mut listener = TcpListener::bind(net, address)?;
@@ -78,6 +83,7 @@ impl Sockets {
             poll,
             room: Vec::from_elem(alloc, 0u8, ROOM)?,
             patience,
+            lines,
         })
     }
 
@@ -85,7 +91,8 @@ impl Sockets {
         self.listener.local_addr()
     }
 
-    /// A round begins, and so many connections are to be accepted yet. Bodies for which there is room by now are read on.
+    /// A round begins, and so many connections are to be accepted yet. Bodies for which there is room by now are
+    /// read on.
     pub(crate) fn begin(&mut self, left: u32) -> Result<(), LoopFault> {
         self.more_wait |= left > self.left;
         self.left = left;
@@ -97,8 +104,8 @@ impl Sockets {
         self.free.len() == self.sides.len()
     }
 
-    /// The most events of a round: those of visits, and for each that is accepted that it came, and that another one gave way;
-    /// and each connection's time may be up.
+    /// The most events of a round: those of visits, and for each that is accepted that it came, and that another
+    /// one gave way; and each connection's time may be up.
     pub(crate) fn most_told(&self) -> usize {
         self.sides.len().saturating_add(3 * MOST)
     }
@@ -120,7 +127,8 @@ impl Sockets {
         }
     }
 
-    /// There is no memory to tell of anything, so nothing is read or written. Waits for a while; what the system tells of sockets counts.
+    /// There is no memory to tell of anything, so nothing is read or written. Waits for a while; what the system
+    /// tells of sockets counts.
     pub(crate) fn rest(&mut self, events: &mut Events) -> Result<(), LoopFault> {
         self.poll_for(events, Duration::from_secs(TICK))?;
         self.hear_of(events)
@@ -156,7 +164,8 @@ impl Sockets {
         Ok(())
     }
 
-    // Each that waits for its turn gets it, as long as more may be told. The others keep their places before those that had theirs.
+    // Each that waits for its turn gets it, as long as more may be told. The others keep their places before those
+    // that had theirs.
     fn visit_ready(
         &mut self,
         connections: &Connections,
@@ -231,10 +240,25 @@ impl Sockets {
         self.more_wait = true;
         for slot in 0..self.sides.len() {
             if self.is_late(connections, slot, now) {
+                self.tell_late(connections, slot);
                 self.end(slot, told)?;
             }
         }
         Ok(())
+    }
+
+    // The time of a connection is up. That it can't be read, or written, is told of one with a request alone.
+    fn tell_late(&mut self, connections: &Connections, slot: usize) {
+        let Some(Some(side)) = self.sides.get(slot) else {
+            return;
+        };
+        match stage(connections, slot, side) {
+            Stage::Idle => {}
+            Stage::Head => self.lines.fault(ConnFault::Read),
+            Stage::Body => self.lines.fault(ConnFault::Read),
+            Stage::Reply => self.lines.fault(ConnFault::Write),
+            Stage::Closing => {}
+        }
     }
 
     // Whether the time of the connection in a slot is up.
@@ -256,16 +280,35 @@ impl Sockets {
         self.leave(slot, side.list)
     }
 
-    /// The device has failed: replies that wait go out as far as the sockets take them at once. What the last round told may not
-    /// have been looked at. So nothing goes to a socket that came or was written to in it: what is shown of its slot may
-    /// have gone out already, or be the reply of the connection that was there before.
-    pub(crate) fn show_last(&mut self, connections: &Connections) {
+    /// The device has failed: replies that wait go out as far as the sockets take them at once. What the last round
+    /// told may not have been looked at. So nothing goes to a socket that came or was written to in it: what is
+    /// shown of its slot may have gone out already, or be the reply of the connection that was there before.
+    pub(crate) fn show_last(&mut self, connections: &Connections, now: Option<Instant>) {
         for slot in 0..self.sides.len() {
             if let Some(mut side) = self.take_out(slot) {
                 if !side.is_ahead {
-                    let _ = side.stream.write(connections.outgoing(slot));
+                    self.write_last(connections, slot, &mut side, now);
                 }
                 let _ = side.stream.shutdown(Shutdown::Write);
+            }
+        }
+    }
+
+    // One write, after which nothing more is written to the socket.
+    fn write_last(
+        &mut self,
+        connections: &Connections,
+        slot: usize,
+        side: &mut Side,
+        now: Option<Instant>,
+    ) {
+        let text = connections.outgoing(slot);
+        if text.is_empty() {
+            return;
+        }
+        if let (Ok(count), Some(now)) = (side.stream.write(text), now) {
+            if count == text.len() {
+                self.replied(connections, slot, side, now);
             }
         }
     }

@@ -1,10 +1,11 @@
 //! The turn of a socket: one read or write, and what became of it.
 use crate::fault::LoopFault;
 use crate::patience::Stage;
-use crate::side::{Side, waits};
+use crate::side::{Parting, Side, waits};
 use crate::sockets::{Sockets, stage};
 use crate::transfers::{read_event, write_event};
-use connections::{Connections, Event};
+use bureau_http::ConnFault;
+use connections::{Connections, Event, Phase};
 use std::io;
 use std::time::Instant;
 
@@ -38,26 +39,27 @@ impl Sockets {
             return Ok(self.read_out(side));
         }
         if connections.is_free(slot) {
+            self.part(side);
             side.close(now);
             return Ok(Visit::Goes);
         }
-        let text = connections.outgoing(slot);
-        if !text.is_empty() {
-            return self.write(text, slot, side, now, told);
+        if connections.outgoing(slot).is_empty() {
+            self.read(connections, slot, side, now, told)
+        } else {
+            self.write(connections, slot, side, now, told)
         }
-        let begins = stage(connections, slot, side) == Stage::Idle;
-        self.read(slot, side, begins, now, told)
     }
 
     // One read.
     fn read(
         &mut self,
+        connections: &Connections,
         slot: usize,
         side: &mut Side,
-        begins: bool,
         now: Instant,
         told: &mut Vec<Event>,
     ) -> Result<Visit, LoopFault> {
+        let begins = stage(connections, slot, side) == Stage::Idle;
         let most = side.room.min(self.room.len());
         if most == 0 {
             return Ok(Visit::Short);
@@ -65,33 +67,82 @@ impl Sockets {
         let (room, _) = self.room.split_at_mut(most);
         match read_event(self.alloc, &mut side.stream, slot, room) {
             Ok(event) => {
+                if let Event::Ended(_) = &event {
+                    ended(connections, slot, side);
+                }
                 side.hear(now, begins);
                 told.push(event)?;
                 Ok(Visit::Goes)
             }
-            Err(error) => stopped(slot, &error, told),
+            Err(error) => self.stopped(slot, &error, ConnFault::Read, told),
         }
     }
 
     // One write.
     fn write(
         &mut self,
-        text: &[u8],
+        connections: &Connections,
         slot: usize,
         side: &mut Side,
         now: Instant,
         told: &mut Vec<Event>,
     ) -> Result<Visit, LoopFault> {
+        let text = connections.outgoing(slot);
         match write_event(&mut side.stream, slot, text) {
             Ok(event) => {
                 // After a whole reply the next request begins.
                 let begins = matches!(&event, Event::Wrote(_, count) if *count == text.len());
+                if begins {
+                    self.replied(connections, slot, side, now);
+                }
                 side.hear(now, begins);
                 side.is_ahead = true;
                 told.push(event)?;
                 Ok(Visit::Goes)
             }
-            Err(error) => stopped(slot, &error, told),
+            Err(error) => self.stopped(slot, &error, ConnFault::Write, told),
+        }
+    }
+
+    // The reply that was shown went out whole: the log gets its line.
+    pub(crate) fn replied(
+        &mut self,
+        connections: &Connections,
+        slot: usize,
+        side: &mut Side,
+        now: Instant,
+    ) {
+        if let Some(Some(connection)) = connections.slots.get(slot) {
+            side.parting = Parting::of(connection, connection.phase);
+            if let Some(note) = &connection.note {
+                self.lines.request(note, side.taken(now));
+            }
+        }
+    }
+
+    // The desk has let a connection go.
+    fn part(&mut self, side: &Side) {
+        if let Some(fault) = side.parting.fault() {
+            self.lines.fault(fault);
+        }
+    }
+
+    // A read or a write didn't do. Where the system wouldn't only make it wait, the connection is given up.
+    fn stopped(
+        &mut self,
+        slot: usize,
+        error: &io::Error,
+        fault: ConnFault,
+        told: &mut Vec<Event>,
+    ) -> Result<Visit, LoopFault> {
+        match waits(error) {
+            Some(true) => Ok(Visit::Waits),
+            Some(false) => {
+                self.lines.fault(fault);
+                told.push(Event::Failed(slot))?;
+                Ok(Visit::Over)
+            }
+            None => Ok(Visit::Goes),
         }
     }
 
@@ -109,14 +160,9 @@ impl Sockets {
     }
 }
 
-// A read or a write didn't do. Where the system wouldn't only make it wait, the connection is given up.
-fn stopped(slot: usize, error: &io::Error, told: &mut Vec<Event>) -> Result<Visit, LoopFault> {
-    match waits(error) {
-        Some(true) => Ok(Visit::Waits),
-        Some(false) => {
-            told.push(Event::Failed(slot))?;
-            Ok(Visit::Over)
-        }
-        None => Ok(Visit::Goes),
+// The peer of a connection has ended its side.
+fn ended(connections: &Connections, slot: usize, side: &mut Side) {
+    if let Some(Some(connection)) = connections.slots.get(slot) {
+        side.parting = Parting::of(connection, Phase::Ended);
     }
 }

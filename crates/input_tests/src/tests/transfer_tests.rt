@@ -43,7 +43,8 @@ fn sources(rt: HostRuntime) -> Result<(), Fail> {
     Ok(())
 }
 
-// How many bytes are read up to a limit, each as the reader gave it, and how many retries are left. No count: a read failed.
+// How many bytes are read up to a limit, each as the reader gave it, and how many retries are left. No count: a
+// read failed.
 fn read_text(
     rt: &impl Abort,
     alloc: Global,
@@ -206,8 +207,8 @@ fn another_failure_ends_a_transfer_at_once(rt: HostRuntime) -> Result<(), Fail> 
     Ok(())
 }
 
-// What comes of reading a text and of writing it, where reads, writes and flushes fail: whether it is read, whether it is
-// written, and how many retries are left of those that both share.
+// What comes of reading a text and of writing it, where reads, writes and flushes fail: whether it is read, whether
+// it is written, and how many retries are left of those that both share.
 fn transfer_text(
     alloc: Global,
     reads: Failures,

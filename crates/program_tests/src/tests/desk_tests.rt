@@ -1,5 +1,6 @@
-//! A desk of a publisher and two clients, from the bytes of connections to the bytes of replies: worked requests, each with
-//! its reply, also where the connection is cut after any byte and where the output takes any part of the replies.
+//! A desk of a publisher and two clients, from the bytes of connections to the bytes of replies: worked requests,
+//! each with its reply, also where the connection is cut after any byte and where the output takes any part of the
+//! replies.
 use bureau_program::run_replay;
 use std::alloc::Global;
 use std::fmt::Debug;

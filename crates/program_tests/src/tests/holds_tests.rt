@@ -236,8 +236,8 @@ fn readers_that_are_interrupted_or_fail(rt: HostRuntime) -> Result<(), Fail> {
     Ok(())
 }
 
-// The piece, the interruptions, the room, whether a write fails where there is none, the status, how many bytes are taken, and
-// what is written to standard error.
+// The piece, the interruptions, the room, whether a write fails where there is none, the status, how many bytes are
+// taken, and what is written to standard error.
 type Writing = (usize, u32, usize, bool, u8, usize, &'static str);
 
 static WRITERS: [Writing; 6] = [

@@ -49,7 +49,7 @@ static TAKEN: [(&[&str], &str); 14] = [
     ),
     (
         &["serve", "s"],
-        "Serve { port: 8080, cache: 1024, connections: 1000000, most_open: 1024, store: \"s\" }",
+        "Serve { port: 8080, cache: 1024, connections: 1000000, most_open: 1024, log: false, store: \"s\" }",
     ),
     (
         &[
@@ -60,9 +60,10 @@ static TAKEN: [(&[&str], &str); 14] = [
             "--cache",
             "2",
             "--open=8192",
+            "--log",
             "s",
         ],
-        "Serve { port: 65535, cache: 2, connections: 1, most_open: 8192, store: \"s\" }",
+        "Serve { port: 65535, cache: 2, connections: 1, most_open: 8192, log: true, store: \"s\" }",
     ),
     (
         &["replay", "c", "a"],

@@ -221,6 +221,7 @@ fn served<S: Alter + Drop>(
         cache: 1,
         connections,
         most_open: 2,
+        log: true,
     };
     let (mut output, mut errors) = (Vec::new(alloc), Vec::new(alloc));
     let (status, _) = open_and_serve(around, alloc, service, conn, &mut output, &mut errors);
@@ -240,7 +241,7 @@ fn a_desk_serves_as_many_as_it_is_asked_to(rt: HostRuntime) -> Result<(), Fail> 
         let (told, errors) = served(&mut around, alloc, fresh(alloc)?, connections)?;
         assert_equal_at(connections, told.as_str(), LISTENING)?;
         assert_equal_at(connections, errors.len(), 0)?;
-        assert_equal_at(connections, around.asked, (4_711, 2))?;
+        assert_equal_at(connections, around.asked, (4_711, 2, true))?;
         let passed = match &around.port_has {
             PortHas::Passers(passed) => *passed,
             _ => 0,
@@ -285,15 +286,29 @@ fn assert_received(alloc: Global, client: &mut TcpStream, wanted: &[u8]) -> Resu
     assert_equal(str::from_utf8(got.as_slice()), str::from_utf8(wanted))
 }
 
-// Two clients, of which one sends half of a head and no more. None closes its side. By the desk's clock ten seconds pass in each
-// round, so that it needs no minute to let them go.
+// How many lines of a log have this after the time, and before the last word.
+fn lines_with(log: &[u8], wanted: &str) -> Result<u32, Fail> {
+    let mut count = 0u32;
+    for line in str::from_utf8(log)?.lines() {
+        let (_, rest) = line.split_once(' ').ok_or("a time")?;
+        let (shown, _) = rest.rsplit_once(' ').ok_or("a last word")?;
+        if shown == wanted {
+            count = count.saturating_add(1);
+        }
+    }
+    Ok(count)
+}
+
+// Two clients, of which one sends half of a head and no more. None closes its side. By the desk's clock five
+// seconds pass at each look, of which a round with a log has two, so that it needs no minute to let them go.
 #[test]
 fn a_desk_answers_beside_a_silent_client_and_lets_both_go(rt: HostRuntime) -> Result<(), Fail> {
     let alloc = rt.alloc();
     let keys = RandomState::new(&rt)?;
-    let clock = Ticking::new(10);
+    let clock = Ticking::new(5);
     let address = SocketAddr::from((Ipv4Addr::LOCALHOST, 0u16));
-    let Ok(sockets) = SocketRounds::new(&rt, alloc, &clock, address, 2, Patience::usual()) else {
+    let (patience, log) = (Patience::usual(), Some(Vec::new(alloc)));
+    let Ok(sockets) = SocketRounds::new(&rt, alloc, &clock, address, 2, patience, log) else {
         return Err("no sockets".into());
     };
     let mut silent = TcpStream::connect(&rt, sockets.address()?)?;
@@ -307,5 +322,18 @@ fn a_desk_answers_beside_a_silent_client_and_lets_both_go(rt: HostRuntime) -> Re
     assert_equal(errors.len(), 0)?;
     let wanted = repeated(alloc, UNKNOWN, 8)?;
     assert_received(alloc, &mut client, wanted.as_slice())?;
-    assert_received(alloc, &mut silent, b"")
+    assert_received(alloc, &mut silent, b"")?;
+    assert_logged(&around)
+}
+
+// Each of the eight requests has its line, and so has the client that was let go.
+fn assert_logged(around: &Around<'_>) -> Result<(), Fail> {
+    let log = match &around.port_has {
+        PortHas::Sockets(sockets) => sockets.log(),
+        _ => None,
+    };
+    let log = log.ok_or("a log")?.as_slice();
+    assert_equal(lines_with(log, "- GET /zones 401 23 115")?, 8)?;
+    assert_equal(lines_with(log, "- FAULT")?, 1)?;
+    assert_equal(str::from_utf8(log)?.lines().count(), 9)
 }

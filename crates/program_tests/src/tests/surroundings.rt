@@ -24,21 +24,21 @@ pub(crate) enum PortHas<'a> {
     /// Nothing is told of connections, for this cause.
     Fault(RoundFault),
     /// Sockets, by a clock that a test sets.
-    Sockets(SocketRounds<'a, Ticking>),
+    Sockets(SocketRounds<'a, Ticking, Vec<u8>>),
     /// Connections that come and end at once. So many did.
     Passers(u64),
 }
 
-/// Words, files that are interrupted so often, and what each port has. Memory runs out where a store may be made, and there
-/// is none where it may not. A store of another name can't be opened.
+/// Words, files that are interrupted so often, and what each port has. Memory runs out where a store may be made,
+/// and there is none where it may not. A store of another name can't be opened.
 #[derive(Drop)]
 pub(crate) struct Around<'a> {
     words: &'static [&'static str],
     interruptions: u32,
     /// What each port has.
     pub(crate) port_has: PortHas<'a>,
-    /// The port that was asked for, and how many were to be open at once.
-    pub(crate) asked: (u16, u32),
+    /// The port that was asked for, how many were to be open at once, and whether a log was to be kept.
+    pub(crate) asked: (u16, u32, bool),
     keys: RandomState,
 }
 
@@ -53,7 +53,7 @@ impl<'a> Around<'a> {
             words,
             interruptions,
             port_has: PortHas::Nothing,
-            asked: (0, 0),
+            asked: (0, 0, false),
             keys,
         }
     }
@@ -64,7 +64,7 @@ impl<'a> Around<'a> {
             words: &[],
             interruptions: 0,
             port_has,
-            asked: (0, 0),
+            asked: (0, 0, false),
             keys,
         }
     }
@@ -165,7 +165,7 @@ impl Surroundings for Around<'_> {
 
     ghost known_words = { λ _. None };
 
-    ghost known_port = { λ _ _ _. Unit {0} };
+    ghost known_port = { λ _ _ _ _. Unit {0} };
 
     fn words(&self, alloc: Global) -> Result<Vec<String>, LineFault> {
         let mut words = Vec::new(alloc);
@@ -176,8 +176,8 @@ impl Surroundings for Around<'_> {
         Ok(words)
     }
 
-    fn listen(&mut self, _alloc: Global, port: u16, most_open: u32) -> io::Result<()> {
-        self.asked = (port, most_open);
+    fn listen(&mut self, _alloc: Global, port: u16, most_open: u32, log: bool) -> io::Result<()> {
+        self.asked = (port, most_open, log);
         match self.port_has {
             PortHas::Nothing => Err(io::Error::from(ErrorKind::AddrInUse)),
             _ => Ok(()),

@@ -1,7 +1,7 @@
 //! A byte of the log that is damaged: what it is in can't be read.
 //!
-//! The database refuses a read that finds the damage, but would commit what comes after it, and lose that at the next opening. So
-//! the store is closed from the first refusal on.
+//! The database refuses a read that finds the damage, but would commit what comes after it, and lose that at the
+//! next opening. So the store is closed from the first refusal on.
 use super::desk::{Trial, worked};
 use super::files::{InFiles, Opening, store_in};
 use super::script::{Checked, REQUESTS};

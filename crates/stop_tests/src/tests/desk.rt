@@ -209,8 +209,8 @@ fn answer_to<S: Store, J: Judge<S>>(
     })
 }
 
-// Asks these one after the other until one is told that there is no room. Then all later ones are told so too. How many were
-// answered, each as it should be.
+// Asks these one after the other until one is told that there is no room. Then all later ones are told so too. How
+// many were answered, each as it should be.
 fn served<S: Store, J: Judge<S>>(
     known: &mut ListStore,
     bureau: &mut Bureau<S, J>,
@@ -322,8 +322,8 @@ impl Trial {
         self.ends(stage, bureau)
     }
 
-    // Looks what a store has at this stage. Then all that is left of the script is asked, and has the answers that it has without
-    // a stop.
+    // Looks what a store has at this stage. Then all that is left of the script is asked, and has the answers that
+    // it has without a stop.
     fn goes_on<S: Store + Drop>(&mut self, stage: Stage, store: S) -> Checked<()> {
         let mut bureau = self.desk(store)?;
         self.goes_on_at(stage, &mut bureau)

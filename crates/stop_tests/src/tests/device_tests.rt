@@ -1,7 +1,8 @@
 //! A device that fails at each of its calls in turn, while a store is made and while a script is served.
 //!
-//! What is opened after the stop has all that was acknowledged, with or without the change that was on its way, and nothing else.
-//! Then that change is sent again, and all that is left of the script has the answers that it has without a stop.
+//! What is opened after the stop has all that was acknowledged, with or without the change that was on its way, and
+//! nothing else. Then that change is sent again, and all that is left of the script has the answers that it has
+//! without a stop.
 use super::desk::{Stage, Trial, worked};
 use super::files::{
     Calls, Failing, InFiles, Opening, SHORT_LOG, after_kill, after_power_loss, closed, files_of,

@@ -1,6 +1,7 @@
 //! Files in memory, and a store in them.
 //!
-//! Each call with a contract of its own stands in a function of its own that promises little, so that no proof carries much along.
+//! Each call with a contract of its own stands in a function of its own that promises little, so that no proof
+//! carries much along.
 ghost use Rattle.std.specs.Prelude.{◌≡◌, IfOk, false};
 
 use super::script::Checked;
@@ -99,7 +100,8 @@ pub(crate) fn closed<D: Disk + Drop>(conn: Connection<FileStore<D>>) -> Result<F
     }
 }
 
-/// The store that is found in these files, whose device doesn't fail, and whether there was one. One is made where none was.
+/// The store that is found in these files, whose device doesn't fail, and whether there was one. One is made where
+/// none was.
 pub(crate) fn found<D: Disk + Drop>(
     alloc: Global,
     callers: &[CallerRow],

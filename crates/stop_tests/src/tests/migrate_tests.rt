@@ -1,7 +1,7 @@
 //! A device that fails at each of its calls in turn, while a store of version 1 is made one of version 2.
 //!
-//! What is found after the stop is of version 1, and is migrated then, or of version 2. Either way it has all that it had, and the
-//! script goes on.
+//! What is found after the stop is of version 1, and is migrated then, or of version 2. Either way it has all that
+//! it had, and the script goes on.
 use super::desk::{Stage, Trial, worked};
 use super::files::{
     ALL, Calls, Device, Failing, InFiles, Opening, SHORT_LOG, after_kill, after_power_loss, closed,
@@ -67,7 +67,8 @@ fn taken_back<D: Disk + Drop>(mut conn: Opened<D>) -> Checked<Files<D>> {
     closed(conn).ok().ok_or("the files")
 }
 
-// These files, which are new, with a store of version 1 over which the script was served up to where the files are closed.
+// These files, which are new, with a store of version 1 over which the script was served up to where the files are
+// closed.
 fn earlier<D: Disk + Drop>(trial: &mut Trial, files: Files<D>) -> Checked<Files<D>> {
     let store = begun(trial, files)?;
     taken_back(served(trial, store)?)

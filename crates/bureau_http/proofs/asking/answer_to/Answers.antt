@@ -1,4 +1,4 @@
-use Rattle.std.proofs.Common.{◌≡◌, refl, sym, ap, ◌∙◌, Ok}
+use Rattle.std.proofs.Common.{◌≡◌, inl, refl, sym, ap, ◌∙◌, Ok}
 use Rattle.bureau_store.specs.declared.caller.Caller.{Caller}
 use Rattle.bureau.specs.Call.{Call}
 use Rattle.bureau.specs.Calls.{call_as}
@@ -6,7 +6,7 @@ use Rattle.bureau.specs.Replies.{reply_as}
 use Rattle.bureau_http.specs.Asked.{what_of}
 use Rattle.requests.specs.NextRequest.{body_in, parts_in}
 use Rattle.requests.specs.Request.{number_of}
-use Rattle.bureau_http.proofs.AskingFacts.{among, call_run, looked_at, made}
+use Rattle.bureau_http.proofs.AskingFacts.{among, call_run, known, looked_at, made}
 use Rattle.bureau_http.proofs.asking.answer_to.Goals as goal
 
 pub returns-in-Ok-action-clause-told : goal.returns-in-Ok-action-clause-told
@@ -29,5 +29,6 @@ returns-in-Ok-action-clause-told g c = record {
         step.0,
         (asked, what, step.1.step),
         call_run view c.args.desk.now c.answer.new.self this c.caller_of.new.self (what_of this.callers parts body) asked (reply_as c.answer.result) step.0 what looked step.1,
+        inl (known this.callers parts c.in-Some.token.now c.in-Some-found.caller is_token is_caller),
       );
 }

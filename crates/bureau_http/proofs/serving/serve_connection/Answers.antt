@@ -1,11 +1,11 @@
-use Rattle.std.proofs.Common.{◌-◌, [], rules, ap, ◌∙◌, refl, Ok, IfSome, arith}
+use Rattle.std.proofs.Common.{◌-◌, [], rules, ap, ◌∙◌, refl, Ok, IfSome, arith, subst, sym}
 use Rattle.std.specs.Io.KnownBytes.{prepend_known}
 use Rattle.std.proofs.lemmas.Result.{err_from_is_err_and}
 use Rattle.bureau.proofs.KeptFacts.{idle}
 use Rattle.bureau.specs.Kept.{IsKeptRun}
 use Rattle.catalogue.proofs.SourceFacts.{goes_on}
 use Rattle.catalogue.specs.View.{Tells}
-use Rattle.bureau_http.specs.Served.{IsServed}
+use Rattle.bureau_http.specs.Served.{IsServed, Stays}
 use Rattle.bureau_http.proofs.NextFacts.{acts_once, ended_served, failed_served, last_served, one_served, ran_next}
 use Rattle.bureau_http.proofs.ServingFacts.{exit_as, nothing_yet}
 use Rattle.bureau_http.proofs.serving.serve_connection.Goals as goal
@@ -43,7 +43,7 @@ returns-in-Ends-clause-served g c =
     (g.R.Read.remaining c.args.reader.now) (prepend_known c.loop-intake.intake (g.R.Read.remaining c.loop-intake.reader)) (g.R.Read.remaining c.serve_next.new.reader)
     (g.W.Write.contents c.args.writer.now) (g.W.Write.contents c.loop-intake.writer) (g.W.Write.contents c.serve_next.new.writer)
     c.serve_next.result c.loop-intake.invariant.so_far c.serve_next.ensures.next
-    (c.in_ok-serve_next.was ∙ ap (λ s. Ok s) c.in-Ends.is)
+    c.in-Ends.field-0 (c.in_ok-serve_next.was ∙ ap (λ s. Ok s) c.in-Ends.is)
 
 pub loop-intake-init : goal.loop-intake-init
 loop-intake-init g c =
@@ -63,7 +63,7 @@ loop-intake-init g c =
 
 pub loop-intake-preserved : goal.loop-intake-preserved
 loop-intake-preserved g c =
-    let low = c.in_ok-serve_next.ensures.within c.in-Stays.is in
+    let low = c.in_ok-serve_next.ensures.within (subst Stays (sym c.in-Stays.is) tt) in
     let first = c.loop-intake.invariant.first in
     record {
       goes = goes_on c.loop-intake.invariant.goes c.serve_next.ensures.goes;
@@ -76,7 +76,7 @@ loop-intake-preserved g c =
           (g.R.Read.remaining c.args.reader.now) (prepend_known c.loop-intake.intake (g.R.Read.remaining c.loop-intake.reader)) (g.R.Read.remaining c.serve_next.new.reader)
           (g.W.Write.contents c.args.writer.now) (g.W.Write.contents c.loop-intake.writer) (g.W.Write.contents c.serve_next.new.writer)
           c.serve_next.result c.loop-intake.invariant.so_far c.serve_next.ensures.next
-          (c.in_ok-serve_next.was ∙ ap (λ s. Ok s) c.in-Stays.is);
+          c.in-Stays.field-0 (c.in_ok-serve_next.was ∙ ap (λ s. Ok s) c.in-Stays.is);
     }
 
 pub returns-in_err-serve_next-clause-ran : goal.returns-in_err-serve_next-clause-ran

@@ -1,11 +1,12 @@
 use Rattle.std.proofs.Common.{[], refl}
 use Rattle.std.proofs.lemmas.Result.{err_from_is_err_and}
+use Rattle.lemmas.proofs.ResultFacts.{if_some}
 use Rattle.catalogue.proofs.SourceFacts.{told_so}
 use Rattle.bureau.proofs.KeptFacts.{idle, kept_run}
 use Rattle.bureau.specs.Kept.{IsKeptRun}
 use Rattle.bureau_http.specs.Served.{IsServed}
 use Rattle.bureau_http.specs.declared.fault.ConnFault.TheVariants.{Memory}
-use Rattle.bureau_http.proofs.ServingFacts.{ActOnce, each_is, exit_as, map_some, nothing_served}
+use Rattle.bureau_http.proofs.ServingFacts.{ActOnce, exit_as, map_some, nothing_served}
 use Rattle.bureau_http.proofs.LawfulFacts.{one_lawful, ran_lawful}
 use Rattle.bureau_http.proofs.serving.serve_one.Goals as goal
 
@@ -20,7 +21,7 @@ returns-in_err-routes-clause-served g c = record {
       (c.repeats.ensures.once this next calls plain, c.repeats.ensures.stale this next calls plain) in
       let left = g.R.Read.remaining c.args.reader.now in
       let kept = g.W.Write.contents c.args.writer.now in
-      each_is _ left (λ bytes is_left.
+      if_some _ left (λ bytes is_left.
       one_lawful view desk desk this left kept kept c.from_residual.result bytes
       (exit_as (λ r. IsServed runs this left kept kept r bytes) c.from_residual.result Memory Memory
       (err_from_is_err_and c.from_residual.result c.from_residual.ensures.1) refl (nothing_served runs once this left kept bytes (refl, idle g.D.Desk.tables_view c.args.desk.now this stands) is_left)));

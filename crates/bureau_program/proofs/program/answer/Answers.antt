@@ -33,7 +33,7 @@ returns-in-Ok-Serve g c =
     let at = c.args.surroundings.now in
     let of : Found = found_in (g.S.Files.known_file at) (g.S.Stores.known_store at) (g.S.Surroundings.known_port at) (g.S.Rounds.is_over c.run_serve.new.surroundings) (g.S.Rounds.log at) (g.S.Rounds.log c.run_serve.new.surroundings) in
     let input = g.I.Read.remaining c.args.input.now in
-    let service : Service = record { port = c.in-Ok-Serve.port; cache = c.in-Ok-Serve.cache; connections = c.in-Ok-Serve.connections; most_open = c.in-Ok-Serve.most_open } in
+    let service : Service = record { port = c.in-Ok-Serve.port; cache = c.in-Ok-Serve.cache; connections = c.in-Ok-Serve.connections; most_open = c.in-Ok-Serve.most_open; log = c.in-Ok-Serve.log } in
     let outputs : Outputs = record {
       output = g.O.Write.contents c.args.output.now;
       written = g.O.Write.contents c.run_serve.new.writer;

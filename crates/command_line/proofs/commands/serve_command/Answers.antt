@@ -12,7 +12,8 @@ returns-clause-app c =
     let cached = c.in_ok-arg-2.ensures.shape c.cache_option.ensures.local ∙ ap₂ with_rule listens c.cache_option.ensures.rule in
     let ends = c.in_ok-arg-3.ensures.shape c.connections_option.ensures.local ∙ ap₂ with_rule cached c.connections_option.ensures.rule in
     let side = c.in_ok-arg-4.ensures.shape c.open_option.ensures.local ∙ ap₂ with_rule ends c.open_option.ensures.rule in
-    IfOk-weaker c.arg-5.result _ _ (λ command adds. adds.shape c.store_argument-store.ensures.local ∙ ap₂ with_rule side c.store_argument-store.ensures.rule) c.arg-5.ensures
+    let logs = c.in_ok-arg-5.ensures.shape c.log_option.ensures.local ∙ ap₂ with_rule side c.log_option.ensures.rule in
+    IfOk-weaker c.arg-6.result _ _ (λ command adds. adds.shape c.store_argument-store.ensures.local ∙ ap₂ with_rule logs c.store_argument-store.ensures.rule) c.arg-6.ensures
 
 pub returns-clause-local : goal.returns-clause-local
 returns-clause-local c =
@@ -20,4 +21,5 @@ returns-clause-local c =
     let cached : (fields_of c.in_ok-arg-2.field-0).has_globals ≡ false = search rules in
     let ends : (fields_of c.in_ok-arg-3.field-0).has_globals ≡ false = search rules in
     let side : (fields_of c.in_ok-arg-4.field-0).has_globals ≡ false = search rules in
-    IfOk-weaker c.arg-5.result _ _ (λ command adds. search rules) c.arg-5.ensures
+    let logs : (fields_of c.in_ok-arg-5.field-0).has_globals ≡ false = search rules in
+    IfOk-weaker c.arg-6.result _ _ (λ command adds. search rules) c.arg-6.ensures

@@ -12,7 +12,7 @@ no_line : (rows : List Row) (line : Line) → ((sysmod : Text) (files : ReportFi
     → IsLineWith (codes "chain") rows line → ⊥
 no_line rows (Holds file) none is = other_command 99 104 (omega arith) (ap letter is.0)
 no_line rows (Init store callers) none is = other_command 99 105 (omega arith) (ap letter is.0)
-no_line rows (Serve port cache connections most_open store) none is = other_command 99 115 (omega arith) (ap letter is.0)
+no_line rows (Serve port cache connections most_open log store) none is = other_command 99 115 (omega arith) (ap letter is.0)
 no_line rows (Replay cache callers files) none is = other_command 99 114 (omega arith) (ap letter is.0)
 no_line rows (Migrate store) none is = other_command 99 109 (omega arith) (ap letter is.0)
 no_line rows (ErrSysmods files) none is = other_command 99 101 (omega arith) (ap letter is.0)

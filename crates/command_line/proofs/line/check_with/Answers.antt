@@ -10,7 +10,7 @@ use Rattle.command_line.proofs.line.check_with.Goals as goal
 storeless : (rows : List Row) (line : Line) → first_of (codes "store") rows ≡ None → IsLineWith (codes "check") rows line → ⊥
 storeless rows (Holds file) none is = other_command 99 104 (omega arith) (ap letter is.0)
 storeless rows (Init store callers) none is = other_command 99 105 (omega arith) (ap letter is.0)
-storeless rows (Serve port cache connections most_open store) none is = other_command 99 115 (omega arith) (ap letter is.0)
+storeless rows (Serve port cache connections most_open log store) none is = other_command 99 115 (omega arith) (ap letter is.0)
 storeless rows (Replay cache callers files) none is = other_command 99 114 (omega arith) (ap letter is.0)
 storeless rows (Migrate store) none is = other_command 99 109 (omega arith) (ap letter is.0)
 storeless rows (ErrSysmods files) none is = other_command 99 101 (omega arith) (ap letter is.0)

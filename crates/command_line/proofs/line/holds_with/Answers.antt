@@ -10,7 +10,7 @@ use Rattle.command_line.proofs.line.holds_with.Goals as goal
 fileless : (rows : List Row) (line : Line) → first_of (codes "file") rows ≡ None → IsLineWith (codes "holds") rows line → ⊥
 fileless rows (Holds file) none is = let no : None ≡ Some (string_bytes file) = sym none ∙ is.1 in cc
 fileless rows (Init store callers) none is = other_command 104 105 (omega arith) (ap letter is.0)
-fileless rows (Serve port cache connections most_open store) none is = other_command 104 115 (omega arith) (ap letter is.0)
+fileless rows (Serve port cache connections most_open log store) none is = other_command 104 115 (omega arith) (ap letter is.0)
 fileless rows (Replay cache callers files) none is = other_command 104 114 (omega arith) (ap letter is.0)
 fileless rows (Migrate store) none is = other_command 104 109 (omega arith) (ap letter is.0)
 fileless rows (ErrSysmods files) none is = other_command 104 101 (omega arith) (ap letter is.0)

@@ -12,7 +12,7 @@ no_line : (rows : List Row) (line : Line)
     → IsLineWith (codes "init") rows line → ⊥
 no_line rows (Holds file) none is = other_command 105 104 (omega arith) (ap letter is.0)
 no_line rows (Init store callers) none is = none (string_bytes store) (string_bytes callers) is.1
-no_line rows (Serve port cache connections most_open store) none is = other_command 105 115 (omega arith) (ap letter is.0)
+no_line rows (Serve port cache connections most_open log store) none is = other_command 105 115 (omega arith) (ap letter is.0)
 no_line rows (Replay cache callers files) none is = other_command 105 114 (omega arith) (ap letter is.0)
 no_line rows (Migrate store) none is = other_command 105 109 (omega arith) (ap letter is.0)
 no_line rows (ErrSysmods files) none is = other_command 105 101 (omega arith) (ap letter is.0)

@@ -10,7 +10,7 @@ use Rattle.command_line.proofs.line.migrate_with.Goals as goal
 storeless : (rows : List Row) (line : Line) → first_of (codes "store") rows ≡ None → IsLineWith (codes "migrate") rows line → ⊥
 storeless rows (Holds file) none is = other_command 109 104 (omega arith) (ap letter is.0)
 storeless rows (Init store callers) none is = other_command 109 105 (omega arith) (ap letter is.0)
-storeless rows (Serve port cache connections most_open store) none is = other_command 109 115 (omega arith) (ap letter is.0)
+storeless rows (Serve port cache connections most_open log store) none is = other_command 109 115 (omega arith) (ap letter is.0)
 storeless rows (Replay cache callers files) none is = other_command 109 114 (omega arith) (ap letter is.0)
 storeless rows (Migrate store) none is = let no : None ≡ Some (string_bytes store) = sym none ∙ is.1 in cc
 storeless rows (ErrSysmods files) none is = other_command 109 101 (omega arith) (ap letter is.0)

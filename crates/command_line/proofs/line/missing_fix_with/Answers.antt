@@ -10,7 +10,7 @@ use Rattle.command_line.proofs.line.missing_fix_with.Goals as goal
 no_line : (rows : List Row) (line : Line) → ((files : ReportFiles) → HasFiles rows files → ⊥) → IsLineWith (codes "missingfix") rows line → ⊥
 no_line rows (Holds file) none is = other_command 109 104 (omega arith) (ap letter is.0)
 no_line rows (Init store callers) none is = other_command 109 105 (omega arith) (ap letter is.0)
-no_line rows (Serve port cache connections most_open store) none is = other_command 109 115 (omega arith) (ap letter is.0)
+no_line rows (Serve port cache connections most_open log store) none is = other_command 109 115 (omega arith) (ap letter is.0)
 no_line rows (Replay cache callers files) none is = other_command 109 114 (omega arith) (ap letter is.0)
 no_line rows (Migrate store) none is = other_command 115 103 (omega arith) (ap third_letter is.0)
 no_line rows (ErrSysmods files) none is = other_command 109 101 (omega arith) (ap letter is.0)

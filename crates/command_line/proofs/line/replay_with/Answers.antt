@@ -16,7 +16,7 @@ no_line : (rows : List Row) (line : Line) → ((cache : ℕ) (callers : Text) (f
     → IsLineWith (codes "replay") rows line → ⊥
 no_line rows (Holds file) none is = other_command 114 104 (omega arith) (ap letter is.0)
 no_line rows (Init store callers) none is = other_command 114 105 (omega arith) (ap letter is.0)
-no_line rows (Serve port cache connections most_open store) none is = other_command 114 115 (omega arith) (ap letter is.0)
+no_line rows (Serve port cache connections most_open log store) none is = other_command 114 115 (omega arith) (ap letter is.0)
 no_line rows (Replay cache callers files) none is = none cache (string_bytes callers) (map string_bytes files.items) is.1
 no_line rows (Migrate store) none is = other_command 114 109 (omega arith) (ap letter is.0)
 no_line rows (ErrSysmods files) none is = other_command 114 101 (omega arith) (ap letter is.0)

@@ -6,5 +6,5 @@ returns c =
     let self = c.args.self.now in (
       drop c.args.count self.out,
       sym (take-append-drop c.args.count self.out),
-      ap (λ l. record { held = self.held; out = l; ordinal = self.ordinal; phase = self.phase }) c.wrote.ensures,
+      ap (λ l. record { held = self.held; out = l; note = self.note; ordinal = self.ordinal; phase = self.phase }) c.wrote.ensures,
     )

@@ -1,0 +1,74 @@
+//! What the log notes of a request.
+ghost use Rattle.std.specs.Prelude.{◌≡◌, [], true};
+ghost use Rattle.log_lines.specs.Words.{none, word_of};
+ghost use Rattle.bureau_http.specs.Noted.{caller_word, name_of};
+ghost use Rattle.bureau_http.specs.Told.{IsToldAs};
+ghost use Rattle.requests.specs.NextRequest.{IsAt, parts_in, request_len};
+ghost use Rattle.requests.specs.Order.{is_bare};
+ghost use Rattle.requests.specs.Request.{path_of};
+
+use crate::reply::Told;
+use bureau_store::Caller;
+use log_lines::{Note, Word};
+use requests::Request;
+
+/// What is noted of a whole request that a caller, if it is one's, was told this.
+pub(crate) fn note_of(
+    told: &Told,
+    caller: Option<Caller>,
+    request: &Request,
+    bytes: &[u8],
+    closes: bool,
+) -> Note
+    requires { IsAt bytes.now request.now }
+    ensures caller { result.caller ≡ caller_word caller }
+    ensures told { IsToldAs (parts_in bytes.now request.now).method
+        (path_of (parts_in bytes.now request.now).target)
+        told.now (is_bare (parts_in bytes.now request.now)) closes result }
+    ensures came { result.came ≡ request_len request.now }
+{
+    Note {
+        caller: caller_word(caller),
+        method: Word::of(request.method(bytes)),
+        path: Word::of(request.path(bytes)),
+        status: told.status(closes),
+        came: request.len() as u64,
+        went: told.len(request.is_bare(bytes), closes) as u64,
+    }
+}
+
+/// What is noted of a head that is refused, of which so many bytes came.
+pub(crate) fn note_refused(told: &Told, came: usize, is_bare: bool) -> Note
+    ensures caller { result.caller ≡ none }
+    ensures told { IsToldAs [] [] told.now is_bare true result }
+    ensures came { result.came ≡ came }
+{
+    Note {
+        caller: Word::none(),
+        method: Word::none(),
+        path: Word::none(),
+        status: told.status(true),
+        came: came as u64,
+        went: told.len(is_bare, true) as u64,
+    }
+}
+
+// The word of the name of a caller, if there is one.
+fn caller_word(caller: Option<Caller>) -> Word
+    ensures { result ≡ caller_word caller }
+{
+    match caller {
+        Some(caller) => name_word(&caller),
+        None => Word::none(),
+    }
+}
+
+// The word of a caller's name.
+fn name_word(caller: &Caller) -> Word
+    ensures { result ≡ word_of (name_of caller.now) }
+{
+    match caller {
+        Caller::Publisher => Word::of(b"PUBLISH"),
+        Caller::Client(name) => Word::of(name.as_bytes()),
+    }
+}

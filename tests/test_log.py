@@ -1,0 +1,169 @@
+#!/usr/bin/env python3
+"""The log of `serve --log`: a line for each request and for each connection that failed, and nothing else is as it isn't without it.
+
+    test_log.py
+
+Requests are sent to a desk that keeps a log and to one that keeps none. Both answer the same, to the byte, and the log has a line
+for each: its caller, its method and path, the status, and as many bytes as went each way. No line has a token or a body.
+"""
+import datetime
+import os
+import re
+import socket
+import struct
+import subprocess
+import sys
+
+from service import PROGRAM, check, command_of, finish, folder, same, write
+
+CALLERS = "NAME,TOKEN\nPUBLISH,publisher-token\nALPHA,alpha-token\nBRAVO,bravo-token\n"
+ZONE = b"SYSMOD,STATE\nHBB7790,APPLIED\nUA10001,APPLIED\n"
+RESET = struct.pack("ii", 1, 0)
+LINE = re.compile(r"(\d{4}-\d\d-\d\dT\d\d:\d\d:\d\d\.\d{3}Z) (\S+) (\S+) (\S+) (\d+) (\d+) (\d+) (\d+)")
+FAULT = re.compile(r"(\d{4}-\d\d-\d\dT\d\d:\d\d:\d\d\.\d{3}Z) - FAULT (\d+)")
+room = folder()
+callers = write(room + "/callers", CALLERS)
+
+
+class Served:
+    """A desk with standard error in this file."""
+
+    def __init__(self, errors, *words):
+        command = command_of(callers, 0)
+        self.process = subprocess.Popen([*command[:2], *words, *command[2:]], stdout=subprocess.PIPE, stderr=errors)
+        line = self.process.stdout.readline()
+        if not line.startswith(b"LISTENING "):
+            sys.exit("the desk does not start: %r" % line)
+        self.port = int(line.split(b":")[1])
+
+    def connect(self):
+        return socket.create_connection(("127.0.0.1", self.port), timeout=30)
+
+    def told(self, sent, ends=True):
+        """What is written to a connection over which this is sent."""
+        with self.connect() as connection:
+            connection.sendall(sent)
+            if ends:
+                connection.shutdown(socket.SHUT_WR)
+            got = b""
+            while True:
+                more = connection.recv(65536)
+                if not more:
+                    return got
+                got += more
+
+    def end(self):
+        self.process.terminate()
+        return self.process.communicate(timeout=30)[0]
+
+
+def request(first, token=None, number=None, body=None):
+    lines = [first + " HTTP/1.1"]
+    lines += ["bureau-token: " + token] if token else []
+    lines += ["bureau-number: %d" % number] if number is not None else []
+    lines += ["content-length: %d" % len(body)] if body is not None else []
+    return ("\r\n".join(lines) + "\r\n\r\n").encode() + (body or b"")
+
+
+LONG = "/zones/" + "A" * 80
+# each request, and what its line has between the time and the bytes
+REQUESTS = [
+    (request("GET /zones", "alpha-token"), "ALPHA GET /zones 200"),
+    (request("GET /published", "publisher-token"), "PUBLISH GET /published 200"),
+    (request("PUT /zones/TGT1", "alpha-token", 1, ZONE), "ALPHA PUT /zones/TGT1 200"),
+    (request("PUT /zones/TGT1", "alpha-token", 7, ZONE), "ALPHA PUT /zones/TGT1 409"),
+    (request("GET /zones/TGT1/errsysmods", "alpha-token"), "ALPHA GET /zones/TGT1/errsysmods 200"),
+    (request("HEAD /zones/TGT1/errsysmods", "bravo-token"), "BRAVO HEAD /zones/TGT1/errsysmods 405"),
+    (request("GET /zones?token=alpha-token&more", "alpha-token"), "ALPHA GET /zones 200"),
+    (request("GET /zones/%54GT1/chains/UA10001", "alpha-token"), "ALPHA GET /zones/%54GT1/chains/UA10001 200"),
+    (request("GET /nowhere", "bravo-token"), "BRAVO GET /nowhere 404"),
+    (request("BREW /zones", "bravo-token"), "BRAVO BREW /zones 405"),
+    (request("GET /zones", "nobody-token"), "- GET /zones 401"),
+    (request("GET /zones"), "- GET /zones 401"),
+    (request("GET " + LONG, "bravo-token"), "BRAVO GET " + LONG[:64] + " 405"),
+    # a head that is refused: nothing of it is known
+    (request("PUT /zones/TGT1", "alpha-token", 2), "- - - 411"),
+    (b"no head\r\n\r\n", "- - - 400"),
+    (b"GET /" + b"a" * 20000 + b" HTTP/1.1\r\n\r\n", "- - - 431"),
+]
+CLOSING = ("411", "400", "431")
+
+# ---- a line for each, and the same replies as without
+
+log = room + "/log"
+began = datetime.datetime.now(datetime.timezone.utc)
+with open(log, "wb") as errors, open(room + "/none", "wb") as none:
+    logged, plain = Served(errors, "--log"), Served(none)
+    went = []
+    for sent, _ in REQUESTS:
+        told = logged.told(sent)
+        same("with a log and without: %r" % sent[:60], told, plain.told(sent))
+        went.append(len(told))
+    # all that end no connection, over one
+    kept = [(sent, wanted) for sent, wanted in REQUESTS if not wanted.endswith(CLOSING)]
+    same("over one connection", logged.told(b"".join(sent for sent, _ in kept)), plain.told(b"".join(sent for sent, _ in kept)))
+    same("the end of a desk that keeps a log", logged.end(), b"")
+    plain.end()
+ended = datetime.datetime.now(datetime.timezone.utc)
+same("standard error without a log", open(room + "/none", "rb").read(), b"")
+lines = open(log, "rb").read().decode("ascii").split("\n")
+same("the last line is whole", lines.pop(), "")
+same("as many lines as requests", len(lines), len(REQUESTS) + len(kept))
+for line, (sent, wanted), out in zip(lines, REQUESTS, went):
+    got = LINE.fullmatch(line)
+    if check("a line of %r" % sent[:60], got, line):
+        came = min(len(sent), 16384) if wanted.endswith("431") else len(sent)
+        same("the line of %r" % sent[:60], " ".join(got.group(2, 3, 4, 5, 6, 7)), "%s %d %d" % (wanted, came, out))
+        at = datetime.datetime.strptime(got.group(1), "%Y-%m-%dT%H:%M:%S.%fZ").replace(tzinfo=datetime.timezone.utc)
+        check("its time", began - datetime.timedelta(milliseconds=1) <= at <= ended and int(got.group(8)) < 10000, line)
+for line, (sent, wanted) in zip(lines[len(REQUESTS) :], kept):
+    got = LINE.fullmatch(line)
+    check("a line over one connection", got and got.group(2, 3, 4) == tuple(wanted.split()[:3]), line)
+text = "\n".join(lines)
+check("no token and no body", not re.search("[a-z]+-token|SYSMOD,STATE|UA10001,|content|HTTP", text.replace("/chains/UA10001", "")), text)
+
+# ---- connections that failed
+
+with open(log, "wb") as errors:
+    desk = Served(errors, "--log")
+    same("half a head, and the end", desk.told(b"GET /zones HT"), b"")
+    same("half a body, and the end", desk.told(request("PUT /zones/T", "alpha-token", 1, ZONE)[:-5]), b"")
+    same("nothing, and the end", desk.told(b""), b"")
+    same("line ends alone", desk.told(b"\r\n\r\n"), b"")
+    check("a request, and half of the next", desk.told(request("GET /zones", "alpha-token") + b"GET /z").startswith(b"HTTP/1.1 200"))
+    with desk.connect() as connection:
+        connection.sendall(b"GET /zones HT")
+        connection.setsockopt(socket.SOL_SOCKET, socket.SO_LINGER, RESET)
+    desk.told(request("GET /zones", "alpha-token"))
+    desk.end()
+lines = open(log).read().splitlines()
+faults = [FAULT.fullmatch(line).group(2) for line in lines if FAULT.fullmatch(line)]
+same("the faults of connections that failed", sorted(faults), ["51", "53", "53", "53"])
+same("and a line for each request", sum(bool(LINE.fullmatch(line)) for line in lines), 2)
+same("and no other line", len(lines), 6)
+
+# ---- a log that can't be written
+
+gone_read, gone = os.pipe()
+os.close(gone_read)
+with open("/dev/full", "wb") as full, os.fdopen(gone, "wb") as nobody:
+    for name, errors in (("a full device", full), ("a pipe that nobody reads", nobody)):
+        desk, plain = Served(errors, "--log"), Served(subprocess.DEVNULL)
+        for sent, _ in REQUESTS:
+            same("%s: %r" % (name, sent[:60]), desk.told(sent), plain.told(sent))
+        same("%s, and the end" % name, (desk.process.poll(), desk.end()), (None, b""))
+        plain.end()
+# Where it is closed, another file may have its descriptor: no line may come into the store.
+command = command_of(callers, 0)
+closed = subprocess.Popen(["sh", "-c", 'exec "$@" 2>&-', "sh", *command[:2], "--log", *command[2:]], stdout=subprocess.PIPE)
+port = int(closed.stdout.readline().split(b":")[1])
+for _ in range(50):
+    with socket.create_connection(("127.0.0.1", port), timeout=30) as connection:
+        connection.sendall(request("GET /zones", "alpha-token"))
+        check("standard error that is closed", connection.recv(65536).startswith(b"HTTP/1.1 200"))
+closed.terminate()
+closed.wait()
+looked = subprocess.run([PROGRAM, "check", command[-1]], capture_output=True)
+same("the store after it", (looked.returncode, looked.stderr), (0, b""))
+
+finish("log")
