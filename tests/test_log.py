@@ -146,13 +146,22 @@ same("and no other line", len(lines), 6)
 
 gone_read, gone = os.pipe()
 os.close(gone_read)
-with open("/dev/full", "wb") as full, os.fdopen(gone, "wb") as nobody:
-    for name, errors in (("a full device", full), ("a pipe that nobody reads", nobody)):
+peer, alone = socket.socketpair()
+peer.close()
+with open("/dev/full", "wb") as full, os.fdopen(gone, "wb") as nobody, alone:
+    for name, errors in (("a full device", full), ("a pipe that nobody reads", nobody), ("a socket that nobody reads", alone)):
         desk, plain = Served(errors, "--log"), Served(subprocess.DEVNULL)
         for sent, _ in REQUESTS:
             same("%s: %r" % (name, sent[:60]), desk.told(sent), plain.told(sent))
         same("%s, and the end" % name, (desk.process.poll(), desk.end()), (None, b""))
         plain.end()
+# Nothing is taken from this pipe, and it is full long before the last line: no call waits for it.
+unread, full = os.pipe()
+desk = Served(full, "--log")
+os.close(full)
+same("a pipe that is full", desk.told(request("GET /zones", "alpha-token") * 2000).count(b"HTTP/1.1 200 "), 2000)
+same("a pipe that is full, and the end", (desk.process.poll(), desk.end()), (None, b""))
+os.close(unread)
 # Where it is closed, another file may have its descriptor: no line may come into the store.
 command = command_of(callers, 0)
 closed = subprocess.Popen(["sh", "-c", 'exec "$@" 2>&-', "sh", *command[:2], "--log", *command[2:]], stdout=subprocess.PIPE)
