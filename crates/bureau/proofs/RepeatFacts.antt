@@ -411,16 +411,15 @@ first_stale : (old new : Tables) (first : CallBy) (n : ℕ) → IsStep old first
 first_stale old new first n (inl none) is told_stale = no_stale first.answer no_room 503 told_stale none.0 refl (λ same. omega (arith, same))
 first_stale old new first n (inr made) is told_stale = by (in_range n) refl
   where
-    turned : ComesInTurn (old.last first.caller) n (outcome (view_of first.caller old) first.call)
-    turned = call_in_turn old first n is
-
     by : (t : Bool) → in_range n ≡ t → (in_range n ≡ true) × IsPassed first.caller n old
-    by true range = (
-      range,
-      stale_below old first n (outcome (view_of first.caller old) first.call) turned.change turned.refuses
-          (turned.is ∙ ranged (old.last first.caller) n turned.change range) made.0 told_stale (standing (old.last first.caller).number n),
-    )
+    by true range =
+        let turned = call_in_turn old first n is in (
+          range,
+          stale_below old first n (outcome (view_of first.caller old) first.call) turned.change turned.refuses
+              (turned.is ∙ ranged (old.last first.caller) n turned.change range) made.0 told_stale (standing (old.last first.caller).number n),
+        )
     by false range =
+        let turned = call_in_turn old first n is in
         no_stale first.answer bad_number 400 told_stale (made.0 ∙ ap answer_of (turned.is ∙ unranged (old.last first.caller) n turned.change range)) refl (λ same. omega (arith, same))
 
 -- and it leaves the tables as they are

@@ -17,6 +17,7 @@ use Rattle.std.proofs.lemmas.Cmp.{nat_list_eq_equiv}
 use Rattle.std.proofs.lemmas.List.Folds.{list_any-append}
 use Rattle.std.proofs.lemmas.Map.Text.{is_eq-slice_cmp}
 use Rattle.std.proofs.lemmas.Slice.Eq.{bytes_eq-Decides}
+use Rattle.lemmas.proofs.TestFacts.{or_swap}
 use Rattle.zone_lists.specs.Lists.{Numbered, own_fault}
 use Rattle.zone_lists.specs.declared.fault.ListFault.{ListFault}
 use Rattle.zone_lists.specs.declared.fault.ListFault.TheVariants.{Repeated}
@@ -69,11 +70,6 @@ any_or p q (x ∷ xs) = ap (λ b. (p x || q x) || b) (any_or p q xs) ∙ or_in_t
 any_more : {X : Type 0} (p : X → Bool) (xs : List X) (x : X) → list_any p (xs ++ x ∷ []) ≡ (list_any p xs || p x)
 any_more p xs x = list_any-append p xs (x ∷ []) ∙ ap (λ b. list_any p xs || b) (or-false (p x))
 
-put_later : (a b c : Bool) → (a || (b || c)) ≡ (b || (a || c))
-put_later true true c = refl
-put_later true false c = refl
-put_later false b c = refl
-
 -- whether a set has what a test asks for, after one more key
 module _ {Key : Type 0} (order : Key → Key → Ordering) (test : Key → Bool) (alike : (a b : Key) → order a b ≡ Equal → test a ≡ test b) where
   pub any_put : (keys : List Key) (key : Key) → list_any test (insert_key order keys key) ≡ (test key || list_any test keys)
@@ -82,7 +78,7 @@ module _ {Key : Type 0} (order : Key → Key → Ordering) (test : Key → Bool)
       elim (order key x) as (λ o. order key x ≡ o → list_any test (match_ordering o (key ∷ x ∷ xs) (x ∷ xs) (x ∷ insert_key order xs key)) ≡ (test key || (test x || list_any test xs))) [
         | Less ↦ λ e. refl
         | Equal ↦ λ e. rw (alike key x e) (twice (test x) (list_any test xs))
-        | Greater ↦ λ e. ap (λ b. test x || b) (any_put xs key) ∙ put_later (test x) (test key) (list_any test xs)
+        | Greater ↦ λ e. ap (λ b. test x || b) (any_put xs key) ∙ or_swap (test x) (test key) (list_any test xs)
       ] refl
     where
       twice : (a b : Bool) → (a || b) ≡ (a || (a || b))

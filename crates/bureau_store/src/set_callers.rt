@@ -1,6 +1,6 @@
 //! Which callers come with a callers file, and which are gone.
 ghost use Rattle.std.specs.Prelude.{◌≡◌, List, ◌∷◌, false, map, filter, not, is_some, IfOk, OnOk};
-ghost use Rattle.std.specs.BTreeMap.{Updates, get};
+ghost use Rattle.std.specs.BTreeMap.{get};
 ghost use Rattle.std.specs.Cmp.Lexicographic.{slice_cmp};
 ghost use Rattle.std.specs.List.{count_by};
 ghost use Rattle.std.specs.Option.{option_map, unwrap_or};

@@ -22,14 +22,14 @@ use zone_lists::{Pattern, ZoneRow};
 /// Reads leave the tables as they are, and a list of what isn't there is empty. Each change replaces
 /// what it names whole and sets the caller's last number and reply, at once; refused, the tables are
 /// unchanged. What a change does is said where it is due: one of the callers makes it, with that caller's next number,
-/// and the zone that it names is there. What is told of the tables is told where the file was this product's own as the call
-/// began and the disk has returned what was written, up to the call's end; of lists that is always true. Lists ascend
-/// in any case, each entry once.
+/// and the zone that it names is there. What is told of the tables is told where the file was this product's own as
+/// the call began and the disk has returned what was written, up to the call's end; of lists that is always true.
+/// Lists ascend in any case, each entry once.
 ///
 /// # Errors
 ///
-/// `Memory` where memory ran out; `Device` where the device failed, now or before; of a change alone, `Size` where there
-/// was no room for it on the device. A refused call changes nothing.
+/// `Memory` where memory ran out; `Device` where the device failed, now or before; of a change alone, `Size` where
+/// there was no room for it on the device. A refused call changes nothing.
 pub trait Store: Published {
     /// How the store is looked at, with all its tables.
     ghost tables_view: { View Self Tables };

@@ -9,6 +9,7 @@ use Rattle.std.specs.List.{filter}
 use Rattle.std.specs.List.Sorted.{ties, IsStableByKey}
 use Rattle.std.proofs.lemmas.List.{reverse-append}
 use Rattle.std.proofs.lemmas.List.Folds.{find-append}
+use Rattle.std.proofs.lemmas.List.Elements.{filter-append}
 use Rattle.holddata.specs.declared.key.HoldKey.{HoldKey}
 use Rattle.holddata.specs.declared.hold.Hold.{Hold}
 use Rattle.holddata.specs.declared.hold.HoldChange.{HoldChange}
@@ -29,7 +30,7 @@ map_itself (change ∷ changes) = ap (λ cs. change ∷ cs) (map_itself changes)
 pub last_found : (test : HoldChange → Bool) (change : HoldChange) (changes : List HoldChange) → find test (reverse (change ∷ changes)) ≡ option_or (find test (reverse changes)) (cond (test change) (Some change) None)
 last_found test change changes = ap (find test) (reverse-append (change ∷ []) changes) ∙ find-append test (reverse changes) (change ∷ [])
 
-or_none : (o : Option HoldChange) → option_or o None ≡ o
+pub or_none : (o : Option HoldChange) → option_or o None ≡ o
 or_none None = refl
 or_none (Some change) = refl
 
@@ -42,19 +43,11 @@ last_of_filter test (change ∷ changes) = by (test change) refl (last_of_filter
     by true is rest = last_found test change (filter test changes) ∙ ap (λ o. option_or o (cond (test change) (Some change) None)) rest
     by false is rest = rest ∙ sym (ap (λ b. option_or (find test (reverse changes)) (cond b (Some change) None)) is ∙ or_none (find test (reverse changes)))
 
-filter_append : (test : HoldChange → Bool) (xs ys : List HoldChange) → filter test (xs ++ ys) ≡ filter test xs ++ filter test ys
-filter_append test [] ys = refl
-filter_append test (x ∷ xs) ys = by (test x) (filter_append test xs ys)
-  where
-    by : (b : Bool) → filter test (xs ++ ys) ≡ filter test xs ++ filter test ys → cond b (x ∷ filter test (xs ++ ys)) (filter test (xs ++ ys)) ≡ cond b (x ∷ filter test xs) (filter test xs) ++ filter test ys
-    by true rest = ap (λ zs. x ∷ zs) rest
-    by false rest = rest
-
 same_left : (before changes others : List HoldChange) → IsRearranged changes others → (key : HoldKey) → hold_left (before ++ others) key ≡ hold_left (before ++ changes) key
 same_left before changes others same key =
     ap (option_and_then hold_put)
     (sym (last_of_filter (names key) (before ++ others))
-    ∙ ap (λ cs. find (names key) (reverse cs)) (filter_append (names key) before others ∙ ap (λ cs. filter (names key) before ++ cs) (same key) ∙ sym (filter_append (names key) before changes))
+    ∙ ap (λ cs. find (names key) (reverse cs)) (filter-append (names key) before others ∙ ap (λ cs. filter (names key) before ++ cs) (same key) ∙ sym (filter-append (names key) before changes))
     ∙ last_of_filter (names key) (before ++ changes))
 
 -- what rearranged changes leave is what the changes leave

@@ -9,6 +9,7 @@ use Rattle.std.specs.List.Sorted.{IsStrictlySortedBy}
 use Rattle.std.specs.BTreeSet.{insert_key}
 use Rattle.std.proofs.lemmas.Bool.{and_parts}
 use Rattle.std.proofs.lemmas.Map.Lookups.{CmpEqualImpliesEq}
+use Rattle.lemmas.proofs.TestFacts.{or_false, or_swap}
 
 pub any_insert : {K : Type 0} (cmp : K → K → Ordering) → CmpEqualImpliesEq cmp → (test : K → Bool) (ks : List K) (k : K) → list_any test (insert_key cmp ks k) ≡ (test k || list_any test ks)
 any_insert cmp exact test [] k = refl
@@ -18,16 +19,10 @@ any_insert {K} cmp exact test (x ∷ xs) k = by (any_insert cmp exact test xs k)
     twice true b = refl
     twice false b = refl
 
-    swap : (a b c : Bool) → (a || (b || c)) ≡ (b || (a || c))
-    swap true true c = refl
-    swap true false c = refl
-    swap false true c = refl
-    swap false false c = refl
-
     by : list_any test (insert_key cmp xs k) ≡ (test k || list_any test xs) → (o : Ordering) → cmp k x ≡ o → list_any test (match_ordering o (k ∷ x ∷ xs) (x ∷ xs) (x ∷ insert_key cmp xs k)) ≡ (test k || (test x || list_any test xs))
     by rest Less is = refl
     by rest Equal is = twice (test x) (list_any test xs) ∙ ap (λ y. test y || (test x || list_any test xs)) (sym (exact k x is))
-    by rest Greater is = ap (λ b. test x || b) rest ∙ swap (test x) (test k) (list_any test xs)
+    by rest Greater is = ap (λ b. test x || b) rest ∙ or_swap (test x) (test k) (list_any test xs)
 
 pub every_insert : {K : Type 0} (cmp : K → K → Ordering) (test : K → Bool) (ks : List K) (k : K) → list_all test ks ≡ true → test k ≡ true → list_all test (insert_key cmp ks k) ≡ true
 every_insert cmp test [] k h p = ap (λ b. b && true) p
@@ -72,11 +67,7 @@ sorted_puts cmp total ks (k ∷ more) h = sorted_puts cmp total (insert_key cmp 
 
 pub any_puts : {K : Type 0} (cmp : K → K → Ordering) → CmpEqualImpliesEq cmp → (test : K → Bool) (ks more : List K)
     → list_any test (fold (insert_key cmp) ks more) ≡ (list_any test ks || list_any test more)
-any_puts cmp exact test ks [] = plain (list_any test ks)
-  where
-    plain : (b : Bool) → b ≡ (b || false)
-    plain true = refl
-    plain false = refl
+any_puts cmp exact test ks [] = or_false (list_any test ks)
 any_puts cmp exact test ks (k ∷ more) =
     any_puts cmp exact test (insert_key cmp ks k) more
     ∙ ap (λ b. b || list_any test more) (any_insert cmp exact test ks k)

@@ -20,7 +20,7 @@ use Rattle.holddata.proofs.KeyFacts.{exact_keys, keys_total, same_is, same_key, 
 use Rattle.holddata.proofs.SortKeyFacts.{sort_key_order}
 use Rattle.holddata.proofs.BookFacts.{book_of_only}
 use Rattle.holddata.proofs.FoundFacts.{none_last}
-use Rattle.holddata.proofs.BatchFacts.{last_found, left_by}
+use Rattle.holddata.proofs.BatchFacts.{last_found, left_by, or_none}
 
 -- ---- a sort by the sort keys puts them in order
 
@@ -140,10 +140,6 @@ left_other change changes key other =
     ap (option_and_then hold_put)
     (last_found (names key) change changes ∙ ap (λ b. option_or (find (names key) (reverse changes)) (cond b (Some change) None)) other
     ∙ or_none (find (names key) (reverse changes)))
-  where
-    or_none : (o : Option HoldChange) → option_or o None ≡ o
-    or_none None = refl
-    or_none (Some c) = refl
 
 -- a change whose key the next one names again says nothing of it either
 left_renamed : (change next : HoldChange) (changes : List HoldChange) (key : HoldKey) → names key next ≡ true → hold_left (change ∷ next ∷ changes) key ≡ hold_left (next ∷ changes) key

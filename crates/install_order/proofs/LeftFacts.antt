@@ -6,6 +6,7 @@ use Rattle.std.proofs.lemmas.Bool.{cases_eq, cases_lt, and_parts, not-true, and_
 use Rattle.std.proofs.lemmas.Bool.Decides.{nat_tests}
 use Rattle.std.proofs.lemmas.List.FromFn.{get_or-map-range_with_len, length-map-range_with_len}
 use Rattle.lemmas.proofs.ListFacts.{any_at, any_from, inside_cases}
+use Rattle.lemmas.proofs.TestFacts.{same_number, less_number}
 use Rattle.requisites.specs.Leads.{Leads}
 use Rattle.requisites.specs.Nodes.{IsMarked, Links, mark_of, row}
 use Rattle.requisites.proofs.LeadsFacts.{leads_itself, leads_more}
@@ -14,14 +15,8 @@ use Rattle.install_order.specs.Left.{AreGivers, AreLeft, is_outdone, left_in, ou
 use Rattle.install_order.proofs.ListFacts.{range_has}
 use Rattle.install_order.proofs.ReadFacts.{none_in}
 
-test_is : (x y : ℕ) → (x == y) ≡ true → x ≡ y
-test_is x y e = grind (arith, nat_tests)
-
 is_test : (x y : ℕ) → x ≡ y → (x == y) ≡ true
 is_test x y e = grind (arith, nat_tests)
-
-less_is : (x y : ℕ) → nat_lt x y ≡ true → x < y
-less_is x y e = grind (arith, nat_tests)
 
 is_less : (x y : ℕ) → x < y → nat_lt x y ≡ true
 is_less x y e = grind (arith, nat_tests)
@@ -47,7 +42,7 @@ has_it : (xs : List ℕ) (p : ℕ) → Contains xs p → has xs p ≡ true
 has_it xs p inside = any_at (λ r. r == p) xs p inside (is_test p p refl)
 
 it_has : (xs : List ℕ) (p : ℕ) → has xs p ≡ true → Contains xs p
-it_has xs p h = let found = any_from (λ r. r == p) xs h in let P : ℕ → Type 0 = λ k. Contains xs k in subst P (test_is found.element p found.passes) found.member
+it_has xs p h = let found = any_from (λ r. r == p) xs h in let P : ℕ → Type 0 = λ k. Contains xs k in subst P (same_number found.element p found.passes) found.member
 
 outdoes_so : (givers : List (List ℕ)) (p q : ℕ) → Contains (row givers p) q → outdoes givers p q ≡ true → Outdoes givers p q
 outdoes_so givers p q gives h =
@@ -59,13 +54,13 @@ outdoes_so givers p q gives h =
     }
   where
     greater : (b : Bool) → nat_lt p q ≡ b → (c : Bool) → c ≡ true → (b || not c) ≡ true → p < q
-    greater true e c on h = less_is p q e
+    greater true e c on h = less_number p q e
     greater false e true on h = absurd (cc)
     greater false e false on h = absurd (cc)
 
 so_outdoes : (givers : List (List ℕ)) (p q : ℕ) → Outdoes givers p q → outdoes givers p q ≡ true
 so_outdoes givers p q o =
-    and_from (not (q == p)) (nat_lt p q || not (has (row givers q) p)) (not_from_false (q == p) (false_from_ne_true (q == p) (λ on. o.is_other (test_is q p on))))
+    and_from (not (q == p)) (nat_lt p q || not (has (row givers q) p)) (not_from_false (q == p) (false_from_ne_true (q == p) (λ on. o.is_other (same_number q p on))))
     (either (has (row givers q) p) refl)
   where
     left_or : (b c : Bool) → b ≡ true → (b || c) ≡ true

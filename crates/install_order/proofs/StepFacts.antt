@@ -305,8 +305,8 @@ module _ (needs : List (List ℕ)) (members : List Bool) (levels : List (Option 
 
     next : (k : ℕ) → k < count → IsNext needs (length members) (rows_to k) (nodes_with levels (length levels) k)
     next k less = record {
-      first = node.0;
-      begun = row_has k node.0 node.1;
+      first = has.0;
+      begun = row_has k has.0 has.1;
       ascend = IsStrictlyIncreasing-filter (λ p. has_level (level_of levels p) k) (range_with_len 0 (length levels)) (range_ascends (length levels));
       once = λ p member stands.
           let here = in_row k p member in
@@ -333,9 +333,6 @@ module _ (needs : List (List ℕ)) (members : List Bool) (levels : List (Option 
         | inl none ↦ absurd (omega arith)
         | inr last ↦ (let e = last.next in let to = to_each last.last last.node k last.is (omega arith) in (to.to, to.is))
       ]
-
-      node : (p : ℕ) × (level_of levels p ≡ Some k)
-      node = has
 
     all_next : (more k : ℕ) → k + more ≡ count → AreNext needs (length members) (rows_to k) (map (nodes_with levels (length levels)) (range_with_len k more))
     all_next zero k end = tt

@@ -1,5 +1,5 @@
 -- Members of lists: what is found in a list, what a filter keeps, and what is made of each element.
-use Rattle.std.proofs.Common.{◌≡◌, ◌⊎◌, ◌&&◌, ◌∙◌, Bool, true, false, cond, List, [], ◌∷◌, ◌++◌, Option, Some, None, map, refl, sym, ap, subst, inl, inr, arith}
+use Rattle.std.proofs.Common.{◌≡◌, ◌⊎◌, ◌&&◌, ◌<◌, ℕ, zero, suc, length, get_or, ◌∙◌, Bool, true, false, cond, List, [], ◌∷◌, ◌++◌, Option, Some, None, map, refl, sym, ap, subst, inl, inr, arith}
 use Rattle.std.specs.List.{AllByRecursion, Contains, cons_option, filter, filter_map, flat_map, list_all, list_any}
 use Rattle.std.proofs.lemmas.Bool.{and_from, and_parts}
 use Rattle.std.proofs.lemmas.List.Elements.{Contains-append_cases, Contains-append_left, Contains-append_right, Contains-push, Contains-push_cases}
@@ -172,3 +172,16 @@ all_so P Q so (x ∷ xs) h = (so x h.0, all_so P Q so xs h.1)
 pub all_append : {K : Type 0} (P : K → Type 0) (xs ys : List K) → AllByRecursion P xs → AllByRecursion P ys → AllByRecursion P (xs ++ ys)
 all_append P [] ys h g = g
 all_append P (x ∷ xs) ys h g = (h.0, all_append P xs ys h.1 g)
+
+pub all_in : {A : Type 0} (P : A → Type 0) (xs : List A) → AllByRecursion P xs → (x : A) → Contains xs x → P x
+all_in P [] all x inside = absurd (none_inside x inside)
+all_in {A} P (y ∷ ys) all x inside = elim (inside_cases y x ys inside) [
+  | inl same ↦ (let Q : A → Type 0 = λ z. P z in subst Q same all.0)
+  | inr later ↦ all_in P ys all.1 x later
+]
+
+-- within a list what stands past its end doesn't count
+pub get_any : {X : Type 0} (xs : List X) (k : ℕ) (d e : X) → k < length xs → get_or xs k d ≡ get_or xs k e
+get_any [] k d e within = absurd (omega (arith, within))
+get_any (x ∷ xs) zero d e within = refl
+get_any (x ∷ xs) (suc k) d e within = get_any xs k d e (omega (arith, within))

@@ -1,6 +1,7 @@
 -- Where comments begin and end, and the runs that they end.
 use Rattle.std.proofs.Common.{◌≡◌, ◌≢◌, ℕ, ◌==◌, ◌⊎◌, inl, inr, Bool, true, false, cond, List, [], ◌∷◌, ◌++◌, Some, None, refl, sym, ◌∙◌, ap, arith}
 use Rattle.std.proofs.lemmas.Bool.Decides.{nat_tests}
+use Rattle.lemmas.proofs.TestFacts.{never}
 use Rattle.mcs_reader.specs.Byte.{role_of, belongs_to_value}
 use Rattle.mcs_reader.specs.Comment.{next_is, begins_comment, ends_comment, somewhere, IsCommentText, role_here}
 use Rattle.mcs_reader.specs.declared.byte.ByteRole.{ByteRole}
@@ -94,12 +95,8 @@ neither false y h = (refl, h)
 pub value_run_is : (w text : List ℕ) → is_word is_value_byte w ≡ true → somewhere begins_comment w ≡ false → begins_value text ≡ false → value_run (w ++ text) ≡ w
 value_run_is [] text is none ends = absurd (cc)
 value_run_is (b ∷ []) text is none ends =
-    let last : begins_comment (b ∷ text) ≡ false = ap (λ t. cond (b == 47) t false) (no_star text ends) ∙ never_so (b == 47) in
+    let last : begins_comment (b ∷ text) ≡ false = ap (λ t. cond (b == 47) t false) (no_star text ends) ∙ never (b == 47) in
     ap (λ t. cond t (b ∷ value_run text) []) (value_goes_on b text is last) ∙ ap (λ t. b ∷ t) (no_run text ends)
-  where
-    never_so : (t : Bool) → cond t false false ≡ false
-    never_so true = refl
-    never_so false = refl
 value_run_is (b ∷ c ∷ w) text is none ends =
     let parts = both (is_value_byte b) (is_word is_value_byte (c ∷ w)) is in
     let nones = neither (begins_comment (b ∷ c ∷ w)) (somewhere begins_comment (c ∷ w)) none in

@@ -1,8 +1,9 @@
 -- What is gathered of operands, statements and readings.
-use Rattle.std.proofs.Common.{◌≡◌, ℕ, Bool, true, false, cond, ◌||◌, List, [], ◌∷◌, ◌++◌, Some, Ok, Err, refl, sym, ◌∙◌, ap, filter, append_assoc, inl, inr}
+use Rattle.std.proofs.Common.{◌≡◌, ℕ, true, false, cond, ◌||◌, List, [], ◌∷◌, ◌++◌, Some, Ok, Err, refl, sym, ◌∙◌, ap, append_assoc, inl, inr}
 use Rattle.std.specs.Borrow.{Bor}
 use Rattle.std.specs.List.{list_any}
 use Rattle.std.specs.Str.{str_eq_ignore_ascii_case}
+use Rattle.std.proofs.lemmas.List.Elements.{filter-append}
 use Rattle.mcs_reader.specs.Asking.{asking, is_asked, reading_asking}
 use Rattle.mcs_reader.specs.Bytes.{bytes_of_each}
 use Rattle.mcs_reader.specs.Gathered.{is_wanted, operands_for, reading_for, statement_for}
@@ -40,19 +41,10 @@ pub unwanted_for : (asked : Asked) (operand : OperandText) → is_wanted asked o
 unwanted_for All operand is = cc
 unwanted_for (Named names) operand is = ap (λ b. cond b (operand ∷ []) []) is
 
-filter_then : (test : OperandText → Bool) (xs ys : List OperandText) → filter test (xs ++ ys) ≡ filter test xs ++ filter test ys
-filter_then test [] ys = refl
-filter_then test (x ∷ xs) ys = by (test x) (filter_then test xs ys)
-  where
-    by : (b : Bool) → filter test (xs ++ ys) ≡ filter test xs ++ filter test ys
-        → cond b (x ∷ filter test (xs ++ ys)) (filter test (xs ++ ys)) ≡ cond b (x ∷ filter test xs) (filter test xs) ++ filter test ys
-    by true rest = ap (λ l. x ∷ l) rest
-    by false rest = rest
-
 -- operands one after the other
 pub both_for : (asked : Asked) (xs ys : List OperandText) → operands_for asked (xs ++ ys) ≡ operands_for asked xs ++ operands_for asked ys
 both_for All xs ys = refl
-both_for (Named names) xs ys = filter_then (is_asked (bytes_of_each names.now)) xs ys
+both_for (Named names) xs ys = filter-append (is_asked (bytes_of_each names.now)) xs ys
 
 -- ---- readings
 

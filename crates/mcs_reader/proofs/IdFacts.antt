@@ -76,15 +76,15 @@ pub id_over_blanks : (t xs : List ℕ) → is_id_text t ≡ true → xs ≡ t �
 id_over_blanks t xs allowed same =
     rw (text_over_blanks t xs allowed same) (allowed, rw same (padded_over_blanks t))
 
+pub text_is_few : (text : List ℕ) → is_id_text text ≡ true → length text ≤ 7
+text_is_few text is = grind (arith, nat_tests)
+
 -- an id has seven bytes
 pub id_len : (bytes : List ℕ) → IsId bytes → length bytes ≡ 7
-id_len bytes is = ap length is.1 ∙ length-append t (replicate (7 - length t) 32) ∙ ap (λ n. length t + n) (length-replicate (7 - length t) 32) ∙ whole (few t is.0)
+id_len bytes is = ap length is.1 ∙ length-append t (replicate (7 - length t) 32) ∙ ap (λ n. length t + n) (length-replicate (7 - length t) 32) ∙ whole (text_is_few t is.0)
   where
     t : List ℕ
     t = text_of bytes
-
-    few : (t : List ℕ) → is_id_text t ≡ true → length t ≤ 7
-    few t allowed = grind (arith, nat_tests)
 
     whole : length t ≤ 7 → length t + (7 - length t) ≡ 7
     whole le = omega arith

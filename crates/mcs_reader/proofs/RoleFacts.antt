@@ -1,6 +1,7 @@
 -- What the role of a byte says of it.
 use Rattle.std.proofs.Common.{◌≡◌, ℕ, ◌==◌, ◌||◌, not, Bool, true, false, cond, List, [], ◌∷◌, refl, sym, ◌∙◌, subst, arith}
 use Rattle.std.proofs.lemmas.Bool.Decides.{nat_tests}
+use Rattle.lemmas.proofs.TestFacts.{same_number}
 use Rattle.mcs_reader.specs.Byte.{role_of, is_gap, is_name_byte, belongs_to_value}
 use Rattle.mcs_reader.specs.declared.byte.ByteRole.{ByteRole}
 use Rattle.mcs_reader.specs.declared.byte.ByteRole.TheVariants.{Gap, Comment, Name, Open, Close, Period, Other}
@@ -54,17 +55,14 @@ pub first_of_word : (test : ℕ → Bool) (b : ℕ) (w : List ℕ) → is_word t
 first_of_word test b [] h = h
 first_of_word test b (c ∷ w) h = (both (test b) (is_word test (c ∷ w)) h).0
 
-eqb_is : (b n : ℕ) → (b == n) ≡ true → b ≡ n
-eqb_is b n h = grind (arith, nat_tests)
-
 pub role-is_open : (b : ℕ) → role_of b ≡ Open → b ≡ 40
-role-is_open b h = eqb_is b 40 (passed_by b Open h)
+role-is_open b h = same_number b 40 (passed_by b Open h)
 
 pub role-is_close : (b : ℕ) → role_of b ≡ Close → b ≡ 41
-role-is_close b h = eqb_is b 41 (passed_by b Close h)
+role-is_close b h = same_number b 41 (passed_by b Close h)
 
 pub role-is_period : (b : ℕ) → role_of b ≡ Period → b ≡ 46
-role-is_period b h = eqb_is b 46 (passed_by b Period h)
+role-is_period b h = same_number b 46 (passed_by b Period h)
 
 pub role_of-41 : role_of 41 ≡ Close
 unfolding role_of

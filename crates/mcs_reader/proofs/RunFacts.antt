@@ -3,6 +3,7 @@ use Rattle.std.proofs.Common.{◌≡◌, ℕ, ◌+◌, ◌==◌, ◌&&◌, not, 
 use Rattle.std.proofs.lemmas.Bool.Decides.{nat_tests}
 use Rattle.std.specs.List.{list_all}
 use Rattle.std.proofs.lemmas.Bool.{and_parts}
+use Rattle.lemmas.proofs.TestFacts.{never}
 use Rattle.mcs_reader.specs.Byte.{line_end}
 use Rattle.mcs_reader.specs.Line.{line_ends, begins_statement}
 use Rattle.mcs_reader.specs.Verb.{begins_with}
@@ -127,8 +128,5 @@ line_ends-line (b ∷ line) is =
 pub begins_statement-line : (line text : List ℕ) → begins_statement (line ++ line_end ∷ text) ≡ begins_statement line
 begins_statement-line [] [] = refl
 begins_statement-line [] (b ∷ text) = refl
-begins_statement-line (b ∷ []) text = by_test (b == 43) where
-  by_test : (t : Bool) → cond t false false ≡ false
-  by_test true = refl
-  by_test false = refl
+begins_statement-line (b ∷ []) text = never (b == 43)
 begins_statement-line (b ∷ c ∷ line) text = refl

@@ -6,6 +6,7 @@ use Rattle.std.specs.Ordering.{is_eq, ordering_index}
 use Rattle.std.specs.declared.cmp.Ordering.{Ordering}
 use Rattle.std.specs.declared.cmp.Ordering.TheVariants.{Less, Equal, Greater}
 use Rattle.std.proofs.lemmas.Bool.{cases_lt}
+use Rattle.lemmas.proofs.TestFacts.{most_index}
 use Rattle.holddata.specs.HoldBook.{IsInKeyOrder, hold_under, keys_in}
 use Rattle.holddata.specs.HoldKey.{is_same_key, key_cmp}
 use Rattle.holddata.specs.declared.hold.Hold.{Hold}
@@ -16,12 +17,7 @@ use Rattle.holddata.proofs.KeyFacts.{exact_keys, keys_total, same_is, turned_sam
 rises_by : (a b key : HoldKey) (o : Ordering) → key_cmp b key ≡ o → key_cmp a b ≡ Less → ordering_index (key_cmp a key) ≤ ordering_index o
 rises_by a b key Less at below = let less : key_cmp a key ≡ Less = keys_total.trans a b key below at in rw less (omega arith)
 rises_by a b key Equal at below = let is : b ≡ key = exact_keys b key at in let less : key_cmp a key ≡ Less = rw (← is) below in rw less (omega arith)
-rises_by a b key Greater at below = most (key_cmp a key)
-  where
-    most : (o : Ordering) → ordering_index o ≤ 2
-    most Less = omega arith
-    most Equal = omega arith
-    most Greater = omega arith
+rises_by a b key Greater at below = most_index (key_cmp a key)
 
 at_index : (P : HoldKey → Type 0) (holds : List Hold) → AllByRecursion P (keys_in holds) → (k : ℕ) (d : Hold) → k < length holds → P (get_or holds k d).key
 at_index P [] all k d within = absurd (omega arith)

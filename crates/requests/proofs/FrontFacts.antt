@@ -1,10 +1,11 @@
 -- The front of a connection's bytes, from what was read of it.
-use Rattle.std.proofs.Common.{◌≡◌, ◌⊎◌, inl, inr, ℕ, ◌+◌, ◌-◌, ◌<◌, ◌≤◌, ◌==◌, Bool, true, false, List, [], ◌++◌, length, take, nat_le, Option, Some, None, IfErr, IfSome, Result, Ok, Err, if◌then◌else◌, refl, sym, ap, ◌∙◌, subst, arith, append-nil, append_assoc, length-append}
+use Rattle.std.proofs.Common.{◌≡◌, inl, inr, ℕ, ◌+◌, ◌-◌, ◌<◌, ◌≤◌, ◌==◌, Bool, true, false, List, [], ◌++◌, length, take, nat_le, Option, Some, None, IfErr, IfSome, Result, Ok, Err, if◌then◌else◌, refl, sym, ap, ◌∙◌, subst, arith, append-nil, append_assoc, length-append}
 use Rattle.std.proofs.Math.Seq.{take-append-add}
 use Rattle.std.proofs.lemmas.Bool.Decides.{nat_tests}
 use Rattle.std.proofs.lemmas.List.{nil_from_length, take-append-le, take_all}
 use Rattle.std.specs.Io.KnownBytes.{Consumes, IsAtEnd, Keeps, prepend_known}
 use Rattle.std.specs.Result.{result_ok}
+use Rattle.lemmas.proofs.TestFacts.{either_order}
 use Rattle.requests.specs.HeadEnd.{IsAtHand, empty_lines_len, front_of, front_with, head_limit, whole_len}
 use Rattle.requests.specs.Search.{ended, ends_clean, resumed, search}
 use Rattle.requests.specs.declared.front.Front.TheVariants.{Head, CleanEnd, EndInside, TooLarge}
@@ -17,13 +18,9 @@ pub limit_is : 16384 ≡ head_limit
 unfolding head_limit
 limit_is = refl
 
-pub order : (t : Bool) (a b : ℕ) → nat_le a b ≡ t → (a ≤ b) ⊎ (b ≤ a)
-order true a b h = inl (grind (arith, nat_tests))
-order false a b h = inr (grind (arith, nat_tests))
-
 -- a front of bytes that is at hand is a front of more bytes
 front_and_more : (limit : ℕ) (held more : List ℕ) → (rest : List ℕ) × (take limit (held ++ more) ≡ take limit held ++ rest)
-front_and_more limit held more = elim (order (nat_le limit (length held)) limit (length held) refl) [
+front_and_more limit held more = elim (either_order (nat_le limit (length held)) limit (length held) refl) [
   | inl h ↦ ([], take-append-le limit held more h ∙ sym (append-nil (take limit held)))
   | inr h ↦
       let count : limit ≡ length held + (limit - length held) = omega arith in

@@ -6,8 +6,8 @@ use Rattle.std.proofs.lemmas.List.{drop-drop}
 use Rattle.std.proofs.lemmas.List.Sums.{prefix_len-le-length, suffix_len-le-length}
 use Rattle.std.specs.List.{list_any, prefix_len, suffix_len}
 use Rattle.std.proofs.lemmas.Bool.{or_left}
+use Rattle.lemmas.proofs.TestFacts.{either_order}
 use Rattle.requests.specs.Text.{before, before_len, after, comma, elements, has_word, is_blank, is_word, with_first}
-use Rattle.requests.proofs.FrontFacts.{order}
 use Rattle.requests.proofs.HeadEndFacts.{none_of_more, same_more}
 
 pub cut_fits : (byte : ℕ) (text : List ℕ) → before_len byte text ≤ length text
@@ -90,7 +90,7 @@ word_after word text first is e more =
 -- ---- numbers
 
 min_is : (a b : ℕ) → ((a ≤ b) × (min a b ≡ a)) ⊎ ((b ≤ a) × (min a b ≡ b))
-min_is a b = elim (order (nat_le a b) a b refl) [ inl h ↦ inl (h, min-eq_left h) | inr h ↦ inr (h, min-eq_right h) ]
+min_is a b = elim (either_order (nat_le a b) a b refl) [ inl h ↦ inl (h, min-eq_left h) | inr h ↦ inr (h, min-eq_right h) ]
 
 -- what a number that stops at its limit says of a value
 pub record IsUpTo (most value number : ℕ) : Type 0 where
@@ -98,7 +98,7 @@ pub record IsUpTo (most value number : ℕ) : Type 0 where
   pub over : most < value → most ≤ number
 
 at_most : (most value number : ℕ) → number ≤ most → IsUpTo most value number → most ≤ value → (number ≡ value) ⊎ (number ≡ most)
-at_most most value number small is high = elim (order (nat_le value most) value most refl) [
+at_most most value number small is high = elim (either_order (nat_le value most) value most refl) [
   | inl low ↦ inl (is.exact low)
   | inr low ↦ elim (eq-or-lt_of_le high) [ inl e ↦ inl (is.exact (omega arith)) | inr l ↦ inr (let r : most ≤ number = is.over l in omega arith) ]
 ]
@@ -116,7 +116,7 @@ digit_more most value number digit greatest times_ten next fits small is ten mor
         | inr a ↦ elim (min_is (times_ten + digit) greatest) [ inl b ↦ omega arith | inr b ↦ omega arith ]
       ];
   over = λ high.
-      let reached : (number ≡ value) ⊎ (number ≡ most) = elim (order (nat_le value most) value most refl) [
+      let reached : (number ≡ value) ⊎ (number ≡ most) = elim (either_order (nat_le value most) value most refl) [
         | inl low ↦ inl (is.exact low)
         | inr low ↦ at_most most value number small is low
       ] in

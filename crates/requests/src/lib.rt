@@ -6,8 +6,8 @@
 //!
 //! - [`read_front`], [`Front`]: what the bytes of a connection begin with
 //! - [`decide`]: a whole [`Head`] and the length of its body, or why it is [`Refused`]
-//! - [`read_next`], [`NextRequest`], [`Request`]: all of this together; [`one_reading`]: it can be read in one way only;
-//!   [`later_bytes`]: bytes that come later change nothing of it
+//! - [`read_next`], [`NextRequest`], [`Request`]: all of this together; [`one_reading`]: it can be read in one way
+//!   only; [`later_bytes`]: bytes that come later change nothing of it
 //! - [`Progress`]: whether bytes that come piece by piece hold a whole request yet, at a look at each byte
 //! - [`Head`]: the token, the number and the [`Action`] that a request asks for, by its [`Routes`]
 //! - [`Resource`]: what a path names

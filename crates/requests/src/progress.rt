@@ -9,7 +9,8 @@ use crate::order::decide;
 
 /// How far the bytes of a connection were looked through for the request that stands next.
 ///
-/// Of bytes that came since, it looks at these alone. So a head that comes byte by byte costs no more than one that comes at once.
+/// Of bytes that came since, it looks at these alone. So a head that comes byte by byte costs no more than one that
+/// comes at once.
 #[derive(Clone, Copy, Debug)]
 pub struct Progress {
     // No head ends in so many bytes.
@@ -39,7 +40,8 @@ impl Progress {
         self.wanted
     }
 
-    /// Whether these bytes hold neither a whole request nor a head that is refused. They begin with those that it saw before.
+    /// Whether these bytes hold neither a whole request nor a head that is refused. They begin with those that it
+    /// saw before.
     pub fn is_short(&mut self, bytes: &[u8]) -> bool
         requires { Sees bytes.now self.old }
         ensures sees { Sees bytes.now self.new }

@@ -90,6 +90,11 @@ taken_put s p old work h none = record {
       let longer : length (work ++ p ∷ []) ≡ length work + 1 = grind (arith, common_steps) in
       omega arith
 
+-- what has no source had none
+none_before : (old mid : List (Option ℕ)) → ((q t : ℕ) → source_of old q ≡ Some t → source_of mid q ≡ Some t) → (q : ℕ) → source_of mid q ≡ None → (o : Option ℕ) → source_of old q ≡ o → o ≡ None
+none_before old mid stays q none None e = refl
+none_before old mid stays q none (Some t) e = absurd (none≢some (source_of mid q) t none (stays q t e))
+
 -- a node that has a source, or is none, takes nothing
 pub taken_skip : (s p : ℕ) (old : List (Option ℕ)) (work : List ℕ) → (p < length old → HasSource old p) → SourcesTaken (p ∷ []) s old old work work
 taken_skip s p old work had = record {
@@ -133,16 +138,12 @@ taken_more row s p old mid new w wm w' a b = record {
   wider : (q t : ℕ) → IsTaken row s old wm q t → Contains w' q → IsTaken (row ++ p ∷ []) s old w' q t
   wider q t taken put = record { source = taken.source; in_row = Contains-append_left row (p ∷ []) q taken.in_row; index = taken.index; before = taken.before; put = put }
 
-  none_before : (q : ℕ) → source_of mid q ≡ None → (o : Option ℕ) → source_of old q ≡ o → o ≡ None
-  none_before q none None e = refl
-  none_before q none (Some t) e = absurd (none≢some (source_of mid q) t none (a.stays q t e))
-
   later : (q t : ℕ) → IsTaken (p ∷ []) s mid w' q t → IsTaken (row ++ p ∷ []) s old w' q t
   later q t taken = record {
     source = taken.source;
     in_row = (let P : ℕ → Type 0 = λ k. Contains (row ++ p ∷ []) k in subst P (in_one p q taken.in_row) (Contains-push row p));
     index = omega (arith, taken.index, a.len);
-    before = none_before q taken.before (source_of old q) refl;
+    before = none_before old mid a.stays q taken.before (source_of old q) refl;
     put = taken.put;
   }
 
@@ -206,7 +207,7 @@ spreading_more lists s p old mid new rest work a taken = record {
     begun = λ h. still_had (row lists p) s s mid new rest work taken (a.spread.begun h);
     spread = λ q t e. elim (taken.taken q t e) [
       | inl was ↦ a.spread.spread q t was
-      | inr new ↦ inr (record { source = new.source; leads = onward q new; before = none_before q new.before (source_of old q) refl })
+      | inr new ↦ inr (record { source = new.source; leads = onward q new; before = none_before old mid a.spread.stays q new.before (source_of old q) refl })
     ];
   };
   closed = record {
@@ -230,10 +231,6 @@ spreading_more lists s p old mid new rest work a taken = record {
 } where
   onward : (q : ℕ) {t : ℕ} → IsTaken (row lists p) s mid work q t → Leads (Links lists (length old)) s q
   onward q new = leads_more (a.reached.reached p (Contains-push rest p)) (record { listed = new.in_row; index = omega (arith, new.index, a.spread.len) })
-
-  none_before : (q : ℕ) → source_of mid q ≡ None → (o : Option ℕ) → source_of old q ≡ o → o ≡ None
-  none_before q none None e = refl
-  none_before q none (Some t) e = absurd (none≢some (source_of mid q) t none (a.spread.stays q t e))
 
 -- the same, of work that is known to be none
 pub spreading_starts : (lists : List (List ℕ)) (s : ℕ) (old new : List (Option ℕ)) (w work : List ℕ) → w ≡ [] → AreClosed lists old w → SourcesTaken (s ∷ []) s old new w work → IsSpreading lists s old new work

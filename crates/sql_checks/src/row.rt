@@ -4,7 +4,7 @@ ghost use Rattle.std.specs.List.{AllByRecursion};
 ghost use Rattle.bureau_store.specs.Tables.{PatternsAscend};
 ghost use Rattle.sqlite_value.specs.Order as order;
 ghost use Rattle.sqlite_value.specs.Value.{owned};
-ghost use Rattle.sql_checks.specs.Kept.{AreIdsColumn, ArePatternsColumn, IsCallerRow, IsChangeRow, IsHeadRow, IsHoldRow, IsIdColumn, IsSysmodRow, IsZoneRow, KeepsTo, is_any_text};
+ghost use Rattle.sql_checks.specs.Kept.{AreIdsColumn, ArePatternsColumn, IsHeadRow, IsHoldRow, IsIdColumn, IsSysmodRow, IsZoneRow, KeepsTo, is_any_text};
 ghost use Rattle.sql_tables.specs.Values as value;
 
 use crate::table::StoreTable;

@@ -3,7 +3,7 @@ ghost use Rattle.std.specs.Prelude.{◌≡◌, ◌↔◌, [], IfOk, IsTrue};
 ghost use Rattle.sqlite.specs.Collation.TheVariants.{Binary};
 ghost use Rattle.sqlite.specs.Term.{lit, col, op2};
 ghost use Rattle.sqlite.specs.declared.types.Value.TheVariants.{Int};
-ghost use Rattle.sqlite_sql.specs.Syntax.{term_at, term_of, terms_of};
+ghost use Rattle.sqlite_sql.specs.Syntax.{term_at, terms_of};
 ghost use Rattle.sqlite_sql.specs.declared.ops.BinaryOp.TheVariants.{Compare};
 ghost use Rattle.sql_checks.specs.Shapes.{term_of_rule, terms_of_rule};
 

@@ -1,8 +1,8 @@
 //! How much a store has.
-ghost use Rattle.std.specs.Prelude.{◌≡◌, false, map, IfOk};
+ghost use Rattle.std.specs.Prelude.{◌≡◌, false};
 ghost use Rattle.sqlite.specs.Held.{state};
 ghost use Rattle.sql_checks.specs.Checked.{Looks};
-ghost use Rattle.sql_checks.specs.Tally.{HasTallied, IsTallyOf, line_of};
+ghost use Rattle.sql_checks.specs.Tally.{HasTallied, IsTallyOf};
 ghost use Rattle.sql_state.specs.Ours.{IsOurs, held_by};
 ghost use Rattle.sql_tables.specs.Stored.{tables_of};
 

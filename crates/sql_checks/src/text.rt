@@ -1,5 +1,5 @@
 //! The text that tells how much a store has.
-ghost use Rattle.std.specs.Prelude.{◌≡◌, ◌++◌, ◌∷◌, [], ℕ, List, Option, codes, decimal, length, IfOk, OnOk};
+ghost use Rattle.std.specs.Prelude.{◌≡◌, ◌++◌, ◌∷◌, [], ℕ, List, Option, decimal, length, IfOk, OnOk};
 ghost use Rattle.columns.specs.Table.{table_with};
 ghost use Rattle.sql_checks.specs.Tally as spec;
 

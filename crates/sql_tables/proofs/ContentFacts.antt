@@ -20,9 +20,9 @@ use Rattle.holddata.specs.declared.hold.HoldChange.{HoldChange}
 use Rattle.holddata.specs.declared.hold.HoldChange.TheVariants.{Put, Release}
 use Rattle.holddata.specs.declared.key.HoldKey.{HoldKey}
 use Rattle.holddata.specs.declared.key.Kind.{Kind}
-use Rattle.holddata.specs.declared.key.Kind.TheVariants.{ErrorHold, SystemHold, UserHold, FixcatHold}
 use Rattle.holddata.proofs.BookFacts.{book_of_is_left}
 use Rattle.holddata.proofs.KeyFacts.{same_key, turned_same}
+pub use Rattle.holddata.proofs.KeyFacts.{itself as key_itself}
 use Rattle.catalogue.specs.Conditional.{put_conds}
 use Rattle.catalogue.specs.Content.{IsInOrder, record_of}
 use Rattle.catalogue.specs.Ids.{same_id, in_order}
@@ -306,15 +306,6 @@ under_apart a b apart row at = by (key_found row) refl
 
 pub row_under : (hold : Hold) → IsHold hold → (key : HoldKey) → is_under key (hold_row hold) ≡ is_same_key hold.key key
 row_under hold is key = key_is key (hold_row hold) ∙ ap (λ o. unwrap_or (option_map (λ (found : HoldKey). is_same_key found key) o) false) (hold_own (hold_row hold) hold (hold_again hold is))
-
-pub key_itself : (key : HoldKey) → is_same_key key key ≡ true
-key_itself key = rw (itself key.sysmod, itself key.reason) (kinds key.kind)
-  where
-    kinds : (kind : Kind) → (true && (is_same_kind kind kind && true)) ≡ true
-    kinds ErrorHold = refl
-    kinds SystemHold = refl
-    kinds UserHold = refl
-    kinds FixcatHold = refl
 
 -- a hold is put, or its key released
 pub holds_after : (change : HoldChange) (rows : List Row) (key : HoldKey) → IsFitChange (OfHold change)

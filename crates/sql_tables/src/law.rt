@@ -51,8 +51,8 @@ pub fn change()
         ≡ tables_after caller effect last (tables_of stored) }
 {}
 
-/// What other callers make of the rows stands for what they make of the tables, where the callers before were read in the
-/// order of their names: `found` are those of the tables. And as many come and go.
+/// What other callers make of the rows stands for what they make of the tables, where the callers before were read
+/// in the order of their names: `found` are those of the tables. And as many come and go.
 pub fn other_callers()
     ensures tables { (found rows : List SomeCallerRow) (stored : Stored)
         → AllByRecursion (λ row. IsId row.name) rows

@@ -64,13 +64,13 @@ table_answer tree tests project order db params rows answer =
 
 -- ---- how a text is compared
 
+pub truth_again : (b : Bool) → is_true (from_truth (Some b)) ≡ b
+truth_again true = refl
+truth_again false = refl
+
 two_texts : (t text : List ℕ) → is_true (binary (Compare Eq Binary) (Text t) (Text text)) ≡ bytes_eq t text
 unfolding binary
-two_texts t text = ap (λ o. is_true (from_truth (Some (is_eq o)))) (value_cmp-Text t text) ∙ back (is_eq (slice_cmp nat_cmp t text)) ∙ is_eq-slice_cmp t text
-  where
-    back : (b : Bool) → is_true (from_truth (Some b)) ≡ b
-    back true = refl
-    back false = refl
+two_texts t text = ap (λ o. is_true (from_truth (Some (is_eq o)))) (value_cmp-Text t text) ∙ truth_again (is_eq (slice_cmp nat_cmp t text)) ∙ is_eq-slice_cmp t text
 
 pub same_text : (value : Value) (text : List ℕ) → is_true (binary (Compare Eq Binary) value (Text text)) ≡ is_text text value
 unfolding binary value_cmp

@@ -2,8 +2,7 @@ pub mod Examples
 pub mod GivingFacts
 pub mod LeadingFacts
 pub mod PathFacts
-mod ReachFacts
+pub mod ReachFacts
 mod SearchFacts
-pub mod TellingFacts
 pub mod WithoutFacts
 pub mod ZoneFacts

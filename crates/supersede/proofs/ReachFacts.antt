@@ -13,9 +13,10 @@ use Rattle.std.proofs.lemmas.List.Sums.{fold-append}
 use Rattle.std.proofs.lemmas.Map.Views.{Contains-from_any, list_any-from_Contains}
 use Rattle.std.specs.Cmp.Lexicographic.{nat_list_eq_equiv}
 use Rattle.std.proofs.lemmas.Bool.{and_parts, or_right, or_left, or_cases}
+use Rattle.lemmas.proofs.TestFacts.{or_false}
 use Rattle.catalogue.specs.Content.{Content, ids_in, ids_of, is_of, record_of, superseders, Supersedes}
 use Rattle.catalogue.specs.Ids.{Ascend, id_cmp, put_among, same_id}
-use Rattle.catalogue.proofs.IdFacts.{any_insert, apart, exact_ids, fold_any, ids_total, itself, one_id, turned}
+use Rattle.catalogue.proofs.IdFacts.{any_insert, apart, exact_ids, fold_any, itself, one_id, turned, all_below}
 use Rattle.catalogue.proofs.SupersedeFacts.{superseder_catalogued, superseder_is}
 use Rattle.catalogue.specs.declared.sysmod.Sysmod.{Sysmod}
 use Rattle.supersede.specs.Giving.{gives, givers_of}
@@ -84,13 +85,9 @@ superseding content ascend id above = superseder_is (without_holds content) id a
 
 pub walk_begins : (content : Content) (id : List ℕ) → Walked content (id ∷ []) [] id
 walk_begins content id = record {
-  leads = λ from h. let same : from ≡ id = one_id from id (first (same_id from id) h) in record { way = []; leads = same };
+  leads = λ from h. let same : from ≡ id = one_id from id (or_false (same_id from id) ∙ h) in record { way = []; leads = same };
   closed = λ next above none. absurd (cc none);
 }
-  where
-    first : (b : Bool) → (b || false) ≡ true → b ≡ true
-    first true h = refl
-    first false h = h
 
 take_front : (xs ys : List (List ℕ)) (n : ℕ) → n ≤ length xs → take n (xs ++ ys) ≡ take n xs
 take_front [] ys zero le = refl
@@ -113,15 +110,11 @@ walk_goes_on content ascend id next keys_old keys_new old new above at within is
   closed = λ n y asked stands. elim (or_cases (has (take at old) n) (same_id n next || false) (sym (asked_now n) ∙ asked)) [
     | inl before ↦ grown y ∙ or_left (has old y) (has above y) (walked.closed n y before stands)
     | inr now ↦
-        let same : n ≡ next = one_id n next (first (same_id n next) now) in
+        let same : n ≡ next = one_id n next (or_false (same_id n next) ∙ now) in
         grown y ∙ or_right (has old y) (has above y) (ap (λ ids. has ids y) told ∙ ap (λ m. has (superseders content m) y) (sym same) ∙ stands)
   ];
 }
   where
-    first : (b : Bool) → (b || false) ≡ true → b ≡ true
-    first true h = refl
-    first false h = h
-
     here : has old next ≡ true
     here = ap (has old) is ∙ has_at old at next within
 
@@ -155,10 +148,6 @@ none_below : (x : List ℕ) (ids : List (List ℕ)) → AllByRecursion (λ y. id
 none_below x [] all = refl
 none_below x (y ∷ ids) all = rw (apart x y all.0) (none_below x ids all.1)
 
-lower : (x y : List ℕ) (ids : List (List ℕ)) → id_cmp x y ≡ Less → AllByRecursion (λ z. id_cmp y z ≡ Less) ids → AllByRecursion (λ z. id_cmp x z ≡ Less) ids
-lower x y [] less all = tt
-lower x y (z ∷ ids) less all = (ids_total.trans x y z less all.0, lower x y ids less all.1)
-
 pub one_list : (xs ys : List (List ℕ)) → Ascend xs → Ascend ys → ((id : List ℕ) → has xs id ≡ has ys id) → xs ≡ ys
 unfolding IsStrictlySortedBy
 one_list [] [] up_x up_y same = refl
@@ -179,12 +168,12 @@ one_list (x ∷ xs) (y ∷ ys) up_x up_y same = by (one_list xs ys up_x.1 up_y.1
         let is : x ≡ y = exact_ids x y at in
         ap (λ z. z ∷ xs) is ∙ ap (λ zs. y ∷ zs) (rest (λ id. tails is id (same_id id x) refl))
     by rest Less at =
-        let none : has (y ∷ ys) x ≡ false = none_below x (y ∷ ys) (at, lower x y ys at up_y.0) in
+        let none : has (y ∷ ys) x ≡ false = none_below x (y ∷ ys) (at, all_below x y ys at up_y.0) in
         let h : true ≡ false = sym (or_left _ (has xs x) (itself x)) ∙ same x ∙ none in
         absurd (cc h)
     by rest Greater at =
         let below : id_cmp y x ≡ Less = turned x y at in
-        let none : has (x ∷ xs) y ≡ false = none_below y (x ∷ xs) (below, lower y x xs below up_x.0) in
+        let none : has (x ∷ xs) y ≡ false = none_below y (x ∷ xs) (below, all_below y x xs below up_x.0) in
         let h : true ≡ false = sym (or_left _ (has ys y) (itself y)) ∙ sym (same y) ∙ none in
         absurd (cc h)
 

@@ -1,11 +1,12 @@
 -- Looking for an id by halves among ids that ascend, or among what ascends by ids.
-use Rattle.std.proofs.Common.{◌≡◌, ℕ, zero, suc, ◌<◌, ◌≤◌, ◌||◌, Bool, true, false, List, [], ◌∷◌, length, map, map-id, get_or, Some, Ok, Err, inl, inr, refl, sym, subst, ap, arith}
+use Rattle.std.proofs.Common.{◌≡◌, ℕ, zero, suc, ◌<◌, ◌≤◌, true, false, List, [], ◌∷◌, length, map, map-id, get_or, Some, Ok, Err, inl, inr, refl, sym, subst, ap, arith}
 use Rattle.std.specs.List.{AllByRecursion, slice_get}
 use Rattle.std.specs.List.Sorted.{IsBinarySearchResult, IsNonDecreasingBy, IsStrictlySortedBy}
 use Rattle.std.specs.Ordering.{ordering_index}
 use Rattle.std.specs.declared.cmp.Ordering.{Ordering}
 use Rattle.std.specs.declared.cmp.Ordering.TheVariants.{Less, Equal, Greater}
 use Rattle.std.proofs.lemmas.Bool.{cases_lt}
+use Rattle.lemmas.proofs.TestFacts.{most_index, or_true}
 use Rattle.catalogue.specs.Ids.{Ascend, id_cmp, same_id}
 use Rattle.catalogue.proofs.IdFacts.{apart, apart_back, exact_ids, ids_total, itself, turned}
 use Rattle.supersede.specs.Reach.{has}
@@ -14,12 +15,7 @@ use Rattle.supersede.specs.Reach.{has}
 rises_by : (a b id : List ℕ) (o : Ordering) → id_cmp b id ≡ o → id_cmp a b ≡ Less → ordering_index (id_cmp a id) ≤ ordering_index o
 rises_by a b id Less at below = let less : id_cmp a id ≡ Less = ids_total.trans a b id below at in rw less (omega arith)
 rises_by a b id Equal at below = let is : b ≡ id = exact_ids b id at in let less : id_cmp a id ≡ Less = rw (← is) below in rw less (omega arith)
-rises_by a b id Greater at below = most (id_cmp a id)
-  where
-    most : (o : Ordering) → ordering_index o ≤ 2
-    most Less = omega arith
-    most Equal = omega arith
-    most Greater = omega arith
+rises_by a b id Greater at below = most_index (id_cmp a id)
 
 -- what holds of every key holds of the one at an index
 pub at_index : {X : Type 0} → (key : X → List ℕ) (P : List ℕ → Type 0) (xs : List X) → AllByRecursion P (map key xs) → (k : ℕ) (d : X) → k < length xs → P (key (get_or xs k d))
@@ -44,11 +40,7 @@ none_has (x ∷ ids) id differ = rw (differ zero x (omega arith)) (none_has ids 
 pub some_has : (ids : List (List ℕ)) (id : List ℕ) (k : ℕ) → slice_get ids k ≡ Some id → has ids id ≡ true
 some_has [] id k at = absurd (cc at)
 some_has (x ∷ ids) id zero at = let is : x ≡ id = cc at in rw (is, itself id) refl
-some_has (x ∷ ids) id (suc k) at = rw (some_has ids id k at) (one (same_id id x))
-  where
-    one : (b : Bool) → (b || true) ≡ true
-    one true = refl
-    one false = refl
+some_has (x ∷ ids) id (suc k) at = rw (some_has ids id k at) (or_true (same_id id x))
 
 got : (ids : List (List ℕ)) (id : List ℕ) (k : ℕ) → k < length ids → ((d : List ℕ) → id_cmp (get_or ids k d) id ≡ Equal) → slice_get ids k ≡ Some id
 got [] id k within equal = absurd (omega arith)

@@ -51,7 +51,7 @@ in_append_last (z ∷ zs) y = inr (in_append_last zs y)
 -- ---- an entry put where it belongs
 
 module _ {X : Type 0} (order : X → X → Ordering) where
-  put_cases : (xs : List X) (k x : X) → In (insert_key order xs k) x → In xs x ⊎ (k ≡ x)
+  pub put_cases : (xs : List X) (k x : X) → In (insert_key order xs k) x → In xs x ⊎ (k ≡ x)
   put_cases [] k x (inl same) = inr same
   put_cases [] k x (inr none) = absurd none
   put_cases (y ∷ ys) k x h =

@@ -1,9 +1,10 @@
 -- What is taken of lists, one after the other.
-use Rattle.std.proofs.Common.{◌≡◌, ◌∙◌, ◌||◌, ◌+◌, ◌<◌, ℕ, List, [], ◌∷◌, ◌++◌, Bool, true, false, cond, Option, length, get_or, take, map, refl, sym, ap}
+use Rattle.std.proofs.Common.{◌≡◌, ◌∙◌, ◌||◌, ◌+◌, ◌<◌, ℕ, List, [], ◌∷◌, ◌++◌, Bool, true, false, cond, Option, length, get_or, take, map, sym, ap}
 use Rattle.std.specs.BTreeSet.{insert_key}
 use Rattle.std.specs.List.{cons_option, filter, filter_map, list_any}
 use Rattle.std.proofs.lemmas.List.{map-append, take_more}
 use Rattle.std.proofs.lemmas.List.Sums.{fold-append}
+use Rattle.std.proofs.lemmas.List.Elements.{filter-append}
 use Rattle.lemmas.proofs.ListFacts.{filter_map_push}
 use Rattle.catalogue.specs.Ids.{id_cmp, in_order, put_among}
 
@@ -26,17 +27,9 @@ made_more f xs i x old new below at was now =
     ∙ ap in_order (filter_map_push f (take i xs) x ∙ ap (filter_map f) (sym (take_more xs i x below ∙ ap (λ z. take i xs ++ z ∷ []) (sym at))))
 
 -- what passes of one more
-filter_push : {X : Type 0} (f : X → Bool) (xs : List X) (x : X) → filter f (xs ++ x ∷ []) ≡ filter f xs ++ cond (f x) (x ∷ []) []
-filter_push f [] x = refl
-filter_push {X} f (y ∷ ys) x = go (f y) (filter_push f ys x) where
-  go : (b : Bool) → filter f (ys ++ x ∷ []) ≡ filter f ys ++ cond (f x) (x ∷ []) []
-      → cond b (y ∷ filter f (ys ++ x ∷ [])) (filter f (ys ++ x ∷ [])) ≡ cond b (y ∷ filter f ys) (filter f ys) ++ cond (f x) (x ∷ []) []
-  go true rest = ap (λ l. y ∷ l) rest
-  go false rest = rest
-
 pub filter_more : {X : Type 0} (f : X → Bool) (xs : List X) (i : ℕ) (x : X) (old new : List X) → i < length xs → x ≡ get_or xs i x → old ≡ filter f (take i xs) → new ≡ old ++ cond (f x) (x ∷ []) [] → new ≡ filter f (take (i + 1) xs)
 filter_more f xs i x old new below at was now =
-    now ∙ ap (λ l. l ++ cond (f x) (x ∷ []) []) was ∙ sym (filter_push f (take i xs) x)
+    now ∙ ap (λ l. l ++ cond (f x) (x ∷ []) []) was ∙ sym (filter-append f (take i xs) (x ∷ []))
     ∙ ap (filter f) (sym (take_more xs i x below ∙ ap (λ z. take i xs ++ z ∷ []) (sym at)))
 
 -- none passes so far, and one more doesn't

@@ -13,6 +13,7 @@ use Rattle.catalogue.proofs.IdFacts.{in_order_any, one_id}
 use Rattle.supersede.specs.Giving.{gives, is_candidate}
 use Rattle.supersede.specs.Reach.{has}
 use Rattle.supersede.proofs.LeadingFacts.{gives_is}
+use Rattle.supersede.proofs.ReachFacts.{has_from}
 use Rattle.chains.specs.Judge.{status_of}
 use Rattle.chains.specs.Verdicts.{Judged, good, held, lack, verdict_of}
 use Rattle.chains.specs.Worlds.{IsVerdict}
@@ -25,7 +26,6 @@ use Rattle.zone_plans.specs.Choices.{is_given, of_status, or_all, received_or_al
 use Rattle.zone_plans.specs.Graphs.{MayPlace, is_given_by, known_givers, not_given}
 use Rattle.zone_plans.proofs.PlannedFacts.{known_has, known_says}
 use Rattle.zone_plans.proofs.ValueFacts.{filter_on}
-use Rattle.zone_plans.proofs.GraphFacts.{has_from}
 
 or_all_inside : {A : Type 0} (kept all : List A) (x : A) → Contains (or_all kept all) x → Contains kept x ⊎ Contains all x
 or_all_inside [] all x inside = inr inside

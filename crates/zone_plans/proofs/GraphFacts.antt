@@ -5,10 +5,11 @@ use Rattle.std.specs.List.{Contains, flat_map}
 use Rattle.std.proofs.lemmas.Bool.{cases_lt}
 use Rattle.std.proofs.lemmas.List.{get_or_past, take_more}
 use Rattle.std.proofs.lemmas.List.Elements.{Contains-append_cases, Contains-append_left, Contains-append_right, Contains-push, Contains-push_cases}
-use Rattle.lemmas.proofs.ListFacts.{any_at, any_from, first_inside}
-use Rattle.catalogue.specs.Ids.{Ascend, same_id}
-use Rattle.catalogue.proofs.IdFacts.{in_order_has, itself, one_id}
+use Rattle.lemmas.proofs.ListFacts.{first_inside}
+use Rattle.catalogue.specs.Ids.{Ascend}
+use Rattle.catalogue.proofs.IdFacts.{in_order_has}
 use Rattle.supersede.specs.Reach.{has}
+use Rattle.supersede.proofs.ReachFacts.{has_from}
 use Rattle.requisites.specs.Nodes.{mark_of}
 use Rattle.requisites.specs.Sources.{HasSource, source_of}
 use Rattle.requisites.proofs.SourceFacts.{marked_inside}
@@ -18,12 +19,6 @@ use Rattle.chains.proofs.AnswerFacts.{index_is}
 use Rattle.chains.proofs.IndexFacts.{indexed_inside}
 use Rattle.chains.proofs.PartFacts.{at_map}
 use Rattle.zone_plans.specs.Graphs.{AreAnswered, AreGivenIndices, ArePushed, AreSourced, AreStarts, IsGivenIndex, IsLeftAmong, IsStart, ReadingLists, all_needs}
-
-pub has_from : (ids : List (List ℕ)) (id : List ℕ) → Contains ids id → has ids id ≡ true
-has_from ids id inside = any_at (same_id id) ids id inside (itself id)
-
-pub has_to : (ids : List (List ℕ)) (id : List ℕ) → has ids id ≡ true → Contains ids id
-has_to ids id h = let found = any_from (same_id id) ids h in let P : List ℕ → Type 0 = λ x. Contains ids x in subst P (sym (one_id id found.element found.passes)) found.member
 
 -- a mark is that of a fact
 pub record IsMarkOf (P : Type 0) (mark : Bool) : Type 0 where

@@ -9,10 +9,10 @@ use Rattle.requisites.proofs.LeadsFacts.{leads_more}
 use Rattle.requisites.proofs.SourceFacts.{marked_inside}
 use Rattle.install_order.specs.Steps.{AreInOrder, IsClosed}
 use Rattle.std.proofs.lemmas.List.Elements.{Contains-get_or}
+use Rattle.supersede.proofs.ReachFacts.{has_from, has_to}
 use Rattle.chains.specs.Cuts.{id_at}
 use Rattle.chains.proofs.PartFacts.{at_map}
 use Rattle.zone_plans.specs.Graphs.{AreReachedFrom, AreSourced, AreStarts, AreStartsOf, AreWithin}
-use Rattle.zone_plans.proofs.GraphFacts.{has_from, has_to}
 
 sourced_by : (lists : List (List ℕ)) (marks : List Bool) (sources : List (Option ℕ)) (q m : ℕ) → AreLeastSources lists marks sources → IsMarked marks m → Leads (Links lists (length marks)) m q → (o : Option ℕ) → source_of sources q ≡ o → HasSource sources q
 sourced_by lists marks sources q m are marked leads None e = absurd (are.unreached q m e marked leads)

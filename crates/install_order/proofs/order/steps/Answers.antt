@@ -1,5 +1,5 @@
 use Rattle.std.proofs.Common.{List, Option, ℕ, length, refl, subst}
-use Rattle.requisites.proofs.TestFacts.{ok_then}
+use Rattle.lemmas.proofs.ResultFacts.{ok_so}
 use Rattle.requisites.specs.Nodes.{IsMarked}
 use Rattle.install_order.specs.Levels.{AreLevels, AreRows}
 use Rattle.install_order.proofs.StepFacts.{are_in_order, are_steps, marked_levels}
@@ -11,7 +11,7 @@ returns-clause-steps c =
     let members = c.args.members.now in
     let levels = c.in_ok-levels.levels.items in
     let are : AreLevels needs (length members) (IsMarked members) levels = marked_levels needs c.in_ok-rings.rings members _ levels c.in_ok-rings.ensures refl c.in_ok-levels.ensures.levels in
-    ok_then c.rows_by_level.result c.rows_by_level.ensures (λ steps rows.
+    ok_so c.rows_by_level.result c.rows_by_level.ensures (λ steps rows.
     let P : List (Option ℕ) → Type 0 = λ l. AreRows l steps in
     are_steps needs members levels steps are (subst P c.deref.ensures.value rows))
 
@@ -21,6 +21,6 @@ returns-clause-order c =
     let members = c.args.members.now in
     let levels = c.in_ok-levels.levels.items in
     let are : AreLevels needs (length members) (IsMarked members) levels = marked_levels needs c.in_ok-rings.rings members _ levels c.in_ok-rings.ensures refl c.in_ok-levels.ensures.levels in
-    ok_then c.rows_by_level.result c.rows_by_level.ensures (λ steps rows.
+    ok_so c.rows_by_level.result c.rows_by_level.ensures (λ steps rows.
     let P : List (Option ℕ) → Type 0 = λ l. AreRows l steps in
     are_in_order needs members levels steps are (subst P c.deref.ensures.value rows))

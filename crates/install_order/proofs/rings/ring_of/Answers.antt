@@ -1,5 +1,6 @@
 use Rattle.std.proofs.Common.{List, Option, ℕ, Bool, length, subst}
-use Rattle.requisites.proofs.TestFacts.{from_none, ok_then}
+use Rattle.lemmas.proofs.ResultFacts.{ok_so}
+use Rattle.requisites.proofs.TestFacts.{from_none}
 use Rattle.requisites.specs.Sources.{AreLeastSources}
 use Rattle.install_order.specs.Rings.{AreReached, IsGreatestRoot, IsOnly, IsRoot}
 use Rattle.install_order.proofs.RingFacts.{is_ring, some_root}
@@ -24,7 +25,7 @@ returns c =
     let O : ℕ → Type 0 = λ n. IsOnly n root only in
     let S : List Bool → Type 0 = λ l. AreLeastSources c.args.needs.now l reached in
     let R : List (Option ℕ) → List ℕ → Type 0 = λ s nodes. AreReached left s (length left) nodes in
-    ok_then c.left_with_source.result c.left_with_source.ensures
+    ok_so c.left_with_source.result c.left_with_source.ensures
     (λ ring found. is_ring c.args.needs.now c.args.turned.now left least c.requires.turned c.in_ok-least.ensures.sources
     root only reached ring.items
     (subst P c.deref.ensures.value c.in-Some.ensures.some)

@@ -1,6 +1,6 @@
 use Rattle.std.proofs.Common.{◌≡◌, map, take}
 use Rattle.serde_json.specs.View.{view}
-use Rattle.supersede.proofs.TellingFacts.{HasTold}
+use Rattle.catalogue.proofs.TellingFacts.{HasTold}
 use Rattle.report_json.specs.Json.{sysmod_data}
 use Rattle.report_json.proofs.sysmods.sysmod_values.Given as goal
 

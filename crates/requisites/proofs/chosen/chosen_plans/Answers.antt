@@ -1,7 +1,7 @@
 use Rattle.std.proofs.Common.{◌≡◌, ◌<◌, ◌∙◌, [], List, ℕ, Bool, length, get_or, replicate, false, rules, subst, sym, arith}
+use Rattle.lemmas.proofs.ResultFacts.{ok_so}
 use Rattle.requisites.specs.Marking.{AreMarked}
 use Rattle.requisites.proofs.MarkingFacts.{AreGoodOnes, good_ones, picking_begins, picking_ends, picking_goes_on, plans_marked}
-use Rattle.requisites.proofs.TestFacts.{ok_then}
 use Rattle.requisites.proofs.chosen.chosen_plans.Goals as goal
 
 pub loop-at-init : goal.loop-at-init
@@ -33,6 +33,6 @@ returns-clause-chosen c =
     let nodes = c.args.nodes.now in
     let starts = c.args.starts.now in
     let marks = c.loop-at.chosen.marks.items in
-    ok_then c.ascending.result c.ascending.ensures.marked
+    ok_so c.ascending.result c.ascending.ensures.marked
     (λ plans are. plans_marked nodes starts marks plans.items
     (picking_ends nodes starts marks c.loop-at.chosen.order.items c.loop-at.at (search rules) c.loop-at.invariant) are)

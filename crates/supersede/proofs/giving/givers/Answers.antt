@@ -4,7 +4,7 @@ use Rattle.catalogue.specs.Ids.{Ascend, id_cmp}
 use Rattle.catalogue.proofs.SourceFacts.{no_fault, told_so}
 use Rattle.supersede.specs.Reach.{is_other}
 use Rattle.supersede.proofs.ReachFacts.{each_gives, reach_but_itself, reach_whole}
-use Rattle.supersede.proofs.TellingFacts.{told_in_order_by_two}
+use Rattle.catalogue.proofs.TellingFacts.{told_in_order_by_two}
 use Rattle.supersede.proofs.giving.givers.Goals as goal
 
 pub returns-in-Some-clause-givers : goal.returns-in-Some-clause-givers

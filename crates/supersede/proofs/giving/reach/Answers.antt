@@ -3,7 +3,7 @@ use Rattle.std.proofs.lemmas.List.{take_all}
 use Rattle.catalogue.proofs.SourceFacts.{no_fault, told_so}
 use Rattle.supersede.specs.Reach.{IsReach}
 use Rattle.supersede.proofs.ReachFacts.{Walked, longer, still_has, walk_ends, walk_goes_on}
-use Rattle.supersede.proofs.TellingFacts.{tells_on}
+use Rattle.catalogue.proofs.TellingFacts.{tells_on}
 use Rattle.supersede.proofs.giving.reach.Goals as goal
 
 pub loop-at-preserved : goal.loop-at-preserved

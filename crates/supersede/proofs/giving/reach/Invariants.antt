@@ -3,7 +3,7 @@ use Rattle.catalogue.specs.Content.{ids_of}
 use Rattle.catalogue.specs.Ids.{Ascend}
 use Rattle.supersede.specs.Reach.{Alike, has}
 use Rattle.supersede.proofs.ReachFacts.{Walked}
-use Rattle.supersede.proofs.TellingFacts.{HasTold}
+use Rattle.catalogue.proofs.TellingFacts.{HasTold}
 use Rattle.supersede.proofs.giving.reach.Given as goal
 
 -- the superseders of the ids before `at` were found

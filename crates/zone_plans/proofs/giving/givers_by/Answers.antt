@@ -4,10 +4,11 @@ use Rattle.std.specs.Global.{Vec}
 use Rattle.mcs_reader.specs.declared.id.Id.{Id}
 use Rattle.catalogue.proofs.SourceFacts.{no_fault}
 use Rattle.supersede.specs.Giving.{givers_of}
-use Rattle.supersede.proofs.TellingFacts.{tells_on}
+use Rattle.catalogue.proofs.TellingFacts.{tells_on}
+use Rattle.supersede.proofs.ReachFacts.{has_from}
 use Rattle.zone_plans.specs.Graphs.{givers_or, lists_of}
 use Rattle.zone_plans.proofs.ChoiceFacts.{map_more}
-use Rattle.zone_plans.proofs.GraphFacts.{has_from, item_inside}
+use Rattle.zone_plans.proofs.GraphFacts.{item_inside}
 use Rattle.zone_plans.proofs.giving.givers_by.Goals as goal
 
 pub loop-id-preserved : goal.loop-id-preserved

@@ -2,7 +2,7 @@ use Rattle.std.proofs.Common.{◌≡◌, List, Option, ℕ, map, option_map, tak
 use Rattle.std.specs.Global.{Vec}
 use Rattle.mcs_reader.specs.declared.id.Id.{Id}
 use Rattle.supersede.specs.Giving.{givers_of}
-use Rattle.supersede.proofs.TellingFacts.{HasTold}
+use Rattle.catalogue.proofs.TellingFacts.{HasTold}
 use Rattle.zone_plans.specs.Graphs.{givers_or, lists_of}
 use Rattle.zone_plans.proofs.giving.givers_by.Given as goal
 

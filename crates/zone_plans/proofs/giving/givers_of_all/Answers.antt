@@ -2,7 +2,7 @@ use Rattle.std.proofs.Common.{◌∙◌, ap, map, option_map}
 use Rattle.std.specs.Global.{Vec}
 use Rattle.lemmas.proofs.ResultFacts.{ok_so}
 use Rattle.mcs_reader.specs.declared.id.Id.{Id}
-use Rattle.supersede.proofs.TellingFacts.{told_by_two}
+use Rattle.catalogue.proofs.TellingFacts.{told_by_two}
 use Rattle.chains.specs.Candidates.{candidates_unless_there}
 use Rattle.zone_plans.proofs.giving.givers_of_all.Goals as goal
 

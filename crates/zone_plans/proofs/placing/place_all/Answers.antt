@@ -4,12 +4,12 @@ use Rattle.lemmas.proofs.ListFacts.{flat_inside, map_inside}
 use Rattle.catalogue.proofs.IdFacts.{in_order_has}
 use Rattle.catalogue.proofs.SourceFacts.{told_so}
 use Rattle.supersede.specs.Reach.{has}
+use Rattle.supersede.proofs.ReachFacts.{has_from}
 use Rattle.report_holds.specs.Holds.{HoldLists}
 use Rattle.report_holds.specs.declared.holds.Resolver.{Resolver}
 use Rattle.zone_plans.specs.Graphs.{known_givers, lists_of}
 use Rattle.zone_plans.specs.Plans.{resolvers_named}
 use Rattle.zone_plans.proofs.placing.place_all.Goals as goal
-use Rattle.zone_plans.proofs.GraphFacts.{has_from}
 
 pub returns-clause-placed : goal.returns-clause-placed
 returns-clause-placed g c =

@@ -1,7 +1,7 @@
 use Rattle.std.proofs.Common.{◌≡◌, ◌∙◌, List, map, sym, subst}
 use Rattle.lemmas.proofs.ResultFacts.{ok_so}
 use Rattle.catalogue.proofs.SourceFacts.{told_later}
-use Rattle.supersede.proofs.TellingFacts.{told_by_two}
+use Rattle.catalogue.proofs.TellingFacts.{told_by_two}
 use Rattle.zone_plans.specs.Plans as Plans
 use Rattle.zone_plans.specs.declared.placing.Placed.{Placed}
 use Rattle.zone_plans.proofs.PlanFacts.{chosen_are_good, is_zone_plan}

@@ -1,5 +1,5 @@
 use Rattle.std.proofs.Common.{◌≡◌, map, take}
-use Rattle.supersede.proofs.TellingFacts.{HasTold}
+use Rattle.catalogue.proofs.TellingFacts.{HasTold}
 use Rattle.zone_plans.specs.Graphs.{reading_of}
 use Rattle.zone_plans.proofs.reading.readings.Given as goal
 

@@ -1,7 +1,7 @@
 use Rattle.std.proofs.Common.{◌≡◌, ◌∙◌, List, ap, subst, sym}
 use Rattle.lemmas.proofs.ResultFacts.{ok_so}
 use Rattle.catalogue.proofs.SourceFacts.{told_both}
-use Rattle.supersede.proofs.TellingFacts.{told_by_two}
+use Rattle.catalogue.proofs.TellingFacts.{told_by_two}
 use Rattle.reports.specs.MissingRows.{missing_rows_of}
 use Rattle.report_holds.proofs.ToldFacts.{missing_told}
 use Rattle.zone_plans.proofs.report_plans.missing_plan.Goals as goal
