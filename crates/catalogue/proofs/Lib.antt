@@ -12,3 +12,4 @@ pub mod PublicationFacts
 pub mod ReadingFacts
 pub mod AskedFacts
 pub mod SourceFacts
+pub mod TellingFacts

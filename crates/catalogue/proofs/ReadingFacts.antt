@@ -6,6 +6,7 @@ use Rattle.std.specs.List.{fold, flat_map, list_any}
 use Rattle.std.specs.Option.{option_or, option_to_list}
 use Rattle.std.proofs.lemmas.List.{append-nil}
 use Rattle.std.proofs.lemmas.List.Sums.{fold-append}
+use Rattle.lemmas.proofs.TestFacts.{or_false, or_true}
 use Rattle.mcs_reader.specs.declared.statement.Statement.{Statement}
 use Rattle.holddata.specs.Statements as holddata
 use Rattle.catalogue.specs.declared.change.Change.{Change}
@@ -135,18 +136,10 @@ read_all statements = read_on nothing_begun statements
 
 -- ---- faults
 
-or_true : (b : Bool) → true ≡ (b || true)
-or_true true = refl
-or_true false = refl
-
-or_false : (b : Bool) → b ≡ (b || false)
-or_false true = refl
-or_false false = refl
-
 -- a header that is read begins a record
 pub begins : (part : Part) (statement : Statement) (begun : Begun) → faults_by part (is_some begun.open_record) statement ≡ []
     → is_some (with_part part statement begun).open_record ≡ (is_some begun.open_record || is_header part)
-begins (Header kind) statement begun none = by statement.subject none ∙ or_true (is_some begun.open_record)
+begins (Header kind) statement begun none = by statement.subject none ∙ sym (or_true (is_some begun.open_record))
   where
     by : (subject : Option (List ℕ)) → fault_if (is_none subject) (BadId statement.line) ≡ [] → is_some (option_map (λ id. record_by kind id [] []) subject) ≡ true
     by None h = cc
@@ -173,11 +166,7 @@ no_first (x ∷ xs) h = absurd (cc h)
 
 opened_by : (begun : Begun) (statements : List Statement) → first_fault (is_some begun.open_record) statements ≡ None
     → is_some (fold with_statement begun statements).open_record ≡ (is_some begun.open_record || list_any (λ statement. is_header (part_of statement)) statements)
-opened_by begun [] none = or_nothing (is_some begun.open_record)
-  where
-    or_nothing : (b : Bool) → b ≡ (b || false)
-    or_nothing true = refl
-    or_nothing false = refl
+opened_by begun [] none = or_false (is_some begun.open_record)
 opened_by begun (statement ∷ statements) none =
     opened_by (with_statement begun statement) statements (ap (λ b. first_fault b statements) opens ∙ parts.1)
     ∙ ap (λ b. b || list_any (λ s. is_header (part_of s)) statements) opens

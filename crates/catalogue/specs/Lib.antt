@@ -11,3 +11,4 @@ pub mod Asked
 pub mod Opened
 pub mod View
 pub mod ListPublished
+pub mod Seen

@@ -3,6 +3,7 @@
 //! - [`Published`]: what every layer above reads the published content by, whether it is kept in lists or in a file;
 //!   [`SourceFault`]: why it tells nothing
 //! - [`ListPublished`]: the content in lists
+//! - [`Seen`]: what is published of one SYSMOD, its record and the holds on it
 //! - [`Sysmod`], [`SysmodKind`], [`Ids`], [`CondNeeds`]: a record of the catalogue and its parts
 //! - [`Change`]: a record that is put or a change to the holds; a list of them is a publication
 //! - [`read_changes`]: the changes that statements make, or their [`CatFault`]; [`ChangeReader`]: one statement at a
@@ -37,6 +38,7 @@ mod index;
 mod list_published;
 mod published;
 mod reading;
+mod seen;
 mod sysmod;
 mod touching;
 
@@ -49,5 +51,6 @@ pub use list_published::ListPublished;
 pub use mcs_reader::NoMemory;
 pub use published::Published;
 pub use reading::{ChangeReader, read_changes};
+pub use seen::Seen;
 pub use sysmod::{Sysmod, SysmodKind};
 pub use touching::touched;

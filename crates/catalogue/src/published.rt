@@ -1,14 +1,16 @@
 //! Where the published content is read.
-ghost use Rattle.std.specs.Prelude.{◌≡◌, IfOk};
+ghost use Rattle.std.specs.Prelude.{◌≡◌, IfOk, map};
 ghost use Rattle.holddata.specs.HoldBook.{IsInKeyOrder};
 ghost use Rattle.catalogue.specs.Content.{Content, IsInOrder, ids_of, record_of, superseders, holds_on};
 ghost use Rattle.catalogue.specs.Ids.{Ascend};
-ghost use Rattle.catalogue.specs.View.{Asks, IsLawful, IsOpen, Tells, View};
+ghost use Rattle.catalogue.specs.Seen.{seen_in};
+ghost use Rattle.catalogue.specs.View.{Asks, IsLawful, IsOpen, MayAsk, Tells, View};
 ghost use Rattle.catalogue.specs.declared.fault.SourceFault.TheVariants.{Device};
 
-use crate::{SourceFault, Sysmod};
+use crate::{Seen, SourceFault, Sysmod};
 use holddata::Hold;
 use mcs_reader::Id;
+use std::alloc::Global;
 
 /// A source of the published content: lists, or a file.
 ///
@@ -62,6 +64,26 @@ pub trait Published {
         ensures holds { IfOk result (λ holds. Tells content_view self.old self.new
             (λ content. holds.items ≡ holds_on content id.now)) }
         ensures in_key_order { IfOk result (λ holds. IsInKeyOrder holds.items) };
+
+    /// What is published of each of some SYSMODs, in the order of the list. A source that can read many at once does
+    /// so; otherwise one is read after the other.
+    ///
+    /// # Errors
+    ///
+    /// Those of [`Published::ids`].
+    fn seen(&mut self, alloc: Global, ids: &[Id]) -> Result<Vec<Seen>, SourceFault>
+        ensures asks { MayAsk content_view Device self.old self.new result }
+        ensures seen { IfOk result (λ found. Tells content_view self.old self.new
+            (λ content. found.items ≡ map (seen_in content) ids.now)) }
+    {
+        let mut found = Vec::with_capacity(alloc, ids.len())?;
+        for id in ids {
+            let sysmod = self.sysmod(id)?;
+            let holds = self.holds_on(id)?;
+            found.push(Seen { sysmod, holds })?;
+        }
+        Ok(found)
+    }
 
     /// What the view keeps to.
     ghost lawful: { IsLawful content_view };

@@ -1,7 +1,7 @@
 use Rattle.std.proofs.Common.{◌∙◌, sym}
 use Rattle.catalogue.proofs.SourceFacts.{no_fault}
 use Rattle.supersede.specs.Giving.{is_candidate}
-use Rattle.supersede.proofs.TellingFacts.{tells_on, told_by_two}
+use Rattle.catalogue.proofs.TellingFacts.{tells_on, told_by_two}
 use Rattle.blocked_needs.proofs.ListFacts.{find_at, find_later}
 use Rattle.blocked_needs.proofs.applying.first_that_applies.Goals as goal
 

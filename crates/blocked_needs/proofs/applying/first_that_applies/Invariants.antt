@@ -1,7 +1,7 @@
 use Rattle.std.proofs.Common.{◌≡◌, None, take}
 use Rattle.std.specs.List.{find}
 use Rattle.supersede.specs.Giving.{is_candidate}
-use Rattle.supersede.proofs.TellingFacts.{HasTold}
+use Rattle.catalogue.proofs.TellingFacts.{HasTold}
 use Rattle.blocked_needs.proofs.applying.first_that_applies.Given as goal
 
 abbrev pub invariant-loop-id : goal.invariant-loop-id

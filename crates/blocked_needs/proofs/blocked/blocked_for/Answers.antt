@@ -1,6 +1,6 @@
 use Rattle.std.proofs.Common.{◌∙◌, List, ℕ, Bool, Option, Some, find, ap}
 use Rattle.supersede.specs.Giving.{is_candidate}
-use Rattle.supersede.proofs.TellingFacts.{told_by_two}
+use Rattle.catalogue.proofs.TellingFacts.{told_by_two}
 use Rattle.blocked_needs.specs.Blocked.{giver_of, has_one}
 use Rattle.blocked_needs.specs.declared.blocked.BlockedNeed.{BlockedNeed}
 use Rattle.blocked_needs.proofs.blocked.blocked_for.Goals as goal

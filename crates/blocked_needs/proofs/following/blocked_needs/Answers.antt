@@ -1,7 +1,7 @@
 use Rattle.std.proofs.Common.{List, ℕ, ◌++◌, ◌∷◌, [], take, sym, ap, subst, ◌∙◌}
 use Rattle.std.proofs.lemmas.List.{take_all, take_more}
 use Rattle.catalogue.proofs.SourceFacts.{no_fault, told_both, told_so}
-use Rattle.supersede.proofs.TellingFacts.{tells_on}
+use Rattle.catalogue.proofs.TellingFacts.{tells_on}
 use Rattle.blocked_needs.specs.Seen.{AreSeen}
 use Rattle.blocked_needs.proofs.BlockedFacts.{are_blocked_needs}
 use Rattle.blocked_needs.proofs.following.blocked_needs.Goals as goal

@@ -1,5 +1,5 @@
 use Rattle.std.proofs.Common.{take}
-use Rattle.supersede.proofs.TellingFacts.{HasTold}
+use Rattle.catalogue.proofs.TellingFacts.{HasTold}
 use Rattle.blocked_needs.specs.Seen.{AreSeen}
 use Rattle.blocked_needs.proofs.following.blocked_needs.Given as goal
 

@@ -1,6 +1,6 @@
 use Rattle.std.proofs.Common.{◌≡◌, ◌∙◌, Option, Some, None, refl, sym}
 use Rattle.catalogue.proofs.SourceFacts.{no_fault, told_both, told_so}
-use Rattle.supersede.proofs.TellingFacts.{tells_on}
+use Rattle.catalogue.proofs.TellingFacts.{tells_on}
 use Rattle.blocked_needs.proofs.BlockedFacts.{partly_begun, seen_again, seen_more, seen_none}
 use Rattle.blocked_needs.proofs.following.follow.Goals as goal
 

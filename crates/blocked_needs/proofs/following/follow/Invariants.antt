@@ -1,5 +1,5 @@
 use Rattle.std.proofs.Common.{List, ℕ}
-use Rattle.supersede.proofs.TellingFacts.{HasTold}
+use Rattle.catalogue.proofs.TellingFacts.{HasTold}
 use Rattle.blocked_needs.specs.Seen.{AreSeen}
 use Rattle.blocked_needs.proofs.BlockedFacts.{ArePartlySeen}
 use Rattle.blocked_needs.proofs.following.follow.Given as goal

@@ -1,7 +1,7 @@
 use Rattle.std.proofs.Common.{◌∙◌, ap}
 use Rattle.lemmas.proofs.ResultFacts.{ok_so}
 use Rattle.catalogue.proofs.SourceFacts.{told_sooner}
-use Rattle.supersede.proofs.TellingFacts.{told_by_two}
+use Rattle.catalogue.proofs.TellingFacts.{told_by_two}
 use Rattle.plan_texts.specs.declared.report.Report.TheVariants.{MissingFix}
 use Rattle.plan_reports.specs.Replies.{text_of_plan}
 use Rattle.plan_reports.proofs.missing.missing_plan_text.Goals as goal

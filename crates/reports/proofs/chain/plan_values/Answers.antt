@@ -1,7 +1,7 @@
 use Rattle.std.proofs.Common.{◌∙◌, ap}
 use Rattle.std.proofs.lemmas.List.{take_all}
 use Rattle.catalogue.proofs.SourceFacts.{no_fault, told_so}
-use Rattle.supersede.proofs.TellingFacts.{tells_on}
+use Rattle.catalogue.proofs.TellingFacts.{tells_on}
 use Rattle.reports.specs.ChainText.{member_with, plan_items}
 use Rattle.reports.proofs.ChainFacts.{plan_by, plan_more}
 use Rattle.reports.proofs.chain.plan_values.Goals as goal

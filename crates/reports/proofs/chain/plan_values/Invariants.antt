@@ -1,6 +1,6 @@
 use Rattle.std.proofs.Common.{◌≡◌, map, take}
 use Rattle.serde_json.specs.View.{view}
-use Rattle.supersede.proofs.TellingFacts.{HasTold}
+use Rattle.catalogue.proofs.TellingFacts.{HasTold}
 use Rattle.reports.specs.ChainText.{plan_member}
 use Rattle.reports.proofs.chain.plan_values.Given as goal
 

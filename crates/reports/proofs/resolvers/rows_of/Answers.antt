@@ -1,7 +1,7 @@
 use Rattle.std.proofs.Common.{◌∙◌, ap, filter_map, map, option_map, sym}
 use Rattle.catalogue.specs.Ids.{in_order}
 use Rattle.catalogue.proofs.SourceFacts.{told_later}
-use Rattle.supersede.proofs.TellingFacts.{told_by_two}
+use Rattle.catalogue.proofs.TellingFacts.{told_by_two}
 use Rattle.chains.specs.Candidates.{candidates_unless_there}
 use Rattle.reports.specs.Resolvers.{row_by, status_in}
 use Rattle.reports.proofs.ResolverFacts.{answers_read}
