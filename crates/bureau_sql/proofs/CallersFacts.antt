@@ -1,5 +1,5 @@
 -- The callers of a callers file can be written: no two have one name or one token, and each is short.
-use Rattle.std.proofs.Common.{◌≡◌, ◌≤◌, ◌<◌, ◌+◌, ◌∙◌, ◌⊎◌, ◌||◌, ℕ, zero, suc, Bool, true, false, List, [], ◌∷◌, ◌++◌, length, Option, Some, None, Result, Ok, Err, inl, inr, refl, sym, ap, subst, arith, nat_le, length-append}
+use Rattle.std.proofs.Common.{◌≡◌, ◌≤◌, ◌<◌, ◌+◌, ◌∙◌, ◌||◌, ℕ, zero, suc, Bool, true, false, List, [], ◌∷◌, ◌++◌, length, Option, Some, None, Result, Ok, Err, inl, inr, refl, sym, ap, subst, arith, nat_le, length-append}
 use Rattle.std.specs.Prelude.{slice_get}
 use Rattle.std.specs.BTreeSet.{insert_key}
 use Rattle.std.specs.List.{AllByRecursion, list_any}
@@ -10,13 +10,13 @@ use Rattle.std.specs.declared.cmp.Ordering.TheVariants.{Less, Equal, Greater}
 use Rattle.std.proofs.lemmas.Bool.{cases_Bool, false≢true}
 use Rattle.std.proofs.lemmas.Bool.Decides.{nat_tests}
 use Rattle.std.proofs.lemmas.Slice.Eq.{bytes_eq-Decides}
-use Rattle.mcs_reader.proofs.IdFacts.{id_over_blanks, padded_over_blanks}
+use Rattle.mcs_reader.proofs.IdFacts.{id_over_blanks, padded_over_blanks, text_is_few}
 use Rattle.mcs_reader.specs.Id.{IsId, id_of, is_id_text, padded, text_of}
 use Rattle.zone_lists.specs.Fields.{Record}
 use Rattle.zone_lists.specs.Fields as fields
 use Rattle.zone_lists.specs.Lists.{Numbered, answer, in_order, records_of}
 use Rattle.zone_lists.specs.declared.fault.ListFault.{ListFault}
-use Rattle.zone_lists.proofs.EachFacts.{In}
+use Rattle.zone_lists.proofs.EachFacts.{In, put_cases}
 use Rattle.zone_lists.proofs.ListFacts.{after, answer_after, answer_read, go_on, in_order_more, next_entry}
 use Rattle.bureau_store.specs.Callers.{caller_fields, caller_list, callers_of, comes_again, has_publisher, is_token, named_row, row_order, with_publisher}
 use Rattle.bureau_store.specs.declared.caller.CallerRow.{CallerRow}
@@ -40,9 +40,6 @@ name_is_id text name is = elim (cases_Bool (is_id_text text)) [
 
 token_is_short : (token : List ℕ) → is_token token ≡ true → length token ≤ 64
 token_is_short token is = grind (arith, nat_tests)
-
-text_is_short : (text : List ℕ) → is_id_text text ≡ true → length text ≤ 7
-text_is_short text is = grind (arith, nat_tests)
 
 named_short : (name : Option (List ℕ)) (token : List ℕ) (row : CallerRow) → ((id : List ℕ) → name ≡ Some id → IsId id) → named_row name token ≡ Ok row → IsShort row
 named_short None token row ids is = absurd (cc is)
@@ -77,16 +74,6 @@ in_more (z ∷ zs) y x (inr later) = inr (in_more zs y x later)
 in_last : {X : Type 0} (xs : List X) (y : X) → In (xs ++ y ∷ []) y
 in_last [] y = inl refl
 in_last (z ∷ zs) y = inr (in_last zs y)
-
-put_cases : {X : Type 0} (order : X → X → Ordering) (xs : List X) (k x : X) → In (insert_key order xs k) x → In xs x ⊎ (k ≡ x)
-put_cases order [] k x (inl same) = inr same
-put_cases order [] k x (inr none) = absurd none
-put_cases order (y ∷ ys) k x h =
-    elim (order k y) as (λ o. In (match_ordering o (k ∷ y ∷ ys) (y ∷ ys) (y ∷ insert_key order ys k)) x → In (y ∷ ys) x ⊎ (k ≡ x)) [
-      | Less ↦ λ h. elim h [ inl same ↦ inr same | inr old ↦ inl old ]
-      | Equal ↦ λ h. inl h
-      | Greater ↦ λ h. elim h [ inl same ↦ inl (inl same) | inr later ↦ elim (put_cases order ys k x later) [ inl old ↦ inl (inr old) | inr same ↦ inr same ] ]
-    ] h
 
 put_size : {X : Type 0} (order : X → X → Ordering) (xs : List X) (k : X) → length (insert_key order xs k) ≤ length xs + 1
 put_size order [] k = omega arith
@@ -230,7 +217,7 @@ fit_from all rows come = record {
   short = λ i one got.
       let it = come.each one (in_got text_of_name rows i one got) in
       let token = it.token in
-      let name = text_is_short (text_of one.name) it.named.0 in
+      let name = text_is_few (text_of one.name) it.named.0 in
       omega (arith, token, name);
   few = let size = come.size in let most = come.few in omega (arith, size, most);
 }

@@ -109,7 +109,7 @@ leads_on {A} {F} old new result change From h = record { keeps = h.keeps; surviv
     by (Err e) done = tt
 
 -- a failure since the change is one since before it
-since : (old mid new : State) (Commits : Trees → Type 0) → Survives old mid Commits → HasCleanDisk mid → mid.faults ≤ new.faults → HasFailed mid new → HasFailed old new
+pub since : (old mid new : State) (Commits : Trees → Type 0) → Survives old mid Commits → HasCleanDisk mid → mid.faults ≤ new.faults → HasFailed mid new → HasFailed old new
 since old mid new Commits survives clean counts (inl more) = let rose = survives.counts in inl (omega (arith, more, rose, counts))
 since old mid new Commits survives clean counts (inr shut) = elim (cases_Bool old.is_open) [
   | inl on ↦ elim (survives.closes clean on) [

@@ -1,25 +1,16 @@
 -- What is handed to a change is fit to be written.
-use Rattle.std.proofs.Common.{◌≡◌, ◌∙◌, ℕ, ◌+◌, ◌<◌, ◌≤◌, ◌&&◌, Bool, IsTrue, List, [], ◌∷◌, ◌++◌, false, true, get_or, inl, inr, ap, length, refl, subst, sym, take}
+use Rattle.std.proofs.Common.{◌≡◌, ℕ, ◌≤◌, ◌&&◌, Bool, IsTrue, List, [], ◌∷◌, false, true, inl, inr, length, refl, subst, take}
 use Rattle.std.specs.List.{AllByRecursion, list_all}
 use Rattle.std.specs.Str.{bytes_eq}
 use Rattle.std.proofs.lemmas.Bool.{cases_Bool}
-use Rattle.std.proofs.lemmas.List.{take_all, take_more}
+use Rattle.std.proofs.lemmas.List.{take_all}
 use Rattle.std.proofs.lemmas.Slice.Eq.{bytes_eq-Decides}
 use Rattle.mcs_reader.specs.Id.{IsId}
 use Rattle.bureau_store.specs.Caller.{IsProper, publisher_name}
 use Rattle.bureau_store.specs.declared.caller.Caller.TheVariants.{Client}
 use Rattle.zone_lists.specs.Pattern.{is_pattern}
 use Rattle.sql_tables.specs.Fit.{IsNamed}
-
-all_and_one : {X : Type 0} (P : X → Type 0) (xs : List X) (x : X) → AllByRecursion P xs → P x → AllByRecursion P (xs ++ x ∷ [])
-all_and_one P [] x all one = (one, tt)
-all_and_one P (y ∷ xs) x all one = (all.0, all_and_one P xs x all.1 one)
-
--- the elements so far, and one more
-pub all_so_far : {X : Type 0} (P : X → Type 0) (xs : List X) (i : ℕ) (x : X) → i < length xs → x ≡ get_or xs i x → AllByRecursion P (take i xs) → P x
-    → AllByRecursion P (take (i + 1) xs)
-all_so_far P xs i x low at all one =
-    subst (AllByRecursion P) (ap (λ y. take i xs ++ y ∷ []) at ∙ sym (take_more xs i x low)) (all_and_one P (take i xs) x all one)
+pub use Rattle.sql_writes.proofs.BoundFacts.{all_more as all_so_far}
 
 pub all_seen : {X : Type 0} (P : X → Type 0) (xs : List X) (i : ℕ) → length xs ≤ i → AllByRecursion P (take i xs) → AllByRecursion P xs
 all_seen P xs i past all = subst (AllByRecursion P) (take_all i xs past) all

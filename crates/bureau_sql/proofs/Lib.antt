@@ -14,4 +14,5 @@ pub mod FitFacts
 pub mod OpenFacts
 pub mod OpensFacts
 pub mod RoomFacts
+pub mod SeenFacts
 pub mod FoundedFacts

@@ -1,5 +1,5 @@
 -- What is left of a file of version 1 that was made one of version 2, or was not.
-use Rattle.std.proofs.Common.{◌≡◌, ◌≢◌, ◌≤◌, ◌⊎◌, ◌∙◌, ℕ, Err, IsTrue, List, Ok, OnErr, OnOk, Result, Some, ap, arith, false, inl, inr, refl, subst, sym}
+use Rattle.std.proofs.Common.{◌≡◌, ◌≢◌, ◌⊎◌, ◌∙◌, ℕ, Err, IsTrue, List, Ok, OnErr, OnOk, Result, Some, ap, arith, false, inl, inr, refl, subst, sym}
 use Rattle.std.specs.Prelude.{IsSome}
 use Rattle.std.proofs.lemmas.Bool.{cases_Bool}
 use Rattle.bureau_store.specs.Store.{IsOfCall}
@@ -23,7 +23,7 @@ use Rattle.sql_writes.specs.Migrating.{HeldEarlier, HoldsAll, IsMigration}
 use Rattle.sql_state.proofs.StopFacts.{failed_before, kept_then, was_clean}
 use Rattle.sql_writes.specs.Excused.{Excuses}
 use Rattle.bureau_sql.specs.Failing.{CannotWrite}
-use Rattle.bureau_sql.proofs.FailingFacts.{cannot_write}
+use Rattle.bureau_sql.proofs.FailingFacts.{cannot_write, since}
 use Rattle.bureau_sql.specs.Founded.{AreLed, IsLed}
 use Rattle.bureau_sql.specs.Migrated.{AreMigrated, IsMigrated, IsUntouched, LeavesUntouched}
 use Rattle.bureau_sql.specs.Opening.{HasTables, IsNotEarlier, IsTaken, IsUnderstood, TellsVersion}
@@ -146,17 +146,6 @@ module _ (old mid new : State) (reads : OnlyReads mid new) where
         inr (kept.was_open here, rests trees here may ∙ ap (λ (database : Database). database.trees) (kept.committed here));
   }
 
--- a failure after a step is one since before it
-failed_later : (old mid new : State) (Leaves : Trees → Type 0) → Survives old mid Leaves → HasCleanDisk mid → mid.faults ≤ new.faults → HasFailed mid new → HasFailed old new
-failed_later old mid new Leaves survives clean counts (inl more) = let rose = survives.counts in inl (omega (arith, more, rose, counts))
-failed_later old mid new Leaves survives clean counts (inr shut) = elim (cases_Bool old.is_open) [
-  | inl on ↦ elim (survives.closes clean on) [
-    | inl here ↦ absurd (let never = sym shut ∙ here in cc)
-    | inr more ↦ inl (omega (arith, more, counts))
-  ]
-  | inr off ↦ inr off
-]
-
 -- why the transaction failed, where the database is ours
 pub failed_to_migrate : (old held migrated last : State) (error : Error) → OnlyReads old held → (HasCleanDisk held → IsTrue held.is_open)
     → (Leaves : Trees → Type 0) → Survives held migrated Leaves → OnlyReads migrated last → (HasCleanDisk migrated → IsOfVersion1 held.committed → Excuses held migrated error)
@@ -169,16 +158,16 @@ failed_to_migrate old held migrated last error reads is_open Leaves survives lat
     at_held : HasCleanDisk held
     at_held = was_clean held migrated Leaves survives at_migrated
 
-    since : HasFailed held last → HasFailed old last
-    since = failed_later old held last (λ trees. ⊥) reads.survives at_held (let one = survives.counts in let two = later.survives.counts in omega (arith, one, two))
+    before_all : HasFailed held last → HasFailed old last
+    before_all = since old held last (λ trees. ⊥) reads.survives at_held (let one = survives.counts in let two = later.survives.counts in omega (arith, one, two))
 
     lifted : CannotWrite held migrated → CannotWrite old last
-    lifted (inl failed) = inl (since (failed_before held migrated last failed later.survives.counts))
+    lifted (inl failed) = inl (before_all (failed_before held migrated last failed later.survives.counts))
     lifted (inr steps) = inr (subst (λ most. IsSome most) reads.survives.limit steps)
 
     by : (error ≢ store_error OutOfMemory) ⊎ HasFailed migrated last → CannotWrite old last
     by (inl known) = lifted (cannot_write held migrated error known (excused at_migrated (subst IsOfVersion1 (sym ((reads.keeps at_held).committed (is_open at_held))) ours)))
-    by (inr failed) = inl (since (failed_later held migrated last Leaves survives at_migrated later.survives.counts failed))
+    by (inr failed) = inl (before_all (since held migrated last Leaves survives at_migrated later.survives.counts failed))
 
 -- the change was begun, and is refused for want of memory or room, or the device failed
 pub of_call : (old new : State) (fault : StoreFault) → IsOfCall fault → IsTaken old.committed → (fault ≢ Memory → IsOfVersion1 old.committed → CannotWrite old new) → IsNotEarlier old new fault

@@ -1,9 +1,9 @@
 -- What is looked at before a connection is taken for a store leaves it as it was, and says why it isn't.
-use Rattle.std.proofs.Common.{◌≡◌, ◌⊎◌, ◌≢◌, ◌+◌, ◌<◌, ◌≤◌, ℕ, Bor, List, [], Err, IfErr, IsTrue, Ok, OnOk, Result, Some, ap, arith, get_or, inl, inr, length, refl, subst, suc, sym, take, zero}
+use Rattle.std.proofs.Common.{◌≡◌, ◌⊎◌, ◌≢◌, ◌+◌, ◌<◌, ◌≤◌, ℕ, Bor, List, [], Err, IfErr, IsTrue, Ok, OnOk, Result, Some, ap, arith, get_or, inl, inr, length, refl, subst, sym, take}
 use Rattle.std.specs.List.{AllByRecursion, Contains}
 use Rattle.std.specs.Prelude.{◌∷◌, Option, codes, unwrap_or}
 use Rattle.std.proofs.lemmas.Bool.{cases_Bool}
-use Rattle.lemmas.proofs.ListFacts.{first_inside, inside_cases, none_inside, rest_inside}
+use Rattle.lemmas.proofs.ListFacts.{first_inside, inside_cases, none_inside, rest_inside, get_any, all_in}
 use Rattle.bureau_store.specs.Store.{IsOfRead}
 use Rattle.bureau_store.specs.declared.fault.StoreFault.{StoreFault}
 use Rattle.bureau_store.specs.declared.fault.StoreFault.TheVariants.{Device, Memory, Shape, Size, Version}
@@ -26,17 +26,12 @@ use Rattle.sql_tables.specs.Stored.{tables_of}
 use Rattle.sql_texts.specs.Meaning.{MakesTable, Reads}
 use Rattle.sql_texts.specs.Reads as read
 use Rattle.sql_texts.specs.Schema.{bureau, bureau_1, sysmod_cond}
-use Rattle.sql_state.proofs.StopFacts.{failed_after, no_read, read_on, was_clean}
+use Rattle.sql_state.proofs.StopFacts.{failed_after, was_clean}
+pub use Rattle.sql_state.proofs.StopFacts.{no_read, read_on}
 use Rattle.bureau_sql.specs.Opening.{Asked, CanAsk, CanMakeConditions, CannotAsk, CannotMakeConditions, HasConditions, HasOtherShape, HasTables, IsAskedBy, IsNoStore, IsNotEarlier, IsNotMigrated, IsNotOf, IsOfBureau, IsOneStatement, IsOther, IsSeen, IsUnderstood, LacksConditions, LacksMore, LacksTables, LacksText, LacksVersion, TellsVersion, of_conditions, of_tables, of_version}
 use Rattle.bureau_sql.specs.SqlState.{SqlState}
 use Rattle.bureau_sql.specs.SqlView.{IsAtRest, IsOurStore, shown, sql_view}
 use Rattle.bureau_sql.proofs.FitFacts.{all_seen, all_so_far}
-
-pub no_read_yet : (at : State) → OnlyReads at at
-no_read_yet at = no_read at
-
-pub reads_after : (first second third : State) → OnlyReads first second → OnlyReads second third → OnlyReads first third
-reads_after first second third sooner later = read_on first second third sooner later
 
 -- ---- what the texts mean
 
@@ -57,19 +52,13 @@ AreMeant at texts = AllByRecursion (λ text. IsUnderstood at.committed.schema te
 pub none_meant_yet : (at : State) (texts : List (Bor (List ℕ))) → HasCleanDisk at → IsTrue at.is_open → AreMeant at (take 0 texts)
 none_meant_yet at texts clean is_open = tt
 
--- which element is at an index doesn't hang on what stands for none
-one_within : {X : Type 0} (xs : List X) (i : ℕ) (x y : X) → i < length xs → get_or xs i x ≡ get_or xs i y
-one_within [] i x y low = absurd (omega arith)
-one_within (z ∷ xs) zero x y low = refl
-one_within (z ∷ xs) (suc i) x y low = one_within xs i x y (omega arith)
-
 pub meant_so_far : (texts : List (Bor (List ℕ))) (i : ℕ) (none : Bor (List ℕ)) (old mid new : State) → OnlyReads old mid → OnlyReads mid new
     → i < length texts → (HasCleanDisk mid → IsTrue mid.is_open → AreMeant old (take i texts))
     → (HasCleanDisk new → IsUnderstood mid.committed.schema (get_or texts i none).now) → HasCleanDisk new → IsTrue new.is_open → AreMeant old (take (i + 1) texts)
 meant_so_far texts i none old mid new sooner later low so_far one clean is_open =
     let before = was_clean mid new (λ trees. ⊥) later.survives clean in
     let was = (later.keeps clean).was_open is_open in
-    all_so_far (λ text. IsUnderstood old.committed.schema text.now) texts i (get_or texts i none) low (one_within texts i none (get_or texts i none) low) (so_far before was)
+    all_so_far (λ text. IsUnderstood old.committed.schema text.now) texts i (get_or texts i none) low (get_any texts i none (get_or texts i none) low) (so_far before was)
     (subst (λ database. IsUnderstood database.schema (get_or texts i none).now) ((sooner.keeps before).committed was) (one clean))
 
 pub all_meant : (texts : List (Bor (List ℕ))) (i : ℕ) (old new : State) → length texts ≤ i → (HasCleanDisk new → IsTrue new.is_open → AreMeant old (take i texts))
@@ -211,10 +200,6 @@ one_not_asked schema (one ∷ more) (first ∷ texts) asked text inside none = e
   | inl same ↦ (one, first_inside one more, (text.now, subst (λ (t : Bor (List ℕ)). IsAskedBy one t.now) same asked.0, none))
   | inr later ↦ let it = one_not_asked schema more texts asked.1 text later none in (it.0, rest_inside one it.0 more it.1, it.2)
 ]
-
-all_in : {X : Type 0} (P : X → Type 0) (xs : List X) → AllByRecursion P xs → (x : X) → Contains xs x → P x
-all_in P [] all x inside = absurd (none_inside x inside)
-all_in P (y ∷ ys) all x inside = elim (inside_cases y x ys inside) [ inl same ↦ subst P same all.0 | inr later ↦ all_in P ys all.1 x later ]
 
 -- one of the texts is no statement, so one of the tables lacks, and the tables are the bureau's of no version
 table_lacks : (texts : List (Bor (List ℕ))) → AreAskedBy of_tables texts → AllByRecursion (λ text. IsOneStatement bureau text.now) texts

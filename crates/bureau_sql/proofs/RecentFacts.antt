@@ -1,5 +1,5 @@
 -- What a store has read since its last change stays so over reads, and a change begins with nothing.
-use Rattle.std.proofs.Common.{◌≡◌, ◌∙◌, ◌⊎◌, ℕ, IfOk, IsTrue, List, [], Ok, Option, Result, Some, ap, arith, inl, inr, length, map, subst, sym}
+use Rattle.std.proofs.Common.{◌≡◌, ◌∙◌, ◌⊎◌, ℕ, IfOk, IsTrue, List, Ok, Option, Result, Some, ap, arith, inl, inr, length, map, subst, sym}
 use Rattle.std.specs.Global.{Vec}
 use Rattle.std.specs.List.{Contains}
 use Rattle.std.specs.Option.{option_map}
@@ -11,6 +11,7 @@ use Rattle.sqlite.specs.State.{HasCleanDisk, State}
 use Rattle.sql_state.specs.Ours.{IsOurs, held_by}
 use Rattle.sql_state.specs.Reading.{OnlyReads}
 use Rattle.sqlite_trees.specs.declared.store.Store.{Ghosts}
+use Rattle.lemmas.proofs.ListFacts.{none_inside}
 use Rattle.zone_lists.specs.declared.zones.ZoneRow.{ZoneRow}
 use Rattle.sql_tables.specs.Stored.{Stored, tables_of}
 use Rattle.sql_state.proofs.StopFacts.{no_read, was_clean}
@@ -18,15 +19,12 @@ use Rattle.bureau_sql.specs.Recent.{AreReadFrom, AreZonesOf, HasMore, IsRecent, 
 use Rattle.bureau_sql.specs.SqlState.{SqlState}
 use Rattle.bureau_sql.specs.SqlView.{shown, sql_view, tables_in}
 
-nothing_inside : {A : Type 0} (x : A) → Contains [] x → ⊥
-nothing_inside x inside = omega (arith, inside.1)
-
 pub nothing_recent : (at : State) (recent : RecentLists) → recent ≡ nothing_read → IsRecent at recent
 nothing_recent at recent none clean is_open ours =
     subst (AreReadFrom (tables_of (held_by at.committed))) (sym none) (record {
-      tokens = λ read inside. absurd (nothing_inside read inside);
-      zones = λ read inside. absurd (nothing_inside read inside);
-      rows = λ read inside. absurd (nothing_inside read inside);
+      tokens = λ read inside. absurd (none_inside read inside);
+      zones = λ read inside. absurd (none_inside read inside);
+      rows = λ read inside. absurd (none_inside read inside);
     })
 
 -- what the committed rows are after a read, they were before

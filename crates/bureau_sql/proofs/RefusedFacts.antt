@@ -1,5 +1,5 @@
 -- Why a text is refused: it is no statement with these tables, or the store below has failed.
-use Rattle.std.proofs.Common.{◌≡◌, ◌∙◌, ◌≤◌, ℕ, List, [], ◌∷◌, IsTrue, ap, arith, inl, inr, length, refl, subst, suc, sym, zero}
+use Rattle.std.proofs.Common.{◌≡◌, ◌∙◌, ◌≤◌, ℕ, List, [], ◌∷◌, IsTrue, ap, inl, inr, length, refl, subst, suc, sym, zero}
 use Rattle.bureau_store.specs.declared.fault.StoreFault.{StoreFault}
 use Rattle.bureau_store.specs.declared.fault.StoreFault.TheVariants.{Device, Memory, Shape, Size, Version}
 use Rattle.sqlite.specs.Clock.{timed}
@@ -14,6 +14,7 @@ use Rattle.sqlite.specs.declared.types.Value.TheVariants.{Null}
 use Rattle.sqlite_resolve.specs.declared.compiled.Compiled.{Compiled}
 use Rattle.sqlite_trees.specs.declared.error.StoreError.{StoreError}
 use Rattle.sqlite_trees.specs.declared.error.StoreError.TheVariants.{OutOfMemory, Io, Corrupt, Full, Broken, Unstorable}
+use Rattle.lemmas.proofs.TestFacts.{low_itself}
 use Rattle.sql_texts.specs.Meaning.{Means}
 use Rattle.sql_state.specs.Reading.{HasFailed}
 use Rattle.sql_state.proofs.StopFacts.{failed_by}
@@ -122,12 +123,9 @@ module _ (old new : State) (text : List ℕ) (e : Error) (settled : IsTrue old.i
 
 -- ---- the probe, a ROLLBACK that is run as a query
 
-self_le : (n : ℕ) → n ≤ n
-self_le n = omega arith
-
 module _ (text : List ℕ) (old new : State) (means : Means old.now.schema text Rollback 0) where
   abbrev one : IsOneStatement old.now.schema text
-  one = (_, means.statement, self_le (length text), refl)
+  one = (_, means.statement, low_itself (length text), refl)
 
   -- it is no query, so what refuses it as anything else has failed
   pub probe_failed : (e : Error) → FailsToQuery text [] old new e → (e ≡ InvalidQuery → ⊥) → (e ≡ store_error OutOfMemory → ⊥) → HasFailed old new

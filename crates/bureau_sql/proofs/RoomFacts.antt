@@ -6,6 +6,7 @@ use Rattle.std.proofs.lemmas.Bool.{cases_Bool, false≢true}
 use Rattle.std.proofs.lemmas.Bool.Decides.{nat_tests}
 use Rattle.bureau_store.specs.Store.{Update}
 use Rattle.sqlite_trees.specs.Tree.{Trees}
+use Rattle.lemmas.proofs.TestFacts.{less_number}
 use Rattle.sql_texts.specs.Schema.{tables}
 use Rattle.sql_writes.specs.Room.{AreUpTo, are_up_to, is_short, is_short_effect, rows_of}
 use Rattle.sql_writes.proofs.NumberFacts.{raised_up_to}
@@ -20,9 +21,6 @@ all_decided test (x ∷ xs) = elim (cases_Bool (test x)) [
   ]
   | inr off ↦ inr (λ all. absurd (false≢true (sym off ∙ all.0)))
 ]
-
-is_below : (a b : ℕ) → nat_lt a b ≡ true → a < b
-is_below a b is = grind (arith, nat_tests, is)
 
 not_below : (a b : ℕ) → nat_lt a b ≡ false → a < b → ⊥
 not_below a b off below = grind (arith, nat_tests, off, below)
@@ -39,7 +37,7 @@ module _ (rows : ℕ) (trees : Trees) where
   numbers_suffice : Suffices ⊎ (Suffices → ⊥)
   numbers_suffice = elim (cases_Bool (nat_lt rows (2 ^ 63))) [
     | inl is ↦
-        let below = is_below rows (2 ^ 63) is in
+        let below = less_number rows (2 ^ 63) is in
         let top : ℕ = 2 ^ 63 - suc rows in
         let highest : top + suc rows ≡ 2 ^ 63 = omega (arith, below) in
         elim (all_decided (λ table. are_up_to top (trees table.tree)) tables) [
@@ -54,7 +52,7 @@ decide_room trees update = elim (cases_Bool (nat_lt 0 update.last.number)) [
   | inl numbered ↦ elim (cases_Bool (is_short update.last.reply)) [
     | inl reply ↦ elim (cases_Bool (is_short_effect update.effect)) [
       | inl lists ↦ elim (numbers_suffice (rows_of update.effect) trees) [
-        | inl low ↦ inl (low.0, low.1, record { numbered = is_below 0 update.last.number numbered; reply = reply; lists = lists; few = low.2 })
+        | inl low ↦ inl (low.0, low.1, record { numbered = less_number 0 update.last.number numbered; reply = reply; lists = lists; few = low.2 })
         | inr none ↦ inr (λ h. none (h.0, h.1, h.2.few))
       ]
       | inr long ↦ inr (λ h. absurd (false≢true (sym long ∙ h.2.lists)))

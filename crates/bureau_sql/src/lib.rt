@@ -6,8 +6,9 @@
 //! - [`law`]: what an opening finds in the files of a store, and that the callers of a callers file can be written
 //!
 //! `specs/` says how such a store is looked at (`SqlView`), how what a connection gives is told (`Told`), what a change
-//! of it leaves (`Committed`), how it is made (`Founded`), why a connection isn't taken for one (`Opening`), what is left
-//! of a file of version 1 that becomes one of version 2 (`Migrated`), and what the files hold between two runs (`Files`).
+//! of it leaves (`Committed`), how it is made (`Founded`), why a connection isn't taken for one (`Opening`), what
+//! is left of a file of version 1 that becomes one of version 2 (`Migrated`), and what the files hold between two
+//! runs (`Files`).
 //!
 //! ```
 //! use bureau_sql::SqlStore;

@@ -91,7 +91,7 @@ fn is_version<S: Alter>(conn: &mut Connection<S>, text: &str, wanted: u64) -> Re
 }
 
 // Whether each of these texts means something with the tables that the connection has.
-#[tactic(auto, using(crate::proofs::OpenFacts::reads_after, crate::proofs::OpenFacts::no_read_yet, crate::proofs::OpenFacts::none_meant_yet, crate::proofs::OpenFacts::all_meant))]
+#[tactic(auto, using(crate::proofs::OpenFacts::read_on, crate::proofs::OpenFacts::no_read, crate::proofs::OpenFacts::none_meant_yet, crate::proofs::OpenFacts::all_meant))]
 fn can_read_all<S: Alter>(conn: &mut Connection<S>, texts: &[&str]) -> Result<(), StoreFault>
     requires rest { conn.old.in_transaction ≡ false }
     ensures reads { OnlyReads (state S.Store conn.old) (state S.Store conn.new) }

@@ -51,8 +51,8 @@ impl<S: Alter> SqlStore<S> {
         self.answered(found)
     }
 
-    // Makes these the callers, and forgets what was read before. Those before are given, with the names of all that come
-    // or go.
+    // Makes these the callers, and forgets what was read before. Those before are given, with the names of all that
+    // come or go.
     fn put_callers(
         &mut self,
         before: &[CallerRow],
@@ -71,15 +71,15 @@ impl<S: Alter> SqlStore<S> {
         self.made(made)
     }
 
-    /// The store has these callers, and no others: those of a callers file, by [`bureau_store::callers`]. Who was a caller
-    /// before keeps all and gets this token. Who is new begins with nothing, and who is gone leaves nothing. It tells how
-    /// many came and went. All is done in one transaction: a stop leaves the tables as they were, or those with these
-    /// callers.
+    /// The store has these callers, and no others: those of a callers file, by [`bureau_store::callers`]. Who was a
+    /// caller before keeps all and gets this token. Who is new begins with nothing, and who is gone leaves nothing.
+    /// It tells how many came and went. All is done in one transaction: a stop leaves the tables as they were, or
+    /// those with these callers.
     ///
     /// # Errors
     ///
-    /// `Memory` or `Size` where memory or room ran out; `Device` where the device failed, now or before, and where two of
-    /// the callers have one name or one token. The tables are as they were.
+    /// `Memory` or `Size` where memory or room ran out; `Device` where the device failed, now or before, and where
+    /// two of the callers have one name or one token. The tables are as they were.
     pub fn set_callers(&mut self, callers: &[CallerRow]) -> Result<CallerCounts, StoreFault>
         ensures { SetsCallers (sql_view S.Store) callers.now self.old self.new result }
     {

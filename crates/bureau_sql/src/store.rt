@@ -121,7 +121,8 @@ impl<S: Alter> SqlStore<S> {
 }
 
 impl<S: Alter> SqlStore<S> {
-    // Looks whether the connection is open after it refused a call. A store whose connection is not seen to be open closes.
+    // Looks whether the connection is open after it refused a call. A store whose connection is not seen to be open
+    // closes.
     #[tactic(auto, using(crate::proofs::FailingFacts::seen_to_fail))]
     fn is_seen(&mut self) -> bool
         ensures reads { OnlyReads (shown S.Store self.old) (shown S.Store self.new) }

@@ -47,16 +47,12 @@ use Rattle.sql_tables.proofs.TreeFacts.{column_after}
 use Rattle.sql_tables.proofs.ValueFacts.{id_again, named_value, state_again}
 use Rattle.sql_texts.specs.Found.{pairs_shown, passes_with}
 use Rattle.sql_texts.specs.Reads as read
-use Rattle.sql_texts.proofs.AnswerFacts.{join_answer, same_text}
+use Rattle.sql_texts.proofs.AnswerFacts.{join_answer, same_text, truth_again}
 use Rattle.sql_reads.proofs.JoinFacts.{join_said}
 use Rattle.sql_reads.proofs.MemberFacts.{all_of, any_from, filtered, joined_from, made_from, one_key, read_from}
 use Rattle.sql_state.proofs.TextFacts.{text_named}
 
 -- ---- how the database compares
-
-back : (b : Bool) → is_true (from_truth (Some b)) ≡ b
-back true = refl
-back false = refl
 
 state_compared : (state : ZoneState) → is_true (binary (Compare Lt Binary) (state_value state) (Int (pos 2))) ≡ is_installed_state state
 unfolding binary
@@ -84,7 +80,7 @@ kinds_alike FixcatHold FixcatHold = refl
 
 kind_compared : (a b : Kind) → is_true (binary (Compare Eq Binary) (hold_kind_value a) (hold_kind_value b)) ≡ (kind_order a == kind_order b)
 unfolding binary
-kind_compared a b = ap (λ o. is_true (from_truth (Some (is_eq o)))) (value_cmp-Int (pos (kind_order a)) (pos (kind_order b))) ∙ back _ ∙ kinds_alike a b
+kind_compared a b = ap (λ o. is_true (from_truth (Some (is_eq o)))) (value_cmp-Int (pos (kind_order a)) (pos (kind_order b))) ∙ truth_again _ ∙ kinds_alike a b
 
 id_compared : (id : List ℕ) (value : Value) → IsId id → (text : Value) → text ≡ Text (text_of id) → is_true (binary (Compare Eq Binary) value text) ≡ is_named id value
 id_compared id value is text same = ap (λ t. is_true (binary (Compare Eq Binary) value t)) same ∙ same_text value (text_of id) ∙ text_named id is value

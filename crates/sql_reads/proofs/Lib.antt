@@ -2,6 +2,7 @@ mod AnsweringFacts
 mod CallerFacts
 mod ClientFacts
 mod CountFacts
+mod CutFacts
 mod HeldFacts
 mod JoinFacts
 pub mod LengthFacts
@@ -10,6 +11,8 @@ mod OrderFacts
 mod ProperFacts
 mod PublishedFacts
 mod QuietFacts
+mod ScanFacts
+mod SeenFacts
 mod TableFacts
 mod TallyFacts
 pub mod VersionFacts

@@ -24,7 +24,7 @@ use Rattle.sqlite_value.specs.declared.value.Value.TheVariants.{Text}
 use Rattle.sql_tables.specs.Fit.{IsRecord}
 use Rattle.sql_tables.specs.InTrees.{columns_of, stored_in}
 use Rattle.sql_tables.specs.Rows.{Beside, cond_found, hold_found, sysmod_found, sysmod_row, with}
-use Rattle.sql_tables.specs.Stored.{beside_of, conds_of, is_of, sup_of, sysmods_of, tables_of}
+use Rattle.sql_tables.specs.Stored.{Stored, beside_of, conds_of, is_of, sup_of, sysmods_of, tables_of}
 use Rattle.sql_tables.specs.Values.{hold_kind_in, id_in}
 use Rattle.sql_tables.specs.Whole.{AreRowsOf, IsWhole}
 use Rattle.sql_tables.proofs.ContentFacts.{hold_own}
@@ -59,6 +59,15 @@ sysmods_ids beside (row ∷ rows) all =
         ∙ ap (option_and_then (λ id. sysmod_found (beside id) (sysmod_row it.0))) (id_again it.0.id it.1.id)
         ∙ sysmod_read (beside it.0.id) it.0 it.1
 
+-- the rows that are shown of an id say its record
+pub sysmod_shown : (stored : Stored) (id : List ℕ) (rows : List Row) → IsPermutation (map (shown (0 ∷ 1 ∷ 2 ∷ 3 ∷ 4 ∷ [])) (filter (is_of id) stored.sysmods)) rows → (found : Option Sysmod)
+    → one_of (sysmod_found (beside_of stored id)) rows ≡ Some found → found ≡ record_of (tables_of stored).content id
+sysmod_shown stored id rows permuted found said =
+    elim (one_case (sysmod_found (beside_of stored id)) (shown (0 ∷ 1 ∷ 2 ∷ 3 ∷ 4 ∷ [])) (filter (is_of id) stored.sysmods) rows found permuted said) [
+      | inl none ↦ none.1 ∙ sym (no_record stored id none.0)
+      | inr its ↦ its.4 ∙ sym (one_record stored id its.0 its.2 its.1 (one_passes (is_of id) stored.sysmods its.0 its.1) its.3)
+    ]
+
 module _ (trees : Trees) where
   pub ids_told : (rows : List Row) (found : List (List ℕ)) → IsWhole (stored_in trees) → Ascend found → IsAnswer read.sysmod_ids trees [] rows
       → map Some found ≡ map (λ row. id_in (column row 0)) rows → found ≡ ids_of (tables_of (stored_in trees)).content
@@ -91,12 +100,8 @@ module _ (trees : Trees) where
     pub sysmod_told : IsAnswer read.sysmod trees (Text (text_of id) ∷ []) rows → (found : Option Sysmod)
         → one_of (sysmod_found (beside_of (stored_in trees) id)) rows ≡ Some found → found ≡ record_of (tables_of (stored_in trees)).content id
     sysmod_told answer found said =
-        let sysmods = columns_of (trees 6) in
-        elim (one_case (sysmod_found (beside_of (stored_in trees) id)) (shown (0 ∷ 1 ∷ 2 ∷ 3 ∷ 4 ∷ [])) (filter (is_of id) sysmods) rows found
-        (table_found 6 (read.is_given 1 0 ∷ []) (0 ∷ 1 ∷ 2 ∷ 3 ∷ 4 ∷ []) (1 ∷ []) (Text (text_of id) ∷ []) trees rows (is_of id) (of_given id is) answer) said) [
-          | inl none ↦ none.1 ∙ sym (no_record (stored_in trees) id none.0)
-          | inr its ↦ its.4 ∙ sym (one_record (stored_in trees) id its.0 its.2 its.1 (one_passes (is_of id) sysmods its.0 its.1) its.3)
-        ]
+        sysmod_shown (stored_in trees) id rows
+        (table_found 6 (read.is_given 1 0 ∷ []) (0 ∷ 1 ∷ 2 ∷ 3 ∷ 4 ∷ []) (1 ∷ []) (Text (text_of id) ∷ []) trees rows (is_of id) (of_given id is) answer) found said
 
 -- ---- holds
 
@@ -116,28 +121,30 @@ pub hold_of : (id : List ℕ) (row : Row) (hold : Hold) → hold_found row ≡ S
 hold_of id row hold h =
     ap (λ o. unwrap_or (option_map (λ found. same_id found id) o) false) (key_parts row hold h).0 ∙ same_back hold.key.sysmod id
 
+-- the rows that are shown of an id say the holds on it
+pub holds_shown : (stored : Stored) (id : List ℕ) (rows : List Row) (found : List Hold) → IsInKeyOrder found
+    → IsPermutation (map (shown (0 ∷ 1 ∷ 2 ∷ 3 ∷ 4 ∷ 5 ∷ 6 ∷ 7 ∷ [])) (filter (is_of id) stored.holds)) rows → map Some found ≡ map hold_found rows → found ≡ holds_on (tables_of stored).content id
+holds_shown stored id rows found ordered shows said =
+    holds_read (filter_map hold_found stored.holds) found (λ key. same_id id key.sysmod) ordered there back
+  where
+    permuted : IsPermutation (filter_map hold_found (filter (is_of id) stored.holds)) found
+    permuted = table_said hold_found (shown (0 ∷ 1 ∷ 2 ∷ 3 ∷ 4 ∷ 5 ∷ 6 ∷ 7 ∷ [])) (filter (is_of id) stored.holds) rows found shows said
+
+    there : (hold : Hold) → Contains found hold → Contains (filter_map hold_found stored.holds) hold × (same_id id hold.key.sysmod ≡ true)
+    there hold inside =
+        let it = read_from hold_found (filter (is_of id) stored.holds) hold
+        (Contains-permutation found (filter_map hold_found (filter (is_of id) stored.holds)) hold (IsPermutation-sym (filter_map hold_found (filter (is_of id) stored.holds)) found permuted) inside) in
+        let row = filtered (is_of id) stored.holds it.0 it.1 in
+        (map_found hold_found stored.holds it.0 hold row.0 it.2, sym (hold_of id it.0 hold it.2) ∙ row.1)
+
+    back : (hold : Hold) → Contains (filter_map hold_found stored.holds) hold → same_id id hold.key.sysmod ≡ true → Contains found hold
+    back hold inside at =
+        let it = read_from hold_found stored.holds hold inside in
+        Contains-permutation (filter_map hold_found (filter (is_of id) stored.holds)) found hold permuted
+        (map_found hold_found (filter (is_of id) stored.holds) it.0 hold (kept_inside (is_of id) stored.holds it.0 it.1 (hold_of id it.0 hold it.2 ∙ at)) it.2)
+
 pub holds_told : (trees : Trees) (id : List ℕ) (rows : List Row) (found : List Hold) → IsId id → IsInKeyOrder found → IsAnswer read.holds_on trees (Text (text_of id) ∷ []) rows
     → map Some found ≡ map hold_found rows → found ≡ holds_on (tables_of (stored_in trees)).content id
 holds_told trees id rows found is ordered answer said =
-    holds_read (filter_map hold_found holds) found (λ key. same_id id key.sysmod) ordered there back
-  where
-    holds : List Row
-    holds = columns_of (trees 11)
-
-    permuted : IsPermutation (filter_map hold_found (filter (is_of id) holds)) found
-    permuted =
-        table_said hold_found (shown (0 ∷ 1 ∷ 2 ∷ 3 ∷ 4 ∷ 5 ∷ 6 ∷ 7 ∷ [])) (filter (is_of id) holds) rows found
-        (table_found 11 (read.is_given 1 0 ∷ []) (0 ∷ 1 ∷ 2 ∷ 3 ∷ 4 ∷ 5 ∷ 6 ∷ 7 ∷ []) (1 ∷ 2 ∷ 3 ∷ []) (Text (text_of id) ∷ []) trees rows (is_of id) (of_given id is) answer) said
-
-    there : (hold : Hold) → Contains found hold → Contains (filter_map hold_found holds) hold × (same_id id hold.key.sysmod ≡ true)
-    there hold inside =
-        let it = read_from hold_found (filter (is_of id) holds) hold
-        (Contains-permutation found (filter_map hold_found (filter (is_of id) holds)) hold (IsPermutation-sym (filter_map hold_found (filter (is_of id) holds)) found permuted) inside) in
-        let row = filtered (is_of id) holds it.0 it.1 in
-        (map_found hold_found holds it.0 hold row.0 it.2, sym (hold_of id it.0 hold it.2) ∙ row.1)
-
-    back : (hold : Hold) → Contains (filter_map hold_found holds) hold → same_id id hold.key.sysmod ≡ true → Contains found hold
-    back hold inside at =
-        let it = read_from hold_found holds hold inside in
-        Contains-permutation (filter_map hold_found (filter (is_of id) holds)) found hold permuted
-        (map_found hold_found (filter (is_of id) holds) it.0 hold (kept_inside (is_of id) holds it.0 it.1 (hold_of id it.0 hold it.2 ∙ at)) it.2)
+    holds_shown (stored_in trees) id rows found ordered
+    (table_found 11 (read.is_given 1 0 ∷ []) (0 ∷ 1 ∷ 2 ∷ 3 ∷ 4 ∷ 5 ∷ 6 ∷ 7 ∷ []) (1 ∷ 2 ∷ 3 ∷ []) (Text (text_of id) ∷ []) trees rows (is_of id) (of_given id is) answer) said

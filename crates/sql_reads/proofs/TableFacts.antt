@@ -100,6 +100,12 @@ pub finds_so : {A B Fault : Type 0} (old new : State) (a : A) (b : B) (First : S
     → ((stored : Stored) → First stored a → Fact stored b) → Finds old new {Answer = B} {Fault = Fault} (Ok b) Fact
 finds_so old new a b First Fact first step = record { reads = first.reads; is_open = first.is_open; told = λ clean ours. step (held_by old.committed) (first.told clean ours) }
 
+-- what is made of what one read finds
+pub finds_made : {A B Fault : Type 0} (old new : State) (a : A) (result : Result B Fault) (First : Stored → A → Type 0) (Fact : Stored → B → Type 0) → Finds old new {Answer = A} {Fault = Fault} (Ok a) First
+    → (Said : B → Type 0) → IfOk result Said → ((stored : Stored) (b : B) → First stored a → Said b → Fact stored b) → Finds old new {Answer = B} {Fault = Fault} result Fact
+finds_made old new a (Ok b) First Fact first Said said step = finds_so old new a b First Fact first (λ stored one. step stored b one said)
+finds_made old new a (Err e) First Fact first Said said step = record { reads = first.reads; is_open = tt; told = tt }
+
 -- ---- the rows of one table
 
 shown_later : (indices : List ℕ) (rows : List Row) → map (shown (map suc indices)) rows ≡ map (shown indices) (columns_of rows)

@@ -7,6 +7,7 @@
 //! - [`zones`], [`zone_count`], [`has_zone`], [`zone`], [`zone_rows`], [`patterns`], [`received`]: what a
 //!   client has; [`held_in`]: the holds on it
 //! - [`ids`], [`sysmod`], [`superseders`], [`holds_on`], [`counts`]: what is published
+//! - [`seen`], [`is_run`]: the records and holds of many SYSMODs at once
 //! - [`caller_tally`]: how much a caller has
 //! - [`rows_of`]: what any text that reads the tables finds
 //! - [`ReadFault`]: why a read is refused
@@ -16,18 +17,23 @@
 
 mod callers;
 mod clients;
+mod cut;
 mod fault;
 mod found;
+mod many;
 mod published;
 mod rows;
+mod scan;
 mod tables_version;
 mod tally;
+mod texts;
 mod values;
 mod zone_counts;
 
 pub use callers::{all_callers, caller_of, last};
 pub use clients::{has_zone, held_in, patterns, received, zone, zone_count, zone_rows};
 pub use fault::ReadFault;
+pub use many::{is_run, seen};
 pub use published::{counts, holds_on, ids, superseders, sysmod};
 pub use rows::rows_of;
 pub use tables_version::version;

@@ -5,6 +5,7 @@ use std::test::Fail;
 use testing::assert_equal;
 
 mod clients;
+mod many;
 mod never_written;
 mod published;
 mod reads;

@@ -2,8 +2,9 @@ use Rattle.std.proofs.Common.{[], get_or, rules}
 use Rattle.std.proofs.lemmas.List.Elements.{Contains-get_or}
 use Rattle.sqlite.specs.Held.{state}
 use Rattle.sqlite.specs.State.{HasCleanDisk}
+use Rattle.sql_state.proofs.StopFacts.{read_on}
 use Rattle.bureau_sql.specs.Opening.{IsOneStatement, IsSeen, LacksText}
-use Rattle.bureau_sql.proofs.OpenFacts.{meant_so_far, reads_after, seen_before}
+use Rattle.bureau_sql.proofs.OpenFacts.{meant_so_far, seen_before}
 use Rattle.bureau_sql.proofs.open.can_read_all.Goals as goal
 
 pub returns-in_err-can_read-clause-cause : goal.returns-in_err-can_read-clause-cause
@@ -23,7 +24,7 @@ loop-text-preserved g c =
     let mid = state g.S.Store c.loop-text.conn in
     let new = state g.S.Store c.can_read.new.conn in
     record {
-      reads = reads_after old mid new c.loop-text.invariant.reads c.in_ok-can_read.ensures.reads;
+      reads = read_on old mid new c.loop-text.invariant.reads c.in_ok-can_read.ensures.reads;
       mode = c.in_ok-can_read.ensures.mode;
       understood = meant_so_far c.args.texts.now c.loop-text.text-index (record { ref_ptr = (0, 0); now = [] }) old mid new c.loop-text.invariant.reads
           c.in_ok-can_read.ensures.reads c.loop-text-test.true c.loop-text.invariant.understood c.in_ok-can_read.ensures.understood;

@@ -2,12 +2,12 @@
 ghost use Rattle.std.specs.Prelude.{◌≡◌, false, IfOk};
 
 use bureau_store::Caller;
-use catalogue::CondNeeds;
+use catalogue::{CondNeeds, Seen};
 use holddata::Kind;
 use mcs_reader::Id;
 use sql_reads::{
-    ReadFault, caller_of, counts, held_in, holds_on, ids, last, patterns, received, superseders,
-    sysmod, version, zone, zone_count, zones,
+    ReadFault, caller_of, counts, held_in, holds_on, ids, is_run, last, patterns, received, seen,
+    superseders, sysmod, version, zone, zone_count, zones,
 };
 use sql_texts::read;
 use sqlite::{Alter, Connection};
@@ -136,6 +136,18 @@ pub(crate) fn held<S: Alter>(
     name: &Id,
 ) -> Result<usize, ReadFault> {
     Ok(holds_on(alloc, at_rest(conn)?, name)?.len())
+}
+
+/// What is published of each SYSMOD of a run; no answer where they are none.
+pub(crate) fn many<S: Alter>(
+    alloc: Global,
+    conn: &mut Connection<S>,
+    sysmods: &[Id],
+) -> Result<Option<Vec<Seen>>, ReadFault> {
+    if !is_run(sysmods) {
+        return Ok(None);
+    }
+    Ok(Some(seen(alloc, at_rest(conn)?, sysmods)?))
 }
 
 pub(crate) fn totals<S: Alter>(conn: &mut Connection<S>) -> Result<(u64, u64), ReadFault> {

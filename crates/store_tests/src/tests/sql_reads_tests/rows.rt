@@ -9,6 +9,8 @@ const NO_DATE: ValueRef<'static> = ValueRef::Int(-1);
 
 const OTHER: ValueRef<'static> = ValueRef::Text(b"UA10003");
 
+const LATER: ValueRef<'static> = ValueRef::Text(b"UA10005");
+
 const FIXCAT: ValueRef<'static> = ValueRef::Int(3);
 
 const ALPHA_TOKEN: ValueRef<'static> = ValueRef::Text(b"alpha-token");
@@ -33,6 +35,12 @@ static ERROR_HOLD: [ValueRef<'static>; 8] = [
 
 static FIXCAT_HOLD: [ValueRef<'static>; 8] = [
     FIX, FIXCAT, FIXED, BASE, NOTHING, NO_DATE, NOTHING, NOTHING,
+];
+
+static LATER_RECORD: [ValueRef<'static>; 5] = [LATER, ONE, BASE, NOTHING, NOTHING];
+
+static HOLD_ALONE: [ValueRef<'static>; 8] = [
+    OTHER, ZERO, FIXED, BASE, NOTHING, NO_DATE, NOTHING, NOTHING,
 ];
 
 /// A SYSMOD requires another one where a function is installed.
@@ -80,6 +88,12 @@ pub(crate) fn publish<S: Alter>(conn: &mut Connection<S>) -> Result<(), Error> {
     put_record(conn)?;
     put(conn, write::insert_hold_row(), &ERROR_HOLD)?;
     put(conn, write::insert_hold_row(), &FIXCAT_HOLD)
+}
+
+/// Publishes a PTF with nothing beside, after that one, and a hold on a SYSMOD between that isn't catalogued.
+pub(crate) fn publish_more<S: Alter>(conn: &mut Connection<S>) -> Result<(), Error> {
+    put(conn, TableById::Sysmod.insertion(), &LATER_RECORD)?;
+    put(conn, write::insert_hold_row(), &HOLD_ALONE)
 }
 
 fn put_caller<S: Alter>(
