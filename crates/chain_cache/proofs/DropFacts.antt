@@ -1,15 +1,11 @@
 -- What is kept stays true of a content, and is true of each content that says the same outside the ids of what went.
 use Rattle.std.proofs.Common.{◌≡◌, ℕ, Bool, true, false, List, not, refl}
-use Rattle.lemmas.proofs.ListFacts.{kept_from, none_inside}
+use Rattle.lemmas.proofs.ListFacts.{kept_from}
 use Rattle.catalogue.specs.Content.{Content, IsInOrder}
 use Rattle.catalogue.specs.Touched.{AgreeOutside}
 use Rattle.chains.specs.Frames.{FrameLists, shares}
 use Rattle.chains.proofs.FrameFacts.{apart_unless, frames_stay}
-use Rattle.chain_cache.specs.Cache.{AreFrames, AreSurveys, untouched, nothing_surveyed}
-
--- none are right for every content
-pub no_surveys : (content : Content) → AreSurveys content nothing_surveyed
-no_surveys content = record { listing = tt; each = λ kept member. absurd (none_inside kept member) }
+use Rattle.chain_cache.specs.Cache.{AreFrames, untouched}
 
 module _ (ids : List (List ℕ)) (entries : List (List ℕ × FrameLists)) where
   abbrev stays : List ℕ × FrameLists → Bool

@@ -1,12 +1,13 @@
 -- Kept frames. An entry is an id with its frame; the one that was used last stands first.
-use Rattle.std.specs.Prelude.{◌⊎◌, [], ◌≡◌, ◌≤◌, ◌+◌, ◌-◌, ℕ, Bool, true, false, List, ◌∷◌, Contains, IfSome, None, Option, Some, filter, is_some, length, min, not, slice_get, take}
+use Rattle.std.specs.Prelude.{◌⊎◌, [], ◌≡◌, ◌≤◌, ◌+◌, ◌-◌, ◌++◌, ℕ, Bool, true, false, List, ◌∷◌, Contains, IfSome, IsSome, None, Option, Some, filter, is_some, length, min, not, slice_get, take}
 use Rattle.std.specs.Map.{lookup}
 use Rattle.lru.specs.LruCache.{promoted}
 use Rattle.zone_lists.specs.declared.zones.ZoneRow.{ZoneRow}
 use Rattle.catalogue.specs.Content.{Content}
 use Rattle.catalogue.specs.Ids.{same_id}
 use Rattle.chains.specs.Frames.{FrameLists, IsFrame, shares}
-use Rattle.chains.specs.Sights.{IsListing, ListingLists}
+use Rattle.chains.specs.Marks.{IsListingBut}
+use Rattle.chains.specs.Sights.{ListingLists}
 use Rattle.chains.specs.Surveys.{IsSurvey, SurveyLists}
 
 -- a zone that was looked over whole, with its survey
@@ -14,13 +15,23 @@ pub record ZoneSurvey : Type 0 where
   pub rows : List ZoneRow
   pub survey : SurveyLists
 
--- what is kept of the whole catalogue: what was read of it, if it was, and zones with their surveys
+-- what is kept of the whole catalogue: what was read of it, if it was, the ids that were touched since, and zones with their surveys
 pub record SurveyedLists : Type 0 where
   pub listing : Option ListingLists
+  pub marks : List (List ℕ)
   pub zones : List ZoneSurvey
 
 abbrev pub nothing_surveyed : SurveyedLists
-nothing_surveyed = record { listing = None; zones = [] }
+nothing_surveyed = record { listing = None; marks = []; zones = [] }
+
+-- it was read, and nothing was touched since
+pub record IsFresh (surveys : SurveyedLists) : Type 0 where
+  pub listed : IsSome surveys.listing
+  pub unmarked : surveys.marks ≡ []
+
+-- What a publication leaves of it: what was read, where what it touches is marked; or nothing. Surveys go.
+abbrev pub MayBeMarked : List (List ℕ) → SurveyedLists → SurveyedLists → Type 0
+MayBeMarked ids old new = (new ≡ record { listing = old.listing; marks = old.marks ++ ids; zones = [] }) ⊎ (new ≡ nothing_surveyed)
 
 -- surveys are kept of at most 16 zones
 abbrev pub AreFew : SurveyedLists → Type 0
@@ -45,9 +56,9 @@ has entries id = is_some (lookup (same_id id) entries)
 pub record AreFrames (content : Content) (entries : List (List ℕ × FrameLists)) : Type 0 where
   pub each : (id : List ℕ) (frame : FrameLists) → Contains entries (id, frame) → IsFrame content id frame
 
--- what was read is what a content has, and each survey is that of its zone over the content
+-- what was read is what a content has, but for what is marked, and each survey is that of its zone over the content
 pub record AreSurveys (content : Content) (surveys : SurveyedLists) : Type 0 where
-  pub listing : IfSome surveys.listing (IsListing content)
+  pub listing : IfSome surveys.listing (IsListingBut content surveys.marks)
   pub each : (kept : ZoneSurvey) → Contains surveys.zones kept → IsSurvey content kept.rows kept.survey
 
 -- what is kept is true of a content

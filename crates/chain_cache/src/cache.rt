@@ -7,7 +7,7 @@ ghost use Rattle.catalogue.specs.Ids.{Ascend};
 ghost use Rattle.catalogue.specs.Touched.{AgreeOutside};
 ghost use Rattle.catalogue.specs.View.{MayAsk, Tells};
 ghost use Rattle.catalogue.specs.declared.fault.SourceFault.TheVariants.{Device};
-ghost use Rattle.chain_cache.specs.Cache.{AreFew, AreFilled, CacheLists, IsAsked, IsFilled, IsRightFor, KeepsFrames, after_hit, has, nothing_surveyed, untouched};
+ghost use Rattle.chain_cache.specs.Cache.{AreFew, AreFilled, CacheLists, IsAsked, IsFilled, IsRightFor, KeepsFrames, MayBeMarked, after_hit, has, nothing_surveyed, untouched};
 ghost use Rattle.chain_cache.specs.Lent.{ends_filled};
 ghost use Rattle.chains.specs.Frames.{FrameLists, IsFrame};
 ghost use Rattle.chains.specs.Judge as judge;
@@ -330,10 +330,10 @@ impl<P: Published> Judge<P> for ChainCache {
         ensures kept { self.new.entries ≡ untouched ids.now self.old.entries }
         ensures capacity { self.new.capacity ≡ self.old.capacity }
         ensures built { self.new.built ≡ self.old.built }
-        ensures surveys { self.new.surveys ≡ nothing_surveyed }
+        ensures surveys { MayBeMarked ids.now self.old.surveys self.new.surveys }
     {
         drop_among(&mut self.frames, ids);
-        self.surveys.clear();
+        self.surveys.mark(ids);
     }
 
     fn united(
@@ -365,7 +365,7 @@ impl<P: Published> Judge<P> for ChainCache {
         }
     }
 
-    // From what is read of the catalogue, where that is kept, and else from the source.
+    // From what was read of the catalogue, where that is kept. The source is asked for what was touched since, or for all.
     fn candidates(
         &self,
         alloc: Global,
@@ -373,6 +373,7 @@ impl<P: Published> Judge<P> for ChainCache {
         zone: &Zone,
         ids: &[Id],
     ) -> Result<Vec<Option<Vec<Id>>>, SourceFault> {
-        candidates_for(alloc, source, self.surveys.listing(), zone, ids)
+        let (listing, marks) = (self.surveys.listing(), self.surveys.marks());
+        candidates_for(alloc, source, listing, marks, zone, ids)
     }
 }

@@ -8,7 +8,7 @@ ghost use Rattle.lru.specs.LruCache.{last_entry, lru_cache};
 ghost use Rattle.chain_cache.specs.Cache.{untouched};
 
 use crate::cache::Frames;
-use chains::touches;
+use chains::{do_ascend, touches};
 use mcs_reader::Id;
 
 /// Takes out the frames that have one of these ids. The others stay, in their order. It takes no memory.
@@ -59,11 +59,4 @@ fn last_id(frames: &Frames) -> Option<Id>
         Some((id, _)) => Some(*id),
         None => None,
     }
-}
-
-// Whether ids ascend, each once.
-fn do_ascend(ids: &[Id]) -> bool
-    ensures { result ≡ true → Ascend ids.now }
-{
-    ids.is_sorted_by(|id, next| id.cmp(next).is_lt())
 }

@@ -1,21 +1,26 @@
 //! What is kept of the whole catalogue: what was read of it, and surveys of zones.
-ghost use Rattle.std.specs.Prelude.{◌≡◌, ◌<◌, true, IfOk, Some, IfSome, IsSome, OnOk, Contains, length};
+ghost use Rattle.std.specs.Prelude.{◌≡◌, ◌<◌, ◌++◌, true, IfOk, Some, IfSome, IsSome, OnOk, Contains, length, map};
 ghost use Rattle.catalogue.specs.Content.{Content};
+ghost use Rattle.catalogue.specs.Ids.{Ascend, in_order};
+ghost use Rattle.catalogue.specs.Seen.{seen_in};
 ghost use Rattle.catalogue.specs.View.{MayAsk, Tells};
 ghost use Rattle.catalogue.specs.declared.fault.SourceFault.TheVariants.{Device};
-ghost use Rattle.chain_cache.specs.Cache.{AreFew, AreSurveys, ZoneSurvey, nothing_surveyed};
-ghost use Rattle.chains.specs.Sights.{IsAtHand};
+ghost use Rattle.chain_cache.specs.Cache.{AreFew, AreSurveys, IsFresh, MayBeMarked, ZoneSurvey, nothing_surveyed};
+ghost use Rattle.chains.specs.Marks.{IsAtHand};
 ghost use Rattle.chains.specs.Surveys.{IsSurvey};
 
-use catalogue::{Published, SourceFault};
-use chains::{Listing, Survey, listing_of};
-use mcs_reader::NoMemory;
+use catalogue::{Published, Seen, SourceFault};
+use chains::{Listing, Survey, listing_of, sort_each_once};
+use mcs_reader::{Id, NoMemory};
 use std::alloc::Global;
 use std::marker::Model;
 use supersede::Zone;
 
 // Of how many zones surveys are kept.
 const MOST: usize = 16;
+
+// How many ids are marked at most in what was read. A publication of some hundred SYSMODs touches so many.
+const MARKS_MOST: usize = 2048;
 
 /// A zone with its survey.
 #[derive(Debug, Drop)]
@@ -50,6 +55,8 @@ impl Surveyed {
 #[derive(Debug, Drop)]
 pub(crate) struct Surveys {
     listing: Option<Listing>,
+    // What was touched since it was read. Room for it is taken with the listing.
+    marks: Vec<Id>,
     kept: Vec<Surveyed>,
 }
 
@@ -58,7 +65,11 @@ impl Model for Surveys {
 
     ghost Value = { SurveyedLists };
 
-    ghost view = { λ surveys. record { listing = surveys.listing; zones = surveys.kept.items } };
+    ghost view = { λ surveys. record {
+      listing = surveys.listing;
+      marks = surveys.marks.items;
+      zones = surveys.kept.items;
+    } };
 }
 
 impl Surveys {
@@ -68,6 +79,7 @@ impl Surveys {
     {
         Surveys {
             listing: None,
+            marks: Vec::new(alloc),
             kept: Vec::new(alloc),
         }
     }
@@ -85,14 +97,21 @@ impl Surveys {
         None
     }
 
-    /// What is catalogued, if it is kept.
+    /// What is catalogued, if it is kept: all but what is marked.
     pub(crate) fn listing(&self) -> Option<&Listing>
-        ensures { (content : Content) → AreSurveys content self.now → IsAtHand content result }
+        ensures { (content : Content) → AreSurveys content self.now → IsAtHand content result self.now.marks }
     {
         self.listing.as_ref()
     }
 
-    /// Reads what is catalogued, where it isn't kept, and keeps it.
+    /// What was touched since it was read.
+    pub(crate) fn marks(&self) -> &[Id]
+        ensures { result.now ≡ self.now.marks }
+    {
+        self.marks.as_slice()
+    }
+
+    /// Reads what is catalogued, where it isn't kept, and what is marked, where it is; and keeps it.
     pub(crate) fn read_listing<P: Published>(
         &mut self,
         alloc: Global,
@@ -101,19 +120,75 @@ impl Surveys {
         ensures asks { MayAsk P.content_view Device source.old source.new result }
         ensures right { Tells P.content_view source.old source.new
             (λ content. AreSurveys content self.old → AreSurveys content self.new) }
-        ensures kept { OnOk result (IsSome self.new.listing) }
+        ensures fresh { OnOk result (IsFresh self.new) }
         ensures zones { self.new.zones ≡ self.old.zones }
     {
-        if self.listing.is_none() {
-            let listing = listing_of(alloc, source)?;
-            self.put_listing(listing);
+        if self.listing.is_some() {
+            return self.renew(alloc, source);
         }
+        let marks = Vec::with_capacity(alloc, MARKS_MOST)?;
+        let listing = listing_of(alloc, source)?;
+        self.put_listing(listing, marks);
+        Ok(())
+    }
+
+    fn put_listing(&mut self, listing: Listing, marks: Vec<Id>)
+        ensures listing { self.new.listing ≡ Some listing }
+        ensures marks { self.new.marks ≡ marks.items }
+        ensures zones { self.new.zones ≡ self.old.zones }
+    {
+        self.listing = Some(listing);
+        self.marks = marks;
+    }
+
+    // Reads what is marked, and puts it in.
+    fn renew<P: Published>(&mut self, alloc: Global, source: &mut P) -> Result<(), SourceFault>
+        requires { IsSome self.now.listing }
+        ensures asks { MayAsk P.content_view Device source.old source.new result }
+        ensures right { Tells P.content_view source.old source.new
+            (λ content. AreSurveys content self.old → AreSurveys content self.new) }
+        ensures fresh { OnOk result (IsFresh self.new) }
+        ensures zones { self.new.zones ≡ self.old.zones }
+    {
+        if self.marks.is_empty() {
+            return Ok(());
+        }
+        let marks = self.marks_in_order(alloc)?;
+        let read = source.seen(alloc, &marks)?;
+        self.put_read(alloc, &marks, read)?;
+        Ok(())
+    }
+
+    fn marks_in_order(&self, alloc: Global) -> Result<Vec<Id>, NoMemory>
+        ensures ascend { IfOk result (λ marks. Ascend marks.items) }
+        ensures marks { IfOk result (λ marks. marks.items ≡ in_order self.now.marks) }
+    {
+        let mut marks = Vec::from_slice(alloc, &self.marks)?;
+        sort_each_once(&mut marks)?;
+        Ok(marks)
+    }
+
+    // Puts in what was read of all that is marked. Where memory runs out, what is catalogued isn't kept any more.
+    fn put_read(&mut self, alloc: Global, marks: &[Id], read: Vec<Seen>) -> Result<(), NoMemory>
+        requires ascend { Ascend marks.now }
+        requires listed { IsSome self.now.listing }
+        ensures right { (content : Content) → marks.now ≡ in_order self.old.marks
+            → read.items ≡ map (seen_in content) marks.now → AreSurveys content self.old
+            → AreSurveys content self.new }
+        ensures fresh { OnOk result (IsFresh self.new) }
+        ensures zones { self.new.zones ≡ self.old.zones }
+    {
+        self.marks.clear();
+        let Some(listing) = self.listing.take() else {
+            unreachable!()
+        };
+        self.listing = Some(listing.renewed(alloc, marks, read)?);
         Ok(())
     }
 
     /// Makes the survey of a zone, by what is catalogued.
     pub(crate) fn survey(&self, alloc: Global, zone: &Zone) -> Result<Survey, NoMemory>
-        requires { IsSome self.now.listing }
+        requires { IsFresh self.now }
         ensures { IfOk result (λ survey. (content : Content) → AreSurveys content self.now
             → IsSurvey content zone.now survey) }
     {
@@ -121,13 +196,6 @@ impl Surveys {
             Some(listing) => Survey::of(alloc, zone, listing),
             None => unreachable!(),
         }
-    }
-
-    fn put_listing(&mut self, listing: Listing)
-        ensures listing { self.new.listing ≡ Some listing }
-        ensures zones { self.new.zones ≡ self.old.zones }
-    {
-        self.listing = Some(listing);
     }
 
     /// Keeps the survey of a zone. Where there are as many as are kept, they go first.
@@ -144,6 +212,7 @@ impl Surveys {
 
     fn make_room(&mut self)
         ensures listing { self.new.listing ≡ self.old.listing }
+        ensures marks { self.new.marks ≡ self.old.marks }
         ensures zones { (kept : ZoneSurvey) → Contains self.new.zones kept → Contains self.old.zones kept }
         ensures room { length self.new.zones < 16 }
     {
@@ -152,11 +221,34 @@ impl Surveys {
         }
     }
 
-    /// Keeps nothing. It takes no memory.
-    pub(crate) fn clear(&mut self)
-        ensures { self.new ≡ nothing_surveyed }
+    /// Marks what a publication touches in what is catalogued, and keeps no survey. Where there is no room for that many
+    /// marks, it keeps nothing. It takes no memory.
+    pub(crate) fn mark(&mut self, ids: &[Id])
+        ensures { MayBeMarked ids.now self.old self.new }
     {
-        self.listing = None;
+        if !self.has_marked(ids) {
+            self.listing = None;
+            self.marks.clear();
+        }
         self.kept.clear();
+    }
+
+    // Adds marks, where there is room. Whether it did.
+    fn has_marked(&mut self, ids: &[Id]) -> bool
+        ensures marked { result ≡ true → self.new ≡ (record {
+          listing = self.old.listing;
+          marks = self.old.marks ++ ids.now;
+          zones = self.old.zones;
+        }) }
+        ensures zones { self.new.zones ≡ self.old.zones }
+    {
+        let room = self.marks.capacity().saturating_sub(self.marks.len());
+        if ids.len() > room {
+            return false;
+        }
+        match self.marks.extend_from_slice(ids) {
+            Ok(()) => true,
+            Err(_) => false,
+        }
     }
 }

@@ -4,13 +4,12 @@ use Rattle.std.specs.BTreeMap.{insert_entry}
 use Rattle.std.specs.List.{Contains}
 use Rattle.std.specs.Map.{keys_of, values_of}
 use Rattle.std.proofs.lemmas.List.Elements.{Contains-append_left, Contains-append_right}
-use Rattle.lemmas.proofs.ListFacts.{map_inside, none_inside}
+use Rattle.lemmas.proofs.ListFacts.{map_inside, none_inside, get_any}
 use Rattle.catalogue.specs.Content.{Content, superseders}
 use Rattle.catalogue.specs.Ids.{id_cmp}
 use Rattle.chains.specs.Climbs.{AreAbove, AreListed}
 use Rattle.chains.specs.FrameIndices.{AreIndexed, list_at}
 use Rattle.chains.specs.Indices.{AreIndicesOf}
-use Rattle.chains.proofs.IndexFacts.{get_any}
 use Rattle.chains.proofs.WalkFacts.{all_asked, asked_reads, key_put, keys_stay, says_more, values_now}
 
 -- nothing is listed

@@ -8,7 +8,7 @@ use Rattle.std.proofs.lemmas.Bool.{cases_lt}
 use Rattle.std.proofs.lemmas.Grind.{common_steps}
 use Rattle.std.proofs.lemmas.List.{get_or-map, get_or_append_left, get_or_push, map-append, take_more}
 use Rattle.std.proofs.lemmas.List.Elements.{Contains-append_left, Contains-append_right, Contains-push, Contains-push_cases}
-use Rattle.lemmas.proofs.ListFacts.{any_at, inside_cases, none_inside}
+use Rattle.lemmas.proofs.ListFacts.{any_at, inside_cases, none_inside, get_any}
 use Rattle.catalogue.specs.Ids.{Ascend, id_cmp, same_id}
 use Rattle.catalogue.proofs.IdFacts.{ids_total, itself}
 use Rattle.chains.specs.Cuts.{IndexOf, id_at}
@@ -25,12 +25,6 @@ use Rattle.chains.specs.Sights.{IsSeen, Sight, all_needs, needs_seen}
 use Rattle.chains.proofs.OrderFacts.{not_above_itself, not_below_itself}
 
 -- ---- what stands at an index
-
--- within a list what stands past its end doesn't count
-pub get_any : {X : Type 0} (xs : List X) (k : ℕ) (d e : X) → k < length xs → get_or xs k d ≡ get_or xs k e
-get_any [] k d e within = absurd (omega (arith, within))
-get_any (x ∷ xs) zero d e within = refl
-get_any (x ∷ xs) (suc k) d e within = get_any xs k d e (omega (arith, within))
 
 pub at_inside : (members : List (List ℕ)) (q : ℕ) → q < length members → Contains members (id_at members q)
 at_inside members q within = (q, within, get_any members q (id_at members q) [] within)

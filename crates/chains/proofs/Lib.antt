@@ -5,6 +5,8 @@ pub mod CutFacts
 pub mod OrderFacts
 pub mod VerdictFacts
 pub mod SightFacts
+pub mod MarkFacts
+pub mod RenewFacts
 pub mod ConditionalFacts
 pub mod IndexFacts
 pub mod WayFacts

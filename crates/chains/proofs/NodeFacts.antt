@@ -6,7 +6,7 @@ use Rattle.std.specs.Map.{keys_of, values_of}
 use Rattle.std.specs.Option.{IsSomeAnd}
 use Rattle.std.proofs.lemmas.List.{length-map, map-append, take_all, take_more}
 use Rattle.std.proofs.lemmas.List.Elements.{Contains-append_cases, Contains-append_left, Contains-append_right}
-use Rattle.lemmas.proofs.ListFacts.{inside_cases, map_from, map_inside, none_inside}
+use Rattle.lemmas.proofs.ListFacts.{inside_cases, map_from, map_inside, none_inside, get_any}
 use Rattle.catalogue.specs.Content.{Content, IsInOrder, Supersedes, ids_of, record_of, superseders}
 use Rattle.catalogue.specs.Ids.{Ascend, in_order}
 use Rattle.catalogue.specs.declared.conditional.CondNeed.{CondNeed}
@@ -28,7 +28,7 @@ use Rattle.chains.specs.declared.gathered.Gathered.{Gathered}
 use Rattle.chains.proofs.FrameFacts.{direct_gives, giver_is, givers_ascend, record_listed}
 use Rattle.chains.proofs.OrderFacts.{ascending_same}
 use Rattle.chains.proofs.PartFacts.{at_map}
-use Rattle.chains.proofs.IndexFacts.{at_inside, get_any, inside_at}
+use Rattle.chains.proofs.IndexFacts.{at_inside, inside_at}
 use Rattle.chains.proofs.WayFacts.{listed_record}
 
 -- ---- one step by what is named, and by what is needed and gives

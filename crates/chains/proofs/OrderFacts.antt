@@ -1,25 +1,18 @@
 -- Ids in ascending order: the first that is found is the least, and a list is known by its members.
 use Rattle.std.proofs.Common.{◌≡◌, ◌⊎◌, ℕ, Bool, true, false, cond, List, [], ◌∷◌, Some, refl, sym, ap, ◌∙◌, subst, inl, inr}
-use Rattle.std.specs.List.{AllByRecursion, Contains, find}
+use Rattle.std.specs.List.{Contains, find}
 use Rattle.std.specs.List.Sorted.{IsStrictlySortedBy}
 use Rattle.std.specs.Ordering.{is_eq, ordering_reverse}
 use Rattle.std.specs.declared.cmp.Ordering.{Ordering}
 use Rattle.std.specs.declared.cmp.Ordering.TheVariants.{Less, Equal, Greater}
-use Rattle.lemmas.proofs.ListFacts.{first_inside, inside_cases, none_inside, rest_inside}
+use Rattle.lemmas.proofs.ListFacts.{first_inside, inside_cases, none_inside, rest_inside, all_in}
 use Rattle.catalogue.specs.Ids.{Ascend, id_cmp}
 use Rattle.catalogue.proofs.IdFacts.{exact_ids, ids_total, itself, same_is}
-
-all_has : {A : Type 0} (P : A → Type 0) (xs : List A) → AllByRecursion P xs → (y : A) → Contains xs y → P y
-all_has P [] all y inside = absurd (none_inside y inside)
-all_has {A} P (x ∷ xs) all y inside = elim (inside_cases x y xs inside) [
-  | inl same ↦ (let Q : A → Type 0 = λ z. P z in subst Q same all.0)
-  | inr later ↦ all_has P xs all.1 y later
-]
 
 -- the first of a list that ascends is below the others
 pub first_below : (x : List ℕ) (xs : List (List ℕ)) → Ascend (x ∷ xs) → (y : List ℕ) → Contains xs y → id_cmp x y ≡ Less
 unfolding IsStrictlySortedBy
-first_below x xs ascend y inside = all_has (λ z. id_cmp x z ≡ Less) xs ascend.0 y inside
+first_below x xs ascend y inside = all_in (λ z. id_cmp x z ≡ Less) xs ascend.0 y inside
 
 pub rest_ascends : (x : List ℕ) (xs : List (List ℕ)) → Ascend (x ∷ xs) → Ascend xs
 unfolding IsStrictlySortedBy

@@ -1,9 +1,12 @@
 -- What is found over the nodes of a frame is so over the whole content.
-use Rattle.std.proofs.Common.{◌≡◌, ◌∙◌, ◌<◌, ◌==◌, ◌||◌, ℕ, ◌+◌, Bool, true, false, cond, not, List, [], ◌∷◌, ◌++◌, length, map, take, get_or, Option, refl, sym, ap, subst, arith}
+use Rattle.std.proofs.Common.{◌≡◌, ◌∙◌, ◌<◌, ◌==◌, ℕ, ◌+◌, Bool, true, false, cond, not, List, [], ◌∷◌, ◌++◌, length, map, take, get_or, Option, refl, sym, ap, subst, arith}
 use Rattle.std.specs.Cmp.{both_ways}
 use Rattle.std.specs.List.{filter, list_any}
 use Rattle.std.proofs.lemmas.Bool.Decides.{Decides-eqb}
 use Rattle.std.proofs.lemmas.List.{append-nil, length-map, nil_from_length, take_more}
+use Rattle.std.proofs.lemmas.List.Elements.{filter-append}
+use Rattle.std.proofs.lemmas.Bool.{or_parts}
+use Rattle.lemmas.proofs.ListFacts.{get_any}
 use Rattle.zone_lists.specs.Installed.{is_installed}
 use Rattle.zone_lists.specs.declared.zones.ZoneRow.{ZoneRow}
 use Rattle.catalogue.specs.Content.{Content}
@@ -25,7 +28,7 @@ use Rattle.chains.specs.declared.frames.FrameNode.{FrameNode}
 use Rattle.chains.proofs.CutFacts.{good_down, good_up}
 use Rattle.chains.proofs.GoodFacts.{good_both_ways}
 use Rattle.chains.proofs.PartFacts.{at_map, frame_cut}
-use Rattle.chains.proofs.IndexFacts.{get_any, rows_more}
+use Rattle.chains.proofs.IndexFacts.{rows_more}
 use Rattle.chains.proofs.NodeVerdictFacts.{verdict_here, verdict_within}
 
 -- the nodes of a frame name no indices but theirs
@@ -64,14 +67,10 @@ module _ (rows : List ZoneRow) (frame : FrameLists) (nodes : Nodes) (ascend : As
 pub unconditional : (rows : List ZoneRow) (list : List FrameNode) → list_any has_conds list ≡ false → map (λ node. node.needs) list ≡ map (node_needs rows) list
 unconditional rows [] none = refl
 unconditional rows (node ∷ nodes) none =
-    let both = neither (has_conds node) (list_any has_conds nodes) none in
+    let both = or_parts (has_conds node) (list_any has_conds nodes) none in
     ap (λ (l : List (List ℕ)). l ∷ map (λ (n : FrameNode). n.needs) nodes) (alone node.needs node.conds both.0)
     ∙ ap (λ (l : List (List (List ℕ))). node_needs rows node ∷ l) (unconditional rows nodes both.1)
   where
-    neither : (a b : Bool) → (a || b) ≡ false → (a ≡ false) × (b ≡ false)
-    neither true b h = absurd (cc)
-    neither false b h = (refl, h)
-
     on : (b : Bool) → not b ≡ false → b ≡ true
     on true h = refl
     on false h = cc
@@ -107,14 +106,6 @@ needs_more rows list ids i node always indices given old new below at ids_are in
 
 -- ---- what is marked
 
-filter_push : (f : List ℕ → Bool) (xs : List (List ℕ)) (x : List ℕ) → filter f (xs ++ x ∷ []) ≡ filter f xs ++ cond (f x) (x ∷ []) []
-filter_push f [] x = refl
-filter_push f (y ∷ ys) x = go (f y) (filter_push f ys x) where
-  go : (b : Bool) → filter f (ys ++ x ∷ []) ≡ filter f ys ++ cond (f x) (x ∷ []) []
-      → cond b (y ∷ filter f (ys ++ x ∷ [])) (filter f (ys ++ x ∷ [])) ≡ cond b (y ∷ filter f ys) (filter f ys) ++ cond (f x) (x ∷ []) []
-  go true rest = ap (λ l. y ∷ l) rest
-  go false rest = rest
-
 -- one id more, by its mark
 pub marked_more : (f : List ℕ → Bool) (ids : List (List ℕ)) (i : ℕ) (id : List ℕ) (mark : Bool) (old new : List (List ℕ)) → i < length ids → id ≡ get_or ids i id
     → mark ≡ f (id_at ids i) → old ≡ filter f (take i ids) → new ≡ old ++ cond mark (id ∷ []) [] → new ≡ filter f (take (i + 1) ids)
@@ -123,5 +114,5 @@ marked_more f ids i id mark old new below at is was now =
     now
     ∙ ap (λ l. l ++ cond mark (id ∷ []) []) was
     ∙ ap (λ b. filter f (take i ids) ++ cond b (id ∷ []) []) (is ∙ ap f (sym here))
-    ∙ sym (filter_push f (take i ids) id)
+    ∙ sym (filter-append f (take i ids) (id ∷ []))
     ∙ ap (filter f) (sym (take_more ids i id below ∙ ap (λ x. take i ids ++ x ∷ []) (sym at)))

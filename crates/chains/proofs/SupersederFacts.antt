@@ -7,7 +7,7 @@ use Rattle.std.specs.Option.{IsSomeAnd}
 use Rattle.std.proofs.lemmas.Bool.{cases_lt}
 use Rattle.std.proofs.lemmas.List.{get_or_past}
 use Rattle.std.proofs.lemmas.List.Elements.{Contains-append_left, Contains-append_right}
-use Rattle.lemmas.proofs.ListFacts.{map_from, map_inside, none_inside}
+use Rattle.lemmas.proofs.ListFacts.{map_from, map_inside, none_inside, get_any}
 use Rattle.zone_lists.specs.Installed.{is_installed}
 use Rattle.zone_lists.specs.declared.zones.ZoneRow.{ZoneRow}
 use Rattle.catalogue.specs.Content.{Content, IsInOrder, Supersedes, ids_of, record_of, sup_names, superseders}
@@ -23,7 +23,7 @@ use Rattle.chains.specs.Cuts.{id_at}
 use Rattle.chains.specs.Indices.{AreIndicesOf, IsAt, RowsAre}
 use Rattle.chains.specs.Sights.{Sight, sight_of, unseen}
 use Rattle.chains.specs.Superseders.{AreTurned, SupersedesAt, superseded_at}
-use Rattle.chains.proofs.IndexFacts.{get_any, inside_at}
+use Rattle.chains.proofs.IndexFacts.{inside_at}
 use Rattle.chains.proofs.MadeCutFacts.{candidate_catalogued}
 use Rattle.chains.proofs.OrderFacts.{ascending_same}
 use Rattle.chains.proofs.PartFacts.{at_map}

@@ -4,6 +4,7 @@ pub mod United
 pub mod Worlds
 pub mod Cuts
 pub mod Sights
+pub mod Marks
 pub mod Superseders
 pub mod Indices
 pub mod Whole

@@ -1,7 +1,6 @@
 -- What is read of a SYSMOD, whatever the zone: the functions that it is for, what it needs in every zone, its requisites under a
 -- condition, and what it supersedes; and of all that is catalogued.
-use Rattle.std.specs.Prelude.{◌≡◌, ◌++◌, ◌==◌, ℕ, List, [], IfSome, Option, filter, map}
-use Rattle.std.specs.Borrow.{Bor}
+use Rattle.std.specs.Prelude.{◌≡◌, ◌++◌, ◌==◌, ℕ, List, [], Option, filter, map}
 use Rattle.std.specs.List.{Contains}
 use Rattle.holddata.specs.HoldKey.{kind_order}
 use Rattle.holddata.specs.declared.hold.Hold.{Hold}
@@ -56,10 +55,6 @@ pub record ListingLists : Type 0 where
 pub record IsListing (content : Content) (listing : ListingLists) : Type 0 where
   pub ids : listing.ids ≡ ids_of content
   pub sights : listing.sights ≡ map (sight_of content) listing.ids
-
--- the listing that is at hand, if one is, is that of a content
-abbrev pub IsAtHand : Content → Option (Bor ListingLists) → Type 0
-IsAtHand content listing = IfSome listing (λ listing. IsListing content listing.now)
 
 -- what is seen of an id in a list: what f says, or nothing where the list doesn't have it
 pub record IsSeen (f : List ℕ → Sight) (ids : List (List ℕ)) (id : List ℕ) (sight : Sight) : Type 0 where

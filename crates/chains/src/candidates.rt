@@ -14,11 +14,11 @@ ghost use Rattle.chains.specs.Candidates.{candidates_unless_there};
 ghost use Rattle.chains.specs.Climbs.{AreFrom, IsAnswer, IsFound, with_source};
 ghost use Rattle.chains.specs.Cuts.{id_at};
 ghost use Rattle.chains.specs.Indices.{IsAt, MarksAre, RowsAre};
-ghost use Rattle.chains.specs.Sights.{IsAtHand};
+ghost use Rattle.chains.specs.Marks.{IsAtHand};
 
-use crate::climbing::{Climb, climb_from};
+use crate::climbing::{Climb, climb_from, that_says};
 use crate::cut::{has_source, source_at, there_marks};
-use crate::indices::{ids_at, index_of, sort_each_once};
+use crate::indices::{do_ascend, ids_at, index_of, sort_each_once};
 use crate::listing::{Listing, is_any_installed};
 use crate::walks::Walks;
 use catalogue::{Published, SourceFault, Sysmod};
@@ -30,9 +30,9 @@ use supersede::Zone;
 /// For each of some SYSMODs the candidates that give it, ascending, or `None` where it is there: the zone lists it, or
 /// an installed SYSMOD gives it (IBM z/OS SMP/E Reference, `++VER`, operands SUP and FMID).
 ///
-/// A listing that is at hand, of all that the source has, answers in its place: then the source isn't asked. Without
-/// one, what supersedes a SYSMOD is asked for once, and so is the record of each that gives one that isn't there. Which
-/// are there is found in time in proportion to what was read.
+/// A listing that is at hand answers in the source's place. It may be that of all that the source has but for some ids,
+/// which are marked: these the source is asked for. Without one, what supersedes a SYSMOD is asked for once, and so is the
+/// record of each that gives one that isn't there. Which are there is found in time in proportion to what was read.
 ///
 /// # Errors
 ///
@@ -41,22 +41,46 @@ pub fn candidates_for<P: Published>(
     alloc: Global,
     source: &mut P,
     listing: Option<&Listing>,
+    marks: &[Id],
     zone: &Zone,
     ids: &[Id],
 ) -> Result<Vec<Option<Vec<Id>>>, SourceFault>
     ensures asks { MayAsk P.content_view Device source.old source.new result }
     ensures candidates { IfOk result (λ found. Tells P.content_view source.old source.new
-        (λ content. IsAtHand content listing.entry → map (option_map (λ ids. ids.items)) found.items
+        (λ content. IsAtHand content listing.entry marks.now
+        → map (option_map (λ ids. ids.items)) found.items
+        ≡ map (candidates_unless_there content zone.now) ids.now)) }
+{
+    // Marks are looked up by halves.
+    if !do_ascend(marks) {
+        return candidates_by(alloc, source, None, &[], zone, ids);
+    }
+    candidates_by(alloc, source, listing, marks, zone, ids)
+}
+
+fn candidates_by<P: Published>(
+    alloc: Global,
+    source: &mut P,
+    listing: Option<&Listing>,
+    marks: &[Id],
+    zone: &Zone,
+    ids: &[Id],
+) -> Result<Vec<Option<Vec<Id>>>, SourceFault>
+    requires { Ascend marks.now }
+    ensures asks { MayAsk P.content_view Device source.old source.new result }
+    ensures candidates { IfOk result (λ found. Tells P.content_view source.old source.new
+        (λ content. IsAtHand content listing.entry marks.now
+        → map (option_map (λ ids. ids.items)) found.items
         ≡ map (candidates_unless_there content zone.now) ids.now)) }
 {
     if ids.is_empty() {
         return Ok(Vec::new(alloc));
     }
-    let climb = climb_from(alloc, source, listing, ids)?;
+    let climb = climb_from(alloc, source, listing, marks, ids)?;
     let there = there_marks(alloc, zone, &climb.ids, &climb.below)?;
     let absent = absent_marks(alloc, &climb.ids, &there, ids)?;
     let wanted = least_sources(alloc, &climb.above, &absent)?;
-    let candidates = wanted_candidates(alloc, source, listing, zone, &climb.ids, &wanted)?;
+    let candidates = wanted_candidates(alloc, source, listing, marks, zone, &climb.ids, &wanted)?;
     Ok(found_among(alloc, ids, &climb, &there, &candidates)?)
 }
 
@@ -86,41 +110,45 @@ fn wanted_candidates<P: Published>(
     alloc: Global,
     source: &mut P,
     listing: Option<&Listing>,
+    marks: &[Id],
     zone: &Zone,
     ids: &[Id],
     wanted: &[Option<usize>],
 ) -> Result<Vec<bool>, SourceFault>
+    requires { Ascend marks.now }
     ensures asks { MayAsk P.content_view Device source.old source.new result }
-    ensures len { IfOk result (λ marks. length marks.items ≡ length ids.now) }
-    ensures marks { IfOk result (λ marks. Tells P.content_view source.old source.new
-        (λ content. IsAtHand content listing.entry → MarksAre
+    ensures len { IfOk result (λ are. length are.items ≡ length ids.now) }
+    ensures are { IfOk result (λ are. Tells P.content_view source.old source.new
+        (λ content. IsAtHand content listing.entry marks.now → MarksAre
         (λ p mark. HasSource wanted.now p → mark ≡ is_candidate content zone.now (id_at ids.now p))
-        (length ids.now) marks.items)) }
+        (length ids.now) are.items)) }
 {
-    let mut marks = Vec::with_capacity(alloc, ids.len())?;
+    let mut are = Vec::with_capacity(alloc, ids.len())?;
     for (index, id) in ids.iter().enumerate() {
         let is_wanted = has_source(wanted, index);
-        marks.push(is_wanted_candidate(source, listing, zone, id, is_wanted)?)?;
+        are.push(is_wanted_candidate(source, listing, marks, zone, id, is_wanted)?)?;
     }
-    Ok(marks)
+    Ok(are)
 }
 
 fn is_wanted_candidate<P: Published>(
     source: &mut P,
     listing: Option<&Listing>,
+    marks: &[Id],
     zone: &Zone,
     id: &Id,
     wanted: bool,
 ) -> Result<bool, SourceFault>
+    requires { Ascend marks.now }
     ensures asks { MayAsk P.content_view Device source.old source.new result }
     ensures candidate { IfOk result (λ mark. Tells P.content_view source.old source.new
-        (λ content. IsAtHand content listing.entry
+        (λ content. IsAtHand content listing.entry marks.now
         → wanted ≡ true → mark ≡ is_candidate content zone.now id.now)) }
 {
     if !wanted {
         return Ok(false);
     }
-    match listing {
+    match that_says(listing, marks, id) {
         Some(listing) => Ok(listing.is_candidate(zone, id)),
         None => Ok(applies(zone, &source.sysmod(id)?)),
     }

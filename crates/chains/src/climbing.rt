@@ -1,19 +1,20 @@
 //! What supersedes some SYSMODs, directly or through others, read once.
-ghost use Rattle.std.specs.Prelude.{◌≡◌, ◌<◌, ℕ, List, Contains, IfOk, length, map};
+ghost use Rattle.std.specs.Prelude.{◌≡◌, ◌<◌, ℕ, List, Contains, IfOk, IfSome, length, map};
 ghost use Rattle.std.specs.BTreeMap.{keys, values};
-ghost use Rattle.catalogue.specs.Content.{ids_of, superseders};
+ghost use Rattle.catalogue.specs.Content.{Content, ids_of, superseders};
 ghost use Rattle.catalogue.specs.Ids.{Ascend};
 ghost use Rattle.catalogue.specs.View.{MayAsk, Tells};
 ghost use Rattle.catalogue.specs.declared.fault.SourceFault.TheVariants.{Device};
 ghost use Rattle.requisites.specs.Nodes.{AreReversed};
 ghost use Rattle.chains.specs.Climbs.{AreAbove, AreListed};
 ghost use Rattle.chains.specs.FrameIndices.{AreIndexed};
-ghost use Rattle.chains.specs.Sights.{IsAtHand};
+ghost use Rattle.chains.specs.Marks.{IsAtHand, SaysOf};
 
 use crate::found::{ids_found, next_unread};
 use crate::gathered::ascending;
 use crate::indices::put_indices;
 use crate::listing::Listing;
+use crate::renewing::is_marked;
 use catalogue::{Ids, Published, SourceFault};
 use mcs_reader::{Id, NoMemory};
 use requisites::{Rows, turned};
@@ -30,18 +31,21 @@ pub(crate) struct Climb {
 }
 
 /// What supersedes these SYSMODs, directly or through others: by a listing, where one is at hand, and else by the
-/// source, which is asked for each SYSMOD once.
+/// source, which is asked for each SYSMOD once. It is asked for what is marked in the listing too.
 pub(crate) fn climb_from<P: Published>(
     alloc: Global,
     source: &mut P,
     listing: Option<&Listing>,
+    marks: &[Id],
     starts: &[Id],
 ) -> Result<Climb, SourceFault>
+    requires { Ascend marks.now }
     ensures asks { MayAsk P.content_view Device source.old source.new result }
     ensures above { IfOk result (λ climb. Tells P.content_view source.old source.new
-        (λ content. IsAtHand content listing.entry → AreAbove content climb.ids.items climb.above)) }
+        (λ content. IsAtHand content listing.entry marks.now
+        → AreAbove content climb.ids.items climb.above)) }
     ensures ordered { IfOk result (λ climb. Tells P.content_view source.old source.new
-        (λ content. IsAtHand content listing.entry
+        (λ content. IsAtHand content listing.entry marks.now
         → (id : List ℕ) → Contains starts.now id → Ascend (ids_of content))) }
     ensures ascend { IfOk result (λ climb. Ascend climb.ids.items) }
     ensures starts { IfOk result
@@ -49,7 +53,7 @@ pub(crate) fn climb_from<P: Published>(
     ensures rows { IfOk result (λ climb. length climb.above ≡ length climb.ids.items) }
     ensures turned { IfOk result (λ climb. AreReversed climb.above (length climb.ids.items) climb.below) }
 {
-    let found = superseders_of(alloc, source, listing, starts)?;
+    let found = superseders_of(alloc, source, listing, marks, starts)?;
     Ok(by_indices(alloc, found)?)
 }
 
@@ -58,14 +62,16 @@ fn superseders_of<P: Published>(
     alloc: Global,
     source: &mut P,
     listing: Option<&Listing>,
+    marks: &[Id],
     starts: &[Id],
 ) -> Result<BTreeMap<Id, Ids>, SourceFault>
+    requires { Ascend marks.now }
     ensures asks { MayAsk P.content_view Device source.old source.new result }
     ensures above { IfOk result (λ found. Tells P.content_view source.old source.new
-        (λ content. IsAtHand content listing.entry
+        (λ content. IsAtHand content listing.entry marks.now
         → values found ≡ map (superseders content) (keys found))) }
     ensures ordered { IfOk result (λ found. Tells P.content_view source.old source.new
-        (λ content. IsAtHand content listing.entry
+        (λ content. IsAtHand content listing.entry marks.now
         → (id : List ℕ) → Contains (keys found) id → Ascend (ids_of content))) }
     ensures listed { IfOk result (λ found. AreListed (values found) (keys found)) }
     ensures starts { IfOk result
@@ -76,7 +82,7 @@ fn superseders_of<P: Published>(
     let mut at = 0;
     while at < order.len() {
         let id = order[at];
-        let above = direct_superseders(alloc, source, listing, &id)?;
+        let above = direct_superseders(alloc, source, listing, marks, &id)?;
         order.extend_from_slice(above.as_slice())?;
         found.insert(id, above)?;
         at = next_unread(&found, &order, at + 1);
@@ -89,18 +95,36 @@ fn direct_superseders<P: Published>(
     alloc: Global,
     source: &mut P,
     listing: Option<&Listing>,
+    marks: &[Id],
     id: &Id,
 ) -> Result<Ids, SourceFault>
+    requires { Ascend marks.now }
     ensures asks { MayAsk P.content_view Device source.old source.new result }
     ensures superseders { IfOk result (λ found. Tells P.content_view source.old source.new
-        (λ content. IsAtHand content listing.entry → found ≡ superseders content id.now)) }
+        (λ content. IsAtHand content listing.entry marks.now → found ≡ superseders content id.now)) }
     ensures ordered { IfOk result (λ found. Tells P.content_view source.old source.new
-        (λ content. IsAtHand content listing.entry → Ascend (ids_of content))) }
+        (λ content. IsAtHand content listing.entry marks.now → Ascend (ids_of content))) }
 {
-    match listing {
+    match that_says(listing, marks, id) {
         Some(listing) => Ok(listing.superseders(alloc, id)?),
         None => Ok(ascending(source.superseders(id)?)),
     }
+}
+
+/// The listing that is at hand, if it says what there is of an id: one that isn't marked.
+pub(crate) fn that_says<'a>(
+    listing: Option<&'a Listing>,
+    marks: &[Id],
+    id: &Id,
+) -> Option<&'a Listing>
+    requires { Ascend marks.now }
+    ensures { (content : Content) → IsAtHand content listing.entry marks.now
+        → IfSome result (λ listing. SaysOf content id.now listing.now) }
+{
+    if is_marked(marks, id) {
+        return None;
+    }
+    listing
 }
 
 fn by_indices(alloc: Global, found: BTreeMap<Id, Ids>) -> Result<Climb, NoMemory>

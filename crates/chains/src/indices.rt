@@ -1,5 +1,5 @@
 //! Ids by their indices in a list that ascends.
-ghost use Rattle.std.specs.Prelude.{◌≡◌, ◌<◌, ◌++◌, ℕ, List, Contains, IfNone, IfOk, IfSome, OnOk, length, map};
+ghost use Rattle.std.specs.Prelude.{◌≡◌, ◌<◌, ◌++◌, ℕ, List, Contains, IfNone, IfOk, IfSome, OnOk, length, map, true};
 ghost use Rattle.std.specs.List.{flat_map};
 ghost use Rattle.catalogue.specs.Ids.{Ascend, in_order};
 ghost use Rattle.chains.specs.Cuts as cuts;
@@ -38,7 +38,11 @@ fn listed_with_needs(alloc: Global, ids: &[Id], entries: &[Entry]) -> Result<Vec
 }
 
 /// Puts ids in ascending order, each once. Those that ascend already are not sorted again.
-pub(crate) fn sort_each_once(ids: &mut Vec<Id>) -> Result<(), NoMemory>
+///
+/// # Errors
+///
+/// `NoMemory` where memory ran out.
+pub fn sort_each_once(ids: &mut Vec<Id>) -> Result<(), NoMemory>
     ensures in_order { OnOk result (ids.new.items ≡ in_order ids.old.items) }
     ensures ascend { OnOk result (Ascend ids.new.items) }
     ensures keeps { (id : List ℕ) → Contains ids.old.items id → Contains ids.new.items id }
@@ -46,6 +50,13 @@ pub(crate) fn sort_each_once(ids: &mut Vec<Id>) -> Result<(), NoMemory>
     ids.sort()?;
     ids.dedup();
     Ok(())
+}
+
+/// Whether ids ascend, each once.
+pub fn do_ascend(ids: &[Id]) -> bool
+    ensures { result ≡ true → Ascend ids.now }
+{
+    ids.is_sorted_by(|id, next| id.cmp(next).is_lt())
 }
 
 /// Where an id stands, if it stands there.

@@ -127,6 +127,6 @@ pub trait Judge<P: Published> {
             (λ content. is_right self.now content → map (option_map (λ ids. ids.items)) found.items
             ≡ map (candidates_unless_there content zone.now) ids.now)) }
     {
-        candidates_for(alloc, source, None, zone, ids)
+        candidates_for(alloc, source, None, &[], zone, ids)
     }
 }

@@ -7,11 +7,13 @@
 //! - [`Frame`]: all that one SYSMOD reaches, as [`FrameNode`]s; [`frame`], [`frame_within`]: that of a
 //!   SYSMOD, from a source
 //! - [`plan`], [`good`]: verdicts from a frame alone
-//! - [`Listing`]: all that is catalogued, whatever the zone; [`listing_of`]: that of a source, read once
+//! - [`Listing`]: all that is catalogued, whatever the zone; [`listing_of`]: that of a source, read once;
+//!   [`Listing::renewed`]: over a publication, by what that touches
 //! - [`Survey`]: all verdicts of one zone; [`Survey::of`]: by a listing; [`survey_of`]: from a source
 //! - [`candidates_for`]: the candidates that give each of several SYSMODs, by a listing or from a source
 //! - [`put_plan`], [`listed`]: what chosen plans have together, put into a set of ids and listed
 //! - [`touches`]: whether a publication may change a frame
+//! - [`sort_each_once`]: puts ids in ascending order; [`do_ascend`]: whether they are
 //! - [`good_is_planned`], [`verdicts_are_right`]: laws of the definitions
 //!
 //! ```
@@ -44,6 +46,7 @@ mod links;
 mod listing;
 mod nodes;
 mod planning;
+mod renewing;
 mod superseders;
 mod surveying;
 mod touching;
@@ -55,6 +58,7 @@ mod whole;
 pub use candidates::candidates_for;
 pub use frames::{Frame, FrameNode};
 pub use framing::{frame, frame_within};
+pub use indices::{do_ascend, sort_each_once};
 pub use judge::Judge;
 pub use law::{good_is_planned, verdicts_are_right};
 pub use listing::{Listing, listing_of};

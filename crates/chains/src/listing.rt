@@ -1,5 +1,5 @@
 //! What a source says of all that is catalogued, read once.
-ghost use Rattle.std.specs.Prelude.{◌≡◌, ◌++◌, length, IfOk, OnOk};
+ghost use Rattle.std.specs.Prelude.{◌≡◌, ◌++◌, length, map, IfOk, OnOk};
 ghost use Rattle.std.specs.List.{list_any};
 ghost use Rattle.zone_lists.specs.Installed.{is_installed};
 ghost use Rattle.catalogue.specs.Content.{Content, ids_of, superseders};
@@ -7,12 +7,15 @@ ghost use Rattle.catalogue.specs.Ids.{Ascend};
 ghost use Rattle.catalogue.specs.View.{MayAsk, Tells};
 ghost use Rattle.catalogue.specs.declared.fault.SourceFault.TheVariants.{Device};
 ghost use Rattle.supersede.specs.Giving.{is_candidate};
+ghost use Rattle.catalogue.specs.Seen.{seen_in};
+ghost use Rattle.chains.specs.Marks.{IsListingBut, SaysOf, sight_seen};
 ghost use Rattle.chains.specs.Sights.{IsListing, reasons_in, sight_from, sight_of, unseen};
 
 use crate::gathered::ascending;
 use crate::indices::{ids_at, index_of, sort_each_once};
+use crate::renewing::{found_entries, ids_now, unmarked_entries, woven};
 use crate::superseders::Superseders;
-use catalogue::{CondNeed, CondNeeds, Ids, Published, SourceFault, Sysmod};
+use catalogue::{CondNeed, CondNeeds, Ids, Published, Seen, SourceFault, Sysmod};
 use holddata::{Hold, Kind};
 use mcs_reader::{Id, NoMemory};
 use std::alloc::Global;
@@ -126,18 +129,49 @@ impl Listing {
 
     /// The SYSMODs whose SUP names an id, ascending.
     pub(crate) fn superseders(&self, alloc: Global, id: &Id) -> Result<Ids, NoMemory>
-        ensures superseders { IfOk result (λ found. (content : Content) → IsListing content self.now
+        ensures superseders { IfOk result (λ found. (content : Content) → SaysOf content id.now self.now
             → found ≡ superseders content id.now) }
-        ensures ascend { (content : Content) → IsListing content self.now → Ascend (ids_of content) }
+        ensures ascend { (content : Content) → SaysOf content id.now self.now → Ascend (ids_of content) }
     {
         let mut found = ids_at(alloc, &self.ids, self.superseders.indices(id))?;
         sort_each_once(&mut found)?;
         Ok(ascending(found))
     }
 
+    /// That of a later content, where this one is of it but for some marked ids, of which it is read anew. Only what is
+    /// marked is looked at; all else is taken over.
+    ///
+    /// # Errors
+    ///
+    /// `NoMemory` where memory ran out.
+    pub fn renewed(self, alloc: Global, marks: &[Id], read: Vec<Seen>) -> Result<Listing, NoMemory>
+        requires { Ascend marks.now }
+        ensures listing { IfOk result (λ renewed. (content : Content)
+            → IsListingBut content marks.now self → read.items ≡ map (seen_in content) marks.now
+            → IsListing content renewed) }
+        ensures ascend { IfOk result (λ renewed. Ascend renewed.ids) }
+    {
+        let Listing {
+            ids: listed,
+            entries,
+            superseders,
+        } = self;
+        drop(superseders);
+        let ids = ids_now(alloc, &listed, marks, &read)?;
+        let kept = unmarked_entries(alloc, &listed, entries, marks)?;
+        let found = found_entries(alloc, read)?;
+        let entries = woven(alloc, &ids, marks, kept, found)?;
+        let superseders = Superseders::of(alloc, &entries)?;
+        Ok(Listing {
+            ids,
+            entries,
+            superseders,
+        })
+    }
+
     /// Whether an id is listed, and one of the functions that it is for is there.
     pub(crate) fn is_candidate(&self, zone: &Zone, id: &Id) -> bool
-        ensures { (content : Content) → IsListing content self.now
+        ensures { (content : Content) → SaysOf content id.now self.now
             → result ≡ is_candidate content zone.now id.now }
     {
         match index_of(&self.ids, id) {
@@ -146,6 +180,9 @@ impl Listing {
         }
     }
 }
+
+// How many SYSMODs are read at once: few enough that their records take little memory beside the listing.
+const RUN: usize = 4096;
 
 /// All that is catalogued, read once.
 ///
@@ -156,12 +193,10 @@ pub fn listing_of<P: Published>(alloc: Global, source: &mut P) -> Result<Listing
     ensures asks { MayAsk P.content_view Device source.old source.new result }
     ensures listing { IfOk result (λ listing. Tells P.content_view source.old source.new
         (λ content. IsListing content listing)) }
+    ensures ascend { IfOk result (λ listing. Ascend listing.ids) }
 {
     let ids = source.ids()?;
-    let mut entries = Vec::with_capacity(alloc, ids.len())?;
-    for id in &ids {
-        entries.push(entry_of(alloc, source, id)?)?;
-    }
+    let entries = entries_of(alloc, source, &ids)?;
     let superseders = Superseders::of(alloc, &entries)?;
     Ok(Listing {
         ids,
@@ -170,14 +205,64 @@ pub fn listing_of<P: Published>(alloc: Global, source: &mut P) -> Result<Listing
     })
 }
 
-fn entry_of<P: Published>(alloc: Global, source: &mut P, id: &Id) -> Result<Entry, SourceFault>
+// What is read of some ids, in runs.
+fn entries_of<P: Published>(
+    alloc: Global,
+    source: &mut P,
+    ids: &[Id],
+) -> Result<Vec<Entry>, SourceFault>
     ensures asks { MayAsk P.content_view Device source.old source.new result }
-    ensures entry { IfOk result (λ entry. Tells P.content_view source.old source.new
-        (λ content. entry ≡ sight_of content id.now)) }
+    ensures entries { IfOk result (λ entries. Tells P.content_view source.old source.new
+        (λ content. entries.items ≡ map (sight_of content) ids.now)) }
+    ensures len { IfOk result (λ entries. length entries.items ≡ length ids.now) }
 {
-    let sysmod = source.sysmod(id)?;
-    let holds = source.holds_on(id)?;
-    Ok(entry_from(alloc, sysmod, &holds)?)
+    let mut entries = Vec::with_capacity(alloc, ids.len())?;
+    for run in ids.chunks(RUN) {
+        read_run(alloc, source, run, &mut entries)?;
+    }
+    make_as_many(alloc, &mut entries, ids.len())?;
+    Ok(entries)
+}
+
+// Makes them so many. They are so many already, unless a disk returned what was never written.
+fn make_as_many(alloc: Global, entries: &mut Vec<Entry>, len: usize) -> Result<(), NoMemory>
+    ensures len { OnOk result (length entries.new.items ≡ len) }
+    ensures same { OnOk result (length entries.old.items ≡ len → entries.new.items ≡ entries.old.items) }
+{
+    entries.truncate(len);
+    for _ in entries.len()..len {
+        entries.push(Entry::unseen(alloc))?;
+    }
+    Ok(())
+}
+
+fn read_run<P: Published>(
+    alloc: Global,
+    source: &mut P,
+    run: &[Id],
+    entries: &mut Vec<Entry>,
+) -> Result<(), SourceFault>
+    ensures asks { MayAsk P.content_view Device source.old source.new result }
+    ensures entries { OnOk result (Tells P.content_view source.old source.new
+        (λ content. entries.new.items ≡ entries.old.items ++ map (sight_of content) run.now)) }
+{
+    let read = source.seen(alloc, run)?;
+    push_entries(alloc, entries, read)?;
+    Ok(())
+}
+
+/// Adds what was read, in its order.
+pub(crate) fn push_entries(
+    alloc: Global,
+    entries: &mut Vec<Entry>,
+    read: Vec<Seen>,
+) -> Result<(), NoMemory>
+    ensures { OnOk result (entries.new.items ≡ entries.old.items ++ map sight_seen read.items) }
+{
+    for seen in read {
+        entries.push(entry_from(alloc, seen.sysmod, &seen.holds)?)?;
+    }
+    Ok(())
 }
 
 fn entry_from(alloc: Global, sysmod: Option<Sysmod>, holds: &[Hold]) -> Result<Entry, NoMemory>

@@ -4,6 +4,7 @@ ghost use Rattle.catalogue.specs.Content.{Content};
 ghost use Rattle.catalogue.specs.Ids.{Ascend};
 ghost use Rattle.catalogue.specs.View.{MayAsk, Tells};
 ghost use Rattle.catalogue.specs.declared.fault.SourceFault.TheVariants.{Device};
+ghost use Rattle.chains.specs.Indices.{AreNodesWithin};
 ghost use Rattle.chains.specs.Judge as judge;
 ghost use Rattle.chains.specs.Sights.{IsListing};
 ghost use Rattle.chains.specs.Surveys.{IsSurvey, status_by};
@@ -52,6 +53,18 @@ impl Survey {
             → IsSurvey content zone.now survey) }
     {
         let cut = Cut::of(alloc, zone, listing.ids(), listing.entries())?;
+        Survey::resolved(alloc, cut)
+    }
+
+    // By the nodes of a zone.
+    fn resolved(alloc: Global, cut: Cut) -> Result<Survey, NoMemory>
+        requires ascend { Ascend cut.members.items }
+        requires within { AreNodesWithin cut.members.items cut.nodes }
+        ensures { IfOk result (λ survey. survey ≡ (record {
+          members = cut.members.items;
+          nodes = cut.nodes;
+        })) }
+    {
         let resolution = resolve(alloc, &cut.nodes)?;
         Ok(Survey { cut, resolution })
     }
@@ -133,7 +146,7 @@ fn status_by(good: bool, candidate: bool) -> Status
     Status::Lack
 }
 
-/// The survey of a zone: all that is catalogued is read, once.
+/// The survey of a zone: all that is catalogued is read, once. What was read goes before the zone is looked over.
 ///
 /// # Errors
 ///
@@ -147,6 +160,19 @@ pub fn survey_of<P: Published>(
     ensures survey { IfOk result (λ survey. Tells P.content_view source.old source.new
         (λ content. IsSurvey content zone.now survey)) }
 {
+    let cut = cut_of(alloc, source, zone)?;
+    Ok(Survey::resolved(alloc, cut)?)
+}
+
+// The nodes of a zone. What is read for them goes.
+fn cut_of<P: Published>(alloc: Global, source: &mut P, zone: &Zone) -> Result<Cut, SourceFault>
+    ensures asks { MayAsk P.content_view Device source.old source.new result }
+    ensures ascend { IfOk result (λ cut. Ascend cut.members.items) }
+    ensures within { IfOk result (λ cut. AreNodesWithin cut.members.items cut.nodes) }
+    ensures survey { IfOk result (λ cut. Tells P.content_view source.old source.new
+        (λ content. IsSurvey content zone.now
+        (record { members = cut.members.items; nodes = cut.nodes }))) }
+{
     let listing = listing_of(alloc, source)?;
-    Ok(Survey::of(alloc, zone, &listing)?)
+    Ok(Cut::of(alloc, zone, listing.ids(), listing.entries())?)
 }

@@ -4,7 +4,7 @@ use Rattle.std.specs.Prelude.{not}
 use Rattle.std.specs.List.{Contains, filter, flat_map, list_any}
 use Rattle.std.proofs.lemmas.List.{length-map}
 use Rattle.std.proofs.lemmas.List.Elements.{Contains-append_left, Contains-append_right}
-use Rattle.lemmas.proofs.ListFacts.{flat_inside, kept_from, kept_inside, map_inside}
+use Rattle.lemmas.proofs.ListFacts.{flat_inside, kept_from, kept_inside, map_inside, get_any}
 use Rattle.lemmas.proofs.TestFacts.{same_test}
 use Rattle.report_holds.specs.declared.holds.HoldOn.{HoldOn}
 use Rattle.zone_lists.specs.declared.zones.ZoneRow.{ZoneRow}
@@ -14,17 +14,17 @@ use Rattle.catalogue.proofs.IdFacts.{in_order_has}
 use Rattle.supersede.specs.Giving.{gives, givers_of, is_candidate, is_there, needs_in}
 use Rattle.supersede.specs.Reach.{has}
 use Rattle.supersede.proofs.LeadingFacts.{gives_is}
+use Rattle.supersede.proofs.ReachFacts.{has_from, has_to}
 use Rattle.requisites.specs.Nodes.{row}
 use Rattle.requisites.specs.World.{IsPlan}
 use Rattle.chains.specs.Candidates.{candidates_unless_there}
 use Rattle.chains.specs.Cuts.{id_at}
 use Rattle.chains.specs.Worlds.{world_of}
-use Rattle.chains.proofs.IndexFacts.{at_inside, get_any}
+use Rattle.chains.proofs.IndexFacts.{at_inside}
 use Rattle.chains.proofs.PartFacts.{at_map}
 use Rattle.zone_plans.specs.Members.{joined, needs_id}
 use Rattle.zone_plans.specs.declared.holds.ChosenResolver.{ChosenResolver}
 use Rattle.zone_plans.proofs.PlannedFacts.{answer_has, answer_says}
-use Rattle.zone_plans.proofs.GraphFacts.{has_from, has_to}
 use Rattle.plan_members.specs.Found.{AreFound, FoundLists, IsTold, ReadingLists, absent_givers, all_needs, gives_one, holds_at, is_needed_at, no_resolver, nothing_read, or_none, others_at, picked, places, reading_at, reading_of, resolver_at, resolvers_in}
 use Rattle.plan_members.specs.Members.{MemberLists, holds_for, member_at, needed_by_of}
 use Rattle.plan_members.proofs.PlaceFacts.{filter_twice, places_kept, places_same}

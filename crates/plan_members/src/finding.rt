@@ -84,7 +84,7 @@ fn needing<P: Published>(
         (places_of rows.items))) }
 {
     let needs = needs_of_all(alloc, readings)?;
-    let answers = candidates_for(alloc, source, None, zone, &needs)?;
+    let answers = candidates_for(alloc, source, None, &[], zone, &needs)?;
     let lists = answered(alloc, answers)?;
     Ok(needing_rows(alloc, ids, &needs, &lists, readings)?)
 }

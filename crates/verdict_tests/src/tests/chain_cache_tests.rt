@@ -1,4 +1,4 @@
-//! Which frames are kept and in what order, that what is kept is what would be built, and candidates by what is kept.
+//! Which frames are kept and in what order, that what is kept is what would be built, and what is kept over publications.
 ghost use Rattle.std.specs.Prelude.{◌≤◌};
 
 use super::content::changes_of;
@@ -14,7 +14,9 @@ use supersede::Zone;
 
 mod candidates;
 mod kept;
+mod publications;
 mod random;
+mod renewed;
 
 // What is published, and the cache of what is found there.
 #[derive(Drop)]

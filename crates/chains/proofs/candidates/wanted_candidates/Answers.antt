@@ -1,11 +1,12 @@
 use Rattle.std.proofs.Common.{◌≡◌, ◌∙◌, ◌+◌, [], ℕ, ap, length, subst, arith}
+use Rattle.lemmas.proofs.ListFacts.{get_any}
 use Rattle.catalogue.proofs.SourceFacts.{no_fault, told_so}
 use Rattle.requisites.specs.Sources.{HasSource}
 use Rattle.supersede.specs.Giving.{is_candidate}
-use Rattle.supersede.proofs.TellingFacts.{tells_on}
+use Rattle.catalogue.proofs.TellingFacts.{tells_on}
 use Rattle.chains.specs.Cuts.{id_at}
 use Rattle.chains.specs.Indices.{MarksAre}
-use Rattle.chains.proofs.IndexFacts.{get_any, length-push, marks_more}
+use Rattle.chains.proofs.IndexFacts.{length-push, marks_more}
 use Rattle.chains.proofs.candidates.wanted_candidates.Goals as goal
 
 pub loop-index-preserved : goal.loop-index-preserved
@@ -20,17 +21,17 @@ loop-index-preserved g c =
     let asks = c.in_ok-is_wanted_candidate.ensures.asks in
     record {
       has_told = tells_on g.met.P.Published.lawful was.has_told asks.keeps (asks.stays_open (no_fault _)) c.in_ok-is_wanted_candidate.ensures.candidate (λ content so_far candidate at_hand.
-          marks_more (λ p m. HasSource wanted p → m ≡ is_candidate content rows (id_at ids p)) index c.loop-index.marks.items c.push.new.self.items mark (so_far at_hand)
+          marks_more (λ p m. HasSource wanted p → m ≡ is_candidate content rows (id_at ids p)) index c.loop-index.are.items c.push.new.self.items mark (so_far at_hand)
           (λ has.
           let own : mark ≡ is_candidate content rows id = candidate at_hand (c.has_source-is_wanted.ensures.1 has) in
           own ∙ ap (is_candidate content rows) (c.index-ids-index.is ∙ get_any ids index id [] c.loop-index-test.true))
           c.in_ok-push.ensures.items);
-      len = ap length c.in_ok-push.ensures.items ∙ length-push c.loop-index.marks.items mark ∙ ap (λ (k : ℕ). k + 1) was.len;
+      len = ap length c.in_ok-push.ensures.items ∙ length-push c.loop-index.are.items mark ∙ ap (λ (k : ℕ). k + 1) was.len;
     }
 
-pub returns-clause-marks : goal.returns-clause-marks
-returns-clause-marks g c =
+pub returns-clause-are : goal.returns-clause-are
+returns-clause-are g c =
     let all : c.loop-index.index ≡ length c.args.ids.now = omega arith in
     told_so c.loop-index.invariant.has_told.told (λ content marks at_hand.
-    let M : ℕ → Type 0 = λ n. MarksAre (λ p mark. HasSource c.args.wanted.now p → mark ≡ is_candidate content c.args.zone.now (id_at c.args.ids.now p)) n c.loop-index.marks.items in
+    let M : ℕ → Type 0 = λ n. MarksAre (λ p mark. HasSource c.args.wanted.now p → mark ≡ is_candidate content c.args.zone.now (id_at c.args.ids.now p)) n c.loop-index.are.items in
     subst M all (marks at_hand))

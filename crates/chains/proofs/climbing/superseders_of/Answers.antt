@@ -2,7 +2,7 @@ use Rattle.std.proofs.Common.{◌≡◌, ◌∙◌, ◌++◌, ◌+◌, ◌<◌, 
 use Rattle.std.specs.BTreeMap.{keys, values}
 use Rattle.catalogue.specs.Content.{superseders}
 use Rattle.catalogue.proofs.SourceFacts.{no_fault, told_both, told_so}
-use Rattle.supersede.proofs.TellingFacts.{tells_on}
+use Rattle.catalogue.proofs.TellingFacts.{tells_on}
 use Rattle.chains.specs.Gathered.{AreRead}
 use Rattle.chains.proofs.ClimbFacts.{above_now, asked_now, listed_ends, listed_now, starts_stay}
 use Rattle.chains.proofs.WalkFacts.{all_asked}

@@ -3,16 +3,16 @@ use Rattle.std.specs.BTreeMap.{keys, values}
 use Rattle.std.specs.List.{Contains}
 use Rattle.catalogue.specs.Content.{ids_of, superseders}
 use Rattle.catalogue.specs.Ids.{Ascend}
-use Rattle.supersede.proofs.TellingFacts.{HasTold}
+use Rattle.catalogue.proofs.TellingFacts.{HasTold}
 use Rattle.chains.specs.Climbs.{AreListed}
 use Rattle.chains.specs.Gathered.{AreRead}
-use Rattle.chains.specs.Sights.{IsAtHand}
+use Rattle.chains.specs.Marks.{IsAtHand}
 use Rattle.chains.proofs.climbing.superseders_of.Given as goal
 
 -- the ids before `at` were read
 abbrev pub invariant-loop-at : goal.invariant-loop-at
 invariant-loop-at g l = record {
-  has_told : HasTold g.P.Published.content_view l.fn.source l.source (λ content. IsAtHand content l.listing
+  has_told : HasTold g.P.Published.content_view l.fn.source l.source (λ content. IsAtHand content l.listing l.marks
       → (values l.found ≡ map (superseders content) (keys l.found)) × ((id : List ℕ) → Contains (keys l.found) id → Ascend (ids_of content)));
   begun : (id : List ℕ) → Contains l.starts id → Contains l.order.items id;
   asked : AreRead (keys l.found) l.order.items l.at;

@@ -1,5 +1,5 @@
 use Rattle.lemmas.proofs.ResultFacts.{some_is}
-use Rattle.supersede.proofs.TellingFacts.{told_in_order}
+use Rattle.catalogue.proofs.TellingFacts.{told_in_order}
 use Rattle.chains.proofs.framing.frame_within.Goals as goal
 
 pub returns-in_ok-of-in-Some-clause-frame : goal.returns-in_ok-of-in-Some-clause-frame

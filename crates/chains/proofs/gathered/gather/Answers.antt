@@ -4,7 +4,7 @@ use Rattle.std.specs.List.{Contains}
 use Rattle.std.proofs.lemmas.List.Elements.{Contains-append_left}
 use Rattle.chains.specs.Gathered.{AreRead, named_by}
 use Rattle.catalogue.proofs.SourceFacts.{told_so}
-use Rattle.supersede.proofs.TellingFacts.{tells_on}
+use Rattle.catalogue.proofs.TellingFacts.{tells_on}
 use Rattle.chains.proofs.WalkFacts.{all_asked, asked_now, few_now, gather_ends, gather_moves, gather_reads, named_ends, named_now}
 use Rattle.chains.proofs.gathered.gather.Goals as goal
 

@@ -2,7 +2,7 @@ use Rattle.std.proofs.Common.{◌-◌, ◌^◌, ◌≤◌, ℕ, List, IfSome, le
 use Rattle.std.specs.BTreeMap.{keys, values}
 use Rattle.std.specs.List.{Contains}
 use Rattle.catalogue.specs.View.{IsOpen}
-use Rattle.supersede.proofs.TellingFacts.{HasTold}
+use Rattle.catalogue.proofs.TellingFacts.{HasTold}
 use Rattle.chains.specs.Gathered.{AreNamed, AreRead, IsGathering}
 use Rattle.chains.proofs.gathered.gather.Given as goal
 

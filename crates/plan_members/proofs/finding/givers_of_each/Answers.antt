@@ -4,7 +4,7 @@ use Rattle.std.specs.Global.{Vec}
 use Rattle.mcs_reader.specs.declared.id.Id.{Id}
 use Rattle.catalogue.proofs.SourceFacts.{no_fault}
 use Rattle.supersede.specs.Giving.{givers_of}
-use Rattle.supersede.proofs.TellingFacts.{tells_on}
+use Rattle.catalogue.proofs.TellingFacts.{tells_on}
 use Rattle.zone_plans.proofs.ChoiceFacts.{map_more}
 use Rattle.plan_members.specs.Found.{lists_of}
 use Rattle.plan_members.proofs.finding.givers_of_each.Goals as goal

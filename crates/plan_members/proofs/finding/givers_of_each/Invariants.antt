@@ -1,6 +1,6 @@
 use Rattle.std.proofs.Common.{◌≡◌, map, take}
 use Rattle.supersede.specs.Giving.{givers_of}
-use Rattle.supersede.proofs.TellingFacts.{HasTold}
+use Rattle.catalogue.proofs.TellingFacts.{HasTold}
 use Rattle.plan_members.specs.Found.{lists_of}
 use Rattle.plan_members.proofs.finding.givers_of_each.Given as goal
 

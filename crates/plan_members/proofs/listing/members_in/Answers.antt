@@ -1,6 +1,6 @@
 use Rattle.std.proofs.Common.{◌∙◌, ◌<◌, List, [], ℕ, length, ap, arith}
+use Rattle.lemmas.proofs.ListFacts.{get_any}
 use Rattle.catalogue.specs.Ids.{put_among}
-use Rattle.chains.proofs.IndexFacts.{get_any}
 use Rattle.reports.proofs.ResolverFacts.{named_more}
 use Rattle.plan_members.proofs.listing.members_in.Goals as goal
 

@@ -1,7 +1,7 @@
 use Rattle.std.proofs.Common.{◌∙◌, List, ap}
 use Rattle.holddata.specs.declared.hold.Hold.{Hold}
 use Rattle.catalogue.specs.Content.{holds_on}
-use Rattle.supersede.proofs.TellingFacts.{told_by_two}
+use Rattle.catalogue.proofs.TellingFacts.{told_by_two}
 use Rattle.plan_members.specs.Found.{reading_from}
 use Rattle.plan_members.proofs.reading.read_member.Goals as goal
 

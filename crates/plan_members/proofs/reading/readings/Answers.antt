@@ -1,5 +1,5 @@
 use Rattle.catalogue.proofs.SourceFacts.{no_fault}
-use Rattle.supersede.proofs.TellingFacts.{tells_on}
+use Rattle.catalogue.proofs.TellingFacts.{tells_on}
 use Rattle.plan_members.specs.Found.{reading_of}
 use Rattle.zone_plans.proofs.ChoiceFacts.{map_more}
 use Rattle.plan_members.proofs.reading.readings.Goals as goal

@@ -1,5 +1,5 @@
 use Rattle.std.proofs.Common.{◌≡◌, map, take}
-use Rattle.supersede.proofs.TellingFacts.{HasTold}
+use Rattle.catalogue.proofs.TellingFacts.{HasTold}
 use Rattle.plan_members.specs.Found.{reading_of}
 use Rattle.plan_members.proofs.reading.readings.Given as goal
 

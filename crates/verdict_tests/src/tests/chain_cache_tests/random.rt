@@ -13,9 +13,9 @@ use std::test::Fail;
 use supersede::Zone;
 use testing::{Draws, assert_equal_at};
 
-const RUNS: u32 = 20;
+pub(super) const RUNS: u32 = 20;
 
-const PUBLICATIONS: u32 = 12;
+pub(super) const PUBLICATIONS: u32 = 12;
 
 const IDS: u32 = 8;
 
@@ -65,7 +65,7 @@ fn put_hold(text: &mut String, draws: &mut Draws, verb: &str) -> Result<(), Fail
 }
 
 // A publication: up to three SYSMODs, and some holds and releases.
-fn statements(alloc: Global, draws: &mut Draws) -> Result<String, Fail> {
+pub(super) fn statements(alloc: Global, draws: &mut Draws) -> Result<String, Fail> {
     let mut text = String::new(alloc);
     for _ in 0..draws.next() & 3 {
         put_sysmod(&mut text, draws)?;
@@ -129,7 +129,11 @@ fn are_verdicts(
 }
 
 // The statuses of all that is catalogued, over the whole catalogue.
-fn statuses(alloc: Global, lists: &mut ListPublished, zone: &Zone) -> Result<Vec<Status>, Fail> {
+pub(super) fn statuses(
+    alloc: Global,
+    lists: &mut ListPublished,
+    zone: &Zone,
+) -> Result<Vec<Status>, Fail> {
     let ids = lists.ids()?;
     Ok(Whole::new().statuses(alloc, lists, zone, &ids)?)
 }
@@ -166,8 +170,8 @@ fn all_ids(alloc: Global) -> Result<Vec<Id>, Fail> {
 fn are_candidates(alloc: Global, lists: &mut ListPublished, zone: &Zone) -> Result<bool, Fail> {
     let ids = all_ids(alloc)?;
     let listing = listing_of(alloc, lists)?;
-    let listed = candidates_for(alloc, lists, Some(&listing), zone, &ids)?;
-    let read = candidates_for(alloc, lists, None, zone, &ids)?;
+    let listed = candidates_for(alloc, lists, Some(&listing), &[], zone, &ids)?;
+    let read = candidates_for(alloc, lists, None, &[], zone, &ids)?;
     Ok(listed.as_slice() == read.as_slice())
 }
 
@@ -214,7 +218,7 @@ static ZONES: [&[u8]; 3] = [
     b"SYSMOD,STATE\nHBB7790,APPLIED\nHXX0001,SUPERSEDED\nHXX0002,ACCEPTED\n",
 ];
 
-fn zones(alloc: Global) -> Result<Vec<Zone>, Fail> {
+pub(super) fn zones(alloc: Global) -> Result<Vec<Zone>, Fail> {
     let mut zones = Vec::new(alloc);
     for text in &ZONES {
         zones.push(zone_of(alloc, text)?)?;

@@ -1,6 +1,6 @@
 use Rattle.std.proofs.Common.{◌≡◌, take}
 use Rattle.catalogue.specs.View.{Tells}
-use Rattle.supersede.proofs.TellingFacts.{HasTold}
+use Rattle.catalogue.proofs.TellingFacts.{HasTold}
 use Rattle.chains.specs.United.{united}
 use Rattle.chain_cache.specs.Cache.{AreFilled, IsRightFor}
 use Rattle.chain_cache.proofs.cache.ChainCache.united_by_frames.Given as goal

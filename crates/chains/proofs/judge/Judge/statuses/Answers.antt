@@ -1,7 +1,7 @@
 use Rattle.std.proofs.Common.{◌∙◌, ap, map}
 use Rattle.std.proofs.lemmas.List.{take_all}
 use Rattle.catalogue.proofs.SourceFacts.{no_fault, told_both, told_so}
-use Rattle.supersede.proofs.TellingFacts.{tells_on, told_by_two}
+use Rattle.catalogue.proofs.TellingFacts.{tells_on, told_by_two}
 use Rattle.chains.specs.Judge.{status_of}
 use Rattle.chains.specs.Verdicts.{verdict_of}
 use Rattle.chains.proofs.IndexFacts.{made_more}

@@ -13,12 +13,14 @@ ids_at-requires c = λ q inside.
     omega (arith, within, as_many, ap length c.deref.ensures.value)
 
 pub returns-clause-superseders : goal.returns-clause-superseders
-returns-clause-superseders c = λ content is.
+returns-clause-superseders c = λ content says.
     let own = c.self.inside in
     let indices = c.indices.result.now in
-    let S : ListingLists → Type 0 = λ listing. IsListing content listing in
-    let here = subst S (sym c.self.view_is) is in
+    let but = says.but in
+    let S : ListingLists → Type 0 = λ listing. IsListing but.before listing in
+    let here = subst S (sym c.self.view_is) but.is in
     c.ascending.ensures
-    ∙ superseders_listed content own.ids.items own.entries.items here.ids here.sights c.self.invariant.0 c.self.invariant.1 c.args.id.now indices c.sort_each_once.new.ids.items
+    ∙ superseders_listed but.before own.ids.items own.entries.items here.ids here.sights c.self.invariant.0 c.self.invariant.1 c.args.id.now indices c.sort_each_once.new.ids.items
     (λ p. c.indices.ensures own.entries.items p c.self.invariant.2) c.in_ok-sort_each_once.ensures.ascend
     (c.in_ok-sort_each_once.ensures.in_order ∙ ap in_order (c.in_ok-found.ensures ∙ ap (λ l. map (id_at l) indices) c.deref.ensures.value))
+    ∙ sym (but.same.above c.args.id.now says.unmarked)

@@ -1,5 +1,5 @@
 use Rattle.std.proofs.Common.{get_or}
-use Rattle.chains.proofs.IndexFacts.{get_any}
+use Rattle.lemmas.proofs.ListFacts.{get_any}
 use Rattle.chains.proofs.WalkingFacts.{taken_all, taken_more, taken_none}
 use Rattle.chains.proofs.walks.Walks.take_row.Goals as goal
 
