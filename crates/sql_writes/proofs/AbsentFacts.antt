@@ -1,26 +1,18 @@
 -- Where no row has a key: as the database compares keys, and after rows with it went.
-use Rattle.std.proofs.Common.{◌≡◌, ◌≤◌, ◌<◌, ◌&&◌, ◌||◌, ◌++◌, ℕ, zero, suc, ℤ, Bool, true, false, List, [], ◌∷◌, Some, length, take, get_or, map, Less, Equal, Ordering, refl, sym, ◌∙◌, ap, ap₂, subst, inl, inr, arith}
+use Rattle.std.proofs.Common.{◌≡◌, ◌<◌, ◌&&◌, ◌||◌, ◌++◌, ℕ, zero, suc, ℤ, Bool, true, false, List, [], ◌∷◌, length, take, get_or, map, Less, Ordering, refl, sym, ◌∙◌, ap, ap₂, subst, inl, inr, arith}
 use Rattle.std.specs.Prelude.{None, drop, filter, not}
-use Rattle.std.specs.Cmp.Lexicographic.{slice_cmp}
 use Rattle.std.specs.List.{AllByRecursion, list_any}
 use Rattle.std.specs.List.Sorted.{IsStrictlySortedBy}
-use Rattle.std.specs.Ordering.{is_eq, nat_cmp}
+use Rattle.std.specs.Ordering.{is_eq}
 use Rattle.std.proofs.Math.Bool.{and-true}
 use Rattle.std.proofs.lemmas.Bool.{and_parts, both_ways, false_from_ne_true, false≢true, not-true}
 use Rattle.std.proofs.lemmas.List.{append-nil}
 use Rattle.holddata.specs.declared.key.HoldKey.{HoldKey}
-use Rattle.mcs_reader.specs.Id.{IsId, text_of}
-use Rattle.catalogue.specs.Conditional.{CondsAscend, cond_cmp}
-use Rattle.catalogue.specs.Ids.{Ascend, id_cmp}
-use Rattle.catalogue.specs.declared.conditional.CondNeed.{CondNeed}
-use Rattle.catalogue.proofs.IdFacts.{one_id}
-use Rattle.zone_lists.specs.ZoneList.{RowsAscend, row_order}
-use Rattle.zone_lists.specs.declared.zones.ZoneRow.{ZoneRow}
+use Rattle.mcs_reader.specs.Id.{IsId}
 use Rattle.sqlite.specs.Effect.{Database}
-use Rattle.sqlite.specs.Order.{Row, column}
+use Rattle.sqlite.specs.Order.{Row}
 use Rattle.sqlite.specs.Edit.{next_rowid}
 use Rattle.sqlite.specs.Tree.{Trees, put_row}
-use Rattle.sqlite.specs.declared.types.Value.{Value}
 use Rattle.sqlite.specs.declared.types.Value.TheVariants.{Int}
 use Rattle.sqlite_rules.specs.Keys.{are_unique}
 use Rattle.sqlite_rules.specs.Lists.{Has}
@@ -31,15 +23,13 @@ use Rattle.sqlite_trees.proofs.ListLemmas.{all_weaker}
 use Rattle.sqlite_trees.specs.Tree.{with_tree}
 use Rattle.sqlite_value.specs.Keys.{first_key, plain}
 use Rattle.sql_texts.specs.Found.{passes}
-use Rattle.sql_texts.specs.Reads.{is_given}
 use Rattle.sql_texts.specs.Schema as schema
 use Rattle.sql_texts.specs.Schema.{bureau}
 use Rattle.sql_tables.specs.Changes.{is_under, replaced}
 use Rattle.sql_tables.specs.InTrees.{columns_of}
-use Rattle.sql_tables.specs.Rows.{cond_row, sup_row, zone_row}
-use Rattle.sql_tables.specs.Stored.{is_named, is_of, is_of_both}
+use Rattle.sql_tables.specs.Rows.{sup_row}
+use Rattle.sql_tables.specs.Stored.{is_of, is_of_both}
 use Rattle.sql_tables.specs.Values.{hold_kind_value, id_value}
-use Rattle.sql_tables.proofs.ValueFacts.{named_value}
 use Rattle.sql_state.specs.Writing.{IsKnown}
 use Rattle.sql_state.proofs.TextFacts.{text_given}
 use Rattle.sql_writes.specs.Parts.{is_of_three}
@@ -88,18 +78,18 @@ module _ (places : List ℕ) (test : Row → Bool) (n : ℤ) (values : Row) (row
   none_agree_so alike none = none_agrees (every (λ other. agree plain places other places (Int n ∷ values) ≡ test (drop 1 other)) alike rows) none
 
 -- what a record supersedes, among any rows of its table
-pub unique_sup_in : (db : Trees) (rows : List Row) (id member : List ℕ) → IsId id → IsId member → list_any (is_of_both id member) (columns_of rows) ≡ false
+pub unique_sup : (db : Trees) (rows : List Row) (id member : List ℕ) → IsId id → IsId member → list_any (is_of_both id member) (columns_of rows) ≡ false
     → are_unique bureau.indexes (with_tree db 8 (put_row (Int (next_rowid rows) ∷ sup_row id member) rows)) schema.sysmod_sup ((Int (next_rowid rows) ∷ sup_row id member) ∷ []) ≡ true
-unique_sup_in db rows id member is is_member none =
+unique_sup db rows id member is is_member none =
     ap (λ b. not (b || false) && true)
     (unclashed (1 ∷ 2 ∷ []) rows (next_rowid rows) (sup_row id member)
     (none_agree_so (1 ∷ 2 ∷ []) (is_of_both id member) (next_rowid rows) (sup_row id member) rows (λ other. agree_two (next_rowid rows) other id member [] is is_member) none))
 
 -- a row of a zone, among any rows of its table
-pub unique_zone_row_in : (db : Trees) (rows : List Row) (client zone sysmod : List ℕ) (rest : Row) → IsId client → IsId zone → IsId sysmod → list_any (is_of_three client zone sysmod) (columns_of rows) ≡ false
+pub unique_zone_row : (db : Trees) (rows : List Row) (client zone sysmod : List ℕ) (rest : Row) → IsId client → IsId zone → IsId sysmod → list_any (is_of_three client zone sysmod) (columns_of rows) ≡ false
     → are_unique bureau.indexes (with_tree db 15 (put_row (Int (next_rowid rows) ∷ id_value client ∷ id_value zone ∷ id_value sysmod ∷ rest) rows)) schema.zone_row
     ((Int (next_rowid rows) ∷ id_value client ∷ id_value zone ∷ id_value sysmod ∷ rest) ∷ []) ≡ true
-unique_zone_row_in db rows client zone sysmod rest is is_zone is_sysmod none =
+unique_zone_row db rows client zone sysmod rest is is_zone is_sysmod none =
     ap (λ b. not (b || false) && true)
     (unclashed (1 ∷ 2 ∷ 3 ∷ []) rows (next_rowid rows) (id_value client ∷ id_value zone ∷ id_value sysmod ∷ rest)
     (none_agree_so (1 ∷ 2 ∷ 3 ∷ []) (is_of_three client zone sysmod) (next_rowid rows) (id_value client ∷ id_value zone ∷ id_value sysmod ∷ rest) rows
@@ -132,10 +122,6 @@ module _ (database : Database) (known : IsKnown database) where
       (unclashed (1 ∷ []) (db 17) (next_rowid (db 17)) (id_value client ∷ rest)
       (none_agree_so (1 ∷ []) (is_of client) (next_rowid (db 17)) (id_value client ∷ rest) (db 17) (λ other. agree_one (next_rowid (db 17)) other client rest is) none))
 
-  pub unique_sup : (id member : List ℕ) → IsId id → IsId member → list_any (is_of_both id member) (columns_of (db 8)) ≡ false
-      → are_unique bureau.indexes (with_tree db 8 (put_row (Int (next_rowid (db 8)) ∷ sup_row id member) (db 8))) schema.sysmod_sup ((Int (next_rowid (db 8)) ∷ sup_row id member) ∷ []) ≡ true
-  unique_sup id member is is_member none = unique_sup_in db (db 8) id member is is_member none
-
   pub unique_head : (client zone : List ℕ) (rest : Row) → IsId client → IsId zone → list_any (is_of_both client zone) (columns_of (db 13)) ≡ false
       → are_unique bureau.indexes (with_tree db 13 (put_row (Int (next_rowid (db 13)) ∷ id_value client ∷ id_value zone ∷ rest) (db 13))) schema.zone_head
       ((Int (next_rowid (db 13)) ∷ id_value client ∷ id_value zone ∷ rest) ∷ []) ≡ true
@@ -143,11 +129,6 @@ module _ (database : Database) (known : IsKnown database) where
       ap (λ b. not (b || false) && true)
       (unclashed (1 ∷ 2 ∷ []) (db 13) (next_rowid (db 13)) (id_value client ∷ id_value zone ∷ rest)
       (none_agree_so (1 ∷ 2 ∷ []) (is_of_both client zone) (next_rowid (db 13)) (id_value client ∷ id_value zone ∷ rest) (db 13) (λ other. agree_two (next_rowid (db 13)) other client zone rest is is_zone) none))
-
-  pub unique_zone_row : (client zone sysmod : List ℕ) (rest : Row) → IsId client → IsId zone → IsId sysmod → list_any (is_of_three client zone sysmod) (columns_of (db 15)) ≡ false
-      → are_unique bureau.indexes (with_tree db 15 (put_row (Int (next_rowid (db 15)) ∷ id_value client ∷ id_value zone ∷ id_value sysmod ∷ rest) (db 15))) schema.zone_row
-      ((Int (next_rowid (db 15)) ∷ id_value client ∷ id_value zone ∷ id_value sysmod ∷ rest) ∷ []) ≡ true
-  unique_zone_row client zone sysmod rest is is_zone is_sysmod none = unique_zone_row_in db (db 15) client zone sysmod rest is is_zone is_sysmod none
 
   pub unique_cond : (id fmid need : List ℕ) → IsId id → IsId fmid → IsId need → list_any (is_of_three id fmid need) (columns_of (db 19)) ≡ false
       → are_unique bureau.indexes (with_tree db 19 (put_row (Int (next_rowid (db 19)) ∷ id_value id ∷ id_value fmid ∷ id_value need ∷ []) (db 19))) schema.sysmod_cond

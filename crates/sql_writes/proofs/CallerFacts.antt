@@ -3,18 +3,16 @@ use Rattle.std.proofs.Common.{◌≡◌, ◌≤◌, ◌+◌, ◌+ℤ◌, ◌&&�
 use Rattle.std.specs.Prelude.{◌^◌, fold, nat_lt, not, slice_get}
 use Rattle.std.specs.List.{AllByRecursion, list_any}
 use Rattle.std.specs.Float.{NotNan}
-use Rattle.std.specs.Ordering.{is_eq, is_ne}
+use Rattle.std.specs.Ordering.{is_eq}
 use Rattle.std.specs.Str.{bytes_eq}
 use Rattle.std.proofs.lemmas.Bool.{false_from_ne_true, false≢true, lt-ltb}
-use Rattle.std.proofs.lemmas.Cmp.{tied_itself}
-use Rattle.std.proofs.lemmas.Int.{ints}
 use Rattle.std.proofs.lemmas.List.{length-append}
 use Rattle.std.proofs.lemmas.List.Elements.{All-from_recursion}
 use Rattle.std.proofs.lemmas.Slice.Eq.{bytes_eq-Decides}
 use Rattle.sqlite.specs.Cast.{cast_row}
 use Rattle.sqlite.specs.Edit.{id_in, next_rowid, numbered}
 use Rattle.sqlite_sql.specs.Ops.{fits_i64}
-use Rattle.sqlite.specs.Ops.{binary, from_truth, is_true}
+use Rattle.sqlite.specs.Ops.{binary, is_true}
 use Rattle.sqlite.specs.Order.{Row, column, value_cmp}
 use Rattle.sqlite.specs.Tree.{Trees, put_row, rowid}
 use Rattle.sqlite.specs.declared.types.Value.{Value}
@@ -36,7 +34,6 @@ use Rattle.sqlite_sql.specs.declared.ops.BinaryOp.TheVariants.{Compare}
 use Rattle.sqlite_sql.specs.declared.ops.CompareOp.TheVariants.{Eq}
 use Rattle.sqlite_trees.specs.Tree.{with_tree}
 use Rattle.sqlite_trees.specs.View.{IsStorable, IsStorableRow}
-use Rattle.sqlite_value.proofs.OrderLemmas.{value_cmp_total}
 use Rattle.sqlite_value.specs.Keys.{first_key, plain}
 use Rattle.sqlite_value.specs.Order.{number}
 use Rattle.sql_texts.proofs.AnswerFacts.{same_text}
@@ -51,6 +48,8 @@ use Rattle.sql_writes.proofs.RowidFacts.{all_below, put_next}
 use Rattle.sql_writes.proofs.RefusalFacts.{both}
 use Rattle.sql_writes.proofs.RuleFacts.{IsSound, plain_text, untyped, whole_number}
 use Rattle.sql_writes.proofs.StatementFacts.{cast_null}
+use Rattle.sql_writes.proofs.SoundFacts.{itself}
+use Rattle.sql_writes.proofs.NumberFacts.{one_more}
 
 -- ---- the rows of callers
 
@@ -69,19 +68,12 @@ rows_more first (one ∷ callers) caller =
     ap (λ rows. (Int (pos first) ∷ caller_row one) ∷ rows)
     (ap (λ n. caller_rows (suc first) callers ++ (Int (pos n) ∷ caller_row caller) ∷ []) (omega arith) ∙ rows_more (suc first) callers caller)
 
-one_more : (n : ℕ) → pos n +ℤ pos 1 ≡ pos (suc n)
-one_more n = grind (arith, ints)
-
 pub next_from : (first : ℕ) (callers : List CallerRow) → fold (λ _ row. id_in (rowid row) +ℤ pos 1) (pos first) (caller_rows first callers) ≡ pos (first + length callers)
 next_from first [] = ap pos (omega arith)
 next_from first (caller ∷ callers) =
     ap (λ n. fold (λ _ row. id_in (rowid row) +ℤ pos 1) n (caller_rows (suc first) callers)) (one_more first) ∙ next_from (suc first) callers ∙ ap pos (omega arith)
 
 -- ---- no two have one key
-
-itself : (n : ℤ) → differ (Int n) (Int n) ≡ false
-unfolding binary
-itself n = ap (λ o. is_true (from_truth (Some (is_ne o)))) (tied_itself value_cmp_total (Int n))
 
 module _ (callers : List CallerRow) (at : ℕ) (text : CallerRow → List ℕ) (column_is : (n : ℤ) (caller : CallerRow) → column (Int n ∷ caller_row caller) at ≡ Text (text caller)) (apart : AreApart text callers) where
   no_pair : (i j : ℕ) (one other : CallerRow) → slice_get callers i ≡ Some one → slice_get callers j ≡ Some other

@@ -4,7 +4,6 @@ use Rattle.holddata.specs.HoldKey.{kind_order}
 use Rattle.holddata.specs.declared.hold.Hold.{Hold}
 use Rattle.catalogue.specs.declared.conditional.CondNeed.{CondNeed}
 use Rattle.catalogue.specs.declared.sysmod.Sysmod.{Sysmod}
-use Rattle.zone_lists.specs.declared.zones.ZoneRow.{ZoneRow}
 use Rattle.bureau_store.specs.Tables.{LastChange}
 use Rattle.bureau_store.specs.declared.caller.CallerRow.{CallerRow}
 use Rattle.sqlite.specs.Cast.{cast}
@@ -19,11 +18,11 @@ use Rattle.sql_texts.specs.Meaning.{Means}
 use Rattle.sql_texts.specs.Schema as schema
 use Rattle.sql_texts.specs.Schema.{bureau}
 use Rattle.sql_texts.specs.Writes.{insert_given}
-use Rattle.sql_tables.specs.Rows.{caller_row, change_row, cond_row, head_row, hold_row, received_row, sup_row, sysmod_row, zone_row}
-use Rattle.sql_tables.specs.Values.{date_value, hold_kind_value, id_value, ids_value, optional_id_value, state_order, state_value, sysmod_kind_order, sysmod_kind_value, texts_value}
+use Rattle.sql_tables.specs.Rows.{caller_row, change_row, cond_row, head_row, hold_row, received_row, sysmod_row}
+use Rattle.sql_tables.specs.Values.{date_value, hold_kind_value, id_value, ids_value, optional_id_value, sysmod_kind_order, sysmod_kind_value, texts_value}
 use Rattle.sql_state.specs.Ours.{held_by}
 use Rattle.sql_state.specs.Writing.{Changes}
-use Rattle.sql_writes.specs.Parts.{with_callers, with_conds, with_head, with_hold, with_last, with_received, with_rows, with_sups, with_sysmod}
+use Rattle.sql_writes.specs.Parts.{with_callers, with_conds, with_head, with_hold, with_last, with_received, with_sysmod}
 use Rattle.sql_writes.specs.Running.{Ran}
 use Rattle.sql_writes.proofs.ChangeFacts.{changed_by}
 use Rattle.sql_writes.proofs.StatementFacts.{cast_int, cast_null, inserts}
@@ -86,18 +85,6 @@ module _ {A F : Type 0} (old new : State) (text : List ℕ) (result : Result A F
         set.others.0 (λ e. omega (arith, e)),
       ))
 
-  pub sups_come : (id : List ℕ) (member : List ℕ) (a b : ValueRef) → owned a ≡ id_value id → owned b ≡ id_value member
-      → (HasCleanDisk old → Means bureau text (insert_given 4 2) 2) → Ran text (bound (a ∷ b ∷ [])) old new result → Changes old new result (with_sups id (member ∷ []))
-  sups_come id member a b at_a at_b means ran =
-      let rows = old.now.trees 8 in
-      let values = sup_row id member in
-      changed_by old new text values result (with_sups id (member ∷ [])) (subst (λ row. Ran text row old new result) (λ i. bound_value (at_a i) ∷ bound_value (at_b i) ∷ []) ran) (λ clean count known executes.
-      let set = inserts text 4 schema.sysmod_sup 2 values values old new count (means clean) refl refl refl (λ i. cast_null i ∷ sup_row id member) known.schema known.numbered.1.1.1.1.0 executes in (
-        known_after 8 _ old.now new.now known.numbered set,
-        held_set 8 _ old.now new.now set ∙ ap (λ all. record (held_by old.now) { sups = all }) (come rows (Int (next_rowid rows) ∷ values)),
-        set.others.0 (λ e. omega (arith, e)),
-      ))
-
   pub conds_come : (id : List ℕ) (cond : CondNeed) (a b c : ValueRef) → owned a ≡ id_value id → owned b ≡ id_value cond.fmid → owned c ≡ id_value cond.need
       → (HasCleanDisk old → Means bureau text (insert_given 9 3) 3) → Ran text (bound (a ∷ b ∷ c ∷ [])) old new result → Changes old new result (with_conds id (cond ∷ []))
   conds_come id cond a b c at_a at_b at_c means ran =
@@ -131,18 +118,6 @@ module _ {A F : Type 0} (old new : State) (text : List ℕ) (result : Result A F
       let set = inserts text 6 schema.zone_head 3 values values old new count (means clean) refl refl refl (λ i. cast_null i ∷ head_row client zone patterns) known.schema known.numbered.1.1.1.1.1.1.0 executes in (
         known_after 13 _ old.now new.now known.numbered set,
         held_set 13 _ old.now new.now set ∙ ap (λ all. record (held_by old.now) { heads = all }) (come rows (Int (next_rowid rows) ∷ values)),
-        set.others.0 (λ e. omega (arith, e)),
-      ))
-
-  pub rows_come : (client : List ℕ) (zone : List ℕ) (row : ZoneRow) (a b c d : ValueRef) → owned a ≡ id_value client → owned b ≡ id_value zone → owned c ≡ id_value row.sysmod → owned d ≡ state_value row.state
-      → (HasCleanDisk old → Means bureau text (insert_given 7 4) 4) → Ran text (bound (a ∷ b ∷ c ∷ d ∷ [])) old new result → Changes old new result (with_rows client zone (row ∷ []))
-  rows_come client zone row a b c d at_a at_b at_c at_d means ran =
-      let rows = old.now.trees 15 in
-      let values = zone_row client zone row in
-      changed_by old new text values result (with_rows client zone (row ∷ [])) (subst (λ row. Ran text row old new result) (λ i. bound_value (at_a i) ∷ bound_value (at_b i) ∷ bound_value (at_c i) ∷ bound_value (at_d i) ∷ []) ran) (λ clean count known executes.
-      let set = inserts text 7 schema.zone_row 4 values values old new count (means clean) refl refl refl (λ i. cast_null i ∷ id_value client ∷ id_value zone ∷ id_value row.sysmod ∷ cast_int (pos (state_order row.state)) i ∷ []) known.schema known.numbered.1.1.1.1.1.1.1.0 executes in (
-        known_after 15 _ old.now new.now known.numbered set,
-        held_set 15 _ old.now new.now set ∙ ap (λ all. record (held_by old.now) { rows = all }) (come rows (Int (next_rowid rows) ∷ values)),
         set.others.0 (λ e. omega (arith, e)),
       ))
 

@@ -1,29 +1,23 @@
 -- The rows that the bureau writes break no rule that speaks of one row, and can be stored.
-use Rattle.std.proofs.Common.{◌≡◌, ◌≤◌, ◌<◌, ◌+◌, ◌*◌, ◌^◌, ◌&&◌, ℕ, ℤ, zero, suc, pos, negsuc, Bool, true, false, List, [], ◌∷◌, Option, None, Some, length, refl, sym, ◌∙◌, ap, subst, inl, inr, arith, int_cmp}
-use Rattle.std.specs.Prelude.{map, not}
+use Rattle.std.proofs.Common.{◌≡◌, ◌≤◌, ◌<◌, ◌+◌, ◌&&◌, ℕ, ℤ, zero, suc, pos, Bool, true, false, List, [], ◌∷◌, Some, length, refl, sym, ◌∙◌, ap, subst, inl, inr, arith, int_cmp}
+use Rattle.std.specs.Prelude.{not}
 use Rattle.std.specs.Float.{NotNan}
-use Rattle.std.specs.List.{AllByRecursion}
-use Rattle.std.specs.Ordering.{is_ge, is_gt, is_le}
+use Rattle.std.specs.Ordering.{is_gt}
 use lib.Ieee.{is_nan}
-use Rattle.std.proofs.Math.Bool.{and-true}
 use Rattle.std.proofs.lemmas.Bool.Decides.{nat_tests}
 use Rattle.std.proofs.lemmas.Int.{ints}
 use Rattle.std.proofs.lemmas.List.Elements.{All-from_recursion}
-use Rattle.holddata.specs.HoldKey.{kind_order}
-use Rattle.holddata.specs.declared.key.Kind.{Kind}
-use Rattle.holddata.specs.declared.key.Kind.TheVariants.{ErrorHold, FixcatHold, SystemHold, UserHold}
 use Rattle.sqlite.specs.Collation.TheVariants.{Binary}
 use Rattle.sqlite.specs.Ops.{binary, from_truth}
-use Rattle.sqlite.specs.Order.{Row, value_cmp}
-use Rattle.sqlite.specs.declared.types.Value.{Value}
-use Rattle.sqlite.specs.declared.types.Value.TheVariants.{Blob, Int, Null, Text}
+use Rattle.sqlite.specs.Order.{value_cmp}
+use Rattle.sqlite.specs.declared.types.Value.TheVariants.{Blob, Int, Text}
 use Rattle.sqlite_schema.specs.Rules.{index_reals, table_reals}
 use Rattle.sqlite_schema.specs.declared.schema.Index.{Index}
 use Rattle.sqlite_sql.specs.Catalog.{entry_of}
 use Rattle.sqlite_sql.specs.Ops.{is_false}
 use Rattle.sqlite_sql.specs.declared.ops.BinaryOp.TheVariants.{And, Compare}
 use Rattle.sqlite_sql.specs.declared.ops.CompareOp.TheVariants.{Ge, Gt, Le}
-use Rattle.sqlite_trees.specs.View.{IsStorable, IsStorableRow}
+use Rattle.sqlite_trees.specs.View.{IsStorable}
 use Rattle.sqlite_value.proofs.OrderLemmas.{value_cmp-Int}
 use Rattle.sqlite_value.specs.Order.{number}
 use Rattle.sql_texts.specs.Schema as schema

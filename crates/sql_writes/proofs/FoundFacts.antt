@@ -1,6 +1,7 @@
 -- A caller comes after those before it, in tables that were made with those.
 use Rattle.std.proofs.Common.{◌≡◌, ◌≤◌, ◌<◌, ◌+◌, ◌++◌, ℕ, zero, suc, List, [], ◌∷◌, Some, Result, Ok, length, take, get_or, refl, sym, ◌∙◌, ap, subst, arith}
 use Rattle.std.specs.Prelude.{map, slice_get}
+use Rattle.std.specs.List.{range_with_len}
 use Rattle.std.proofs.lemmas.List.{map-append, take_more}
 use Rattle.bureau_store.specs.declared.caller.CallerRow.{CallerRow}
 use Rattle.sqlite.specs.Edit.{next_rowid}
@@ -13,7 +14,7 @@ use Rattle.sqlite_schema.specs.Rules.{Keeps}
 use Rattle.sqlite_schema.specs.declared.schema.Constraint.TheVariants.{Unique}
 use Rattle.sqlite_value.specs.Value.{owned}
 use Rattle.sqlite_value.specs.declared.value.ValueRef.{ValueRef}
-use Rattle.sql_texts.specs.Meaning.{Means}
+use Rattle.sql_texts.specs.Meaning.{Means, parameter}
 use Rattle.sql_texts.specs.Schema as schema
 use Rattle.sql_texts.specs.Schema.{bureau}
 use Rattle.sql_texts.specs.Writes.{insert_given}
@@ -54,7 +55,7 @@ module _ (text : List ℕ) (old new : State) (result : Result (Unit {0}) Error) 
 
   pub caller_excused : AreFit (before ++ row ∷ []) → FailsInside text (bound (a ∷ b ∷ [])) old new result → IsExcused old new result (IsOpened before)
   caller_excused fit fails =
-      excused_by text old new result (IsOpened before) bureau (insert_given 1 2) 2 (caller_row row) (λ database from. from.known.schema) means.statement refl refl
+      excused_by text old new result (IsOpened before) bureau (insert_given 1 2) (map parameter (range_with_len 1 2)) (caller_row row) (λ database from. from.known.schema) means.statement refl refl
       (λ from stop h. insert_stops old text 1 schema.caller (lit Null ∷ col 0 0 ∷ col 0 1 ∷ []) 3 (caller_row row) ((Null ∷ caller_row row) ∷ []) from.known.schema refl refl refl refl
       (caller_sound old.now.trees before row (subst (λ s. Keeps Unique s old.now.trees) from.known.schema (from.known.sound.obeys.rules Unique)) from.callers_are from.known.numbered.1.0 fit) stop h)
       (subst (λ params. FailsInside text params old new result) given fails)

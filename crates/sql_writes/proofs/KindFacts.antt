@@ -22,6 +22,7 @@ use Rattle.sqlite_value.proofs.OrderLemmas.{value_cmp-Int}
 use Rattle.sql_texts.specs.Found.{passes}
 use Rattle.sql_texts.specs.Reads.{is_given}
 use Rattle.sql_texts.specs.Schema as schema
+use Rattle.sql_texts.proofs.AnswerFacts.{truth_again}
 use Rattle.sql_tables.proofs.TreeFacts.{column_after}
 use Rattle.sql_tables.specs.Changes.{is_kind, is_under}
 use Rattle.sql_tables.specs.Values.{hold_kind_in, hold_kind_value, id_value}
@@ -79,13 +80,9 @@ whole_kind : (kind : Kind) (n : ℤ) → is_eq (int_cmp n (pos (kind_order kind)
 whole_kind kind (pos m) = one_number m (kind_order kind) ∙ number_kind kind m
 whole_kind kind (negsuc m) = refl
 
-back : (b : Bool) → is_true (from_truth (Some b)) ≡ b
-back true = refl
-back false = refl
-
 number_compared : (kind : Kind) (n : ℤ) → is_true (binary (Compare Eq Binary) (Int n) (hold_kind_value kind)) ≡ is_kind kind (Int n)
 unfolding binary
-number_compared kind n = ap (λ o. is_true (from_truth (Some (is_eq o)))) (value_cmp-Int n (pos (kind_order kind))) ∙ back _ ∙ whole_kind kind n
+number_compared kind n = ap (λ o. is_true (from_truth (Some (is_eq o)))) (value_cmp-Int n (pos (kind_order kind))) ∙ truth_again _ ∙ whole_kind kind n
 
 kind_compared : (kind : Kind) (value : Value) → IsNoReal value → is_true (binary (Compare Eq Binary) value (hold_kind_value kind)) ≡ is_kind kind value
 unfolding binary value_cmp

@@ -1,5 +1,5 @@
 -- Why the statement is refused that deletes rows, and that no row comes twice into a table by a list in order.
-use Rattle.std.proofs.Common.{◌≡◌, ◌<◌, ◌&&◌, ◌++◌, ℕ, zero, suc, false, true, List, [], ◌∷◌, Equal, Greater, Less, Ordering, Result, length, take, get_or, map, refl, sym, ◌∙◌, ap, ap₂, subst, inl, inr, arith}
+use Rattle.std.proofs.Common.{◌≡◌, ◌<◌, ◌&&◌, ℕ, zero, suc, false, true, List, [], ◌∷◌, Less, Ordering, Result, length, take, get_or, map, refl, sym, ◌∙◌, ap, subst, inl, inr}
 use Rattle.std.specs.List.{AllByRecursion, list_any}
 use Rattle.std.specs.List.Sorted.{IsStrictlySortedBy}
 use Rattle.std.specs.Ordering.{is_eq, ordering_then}
@@ -21,6 +21,7 @@ use Rattle.sqlite_rules.specs.Lists.{Has}
 use Rattle.sqlite_rules.proofs.ListLemmas.{all_has}
 use Rattle.sqlite_value.specs.Value.{owned}
 use Rattle.sqlite_value.specs.declared.value.ValueRef.{ValueRef}
+use Rattle.lemmas.proofs.TestFacts.{equal_is}
 use Rattle.sql_texts.specs.Meaning.{Means}
 use Rattle.sql_texts.specs.Reads.{is_given}
 use Rattle.sql_texts.specs.Schema as schema
@@ -30,7 +31,7 @@ use Rattle.sql_texts.specs.declared.write.TableById.{TableById}
 use Rattle.sql_texts.specs.declared.write.TableById.TheVariants.{LastChange, ReceivedList, Sysmod, SysmodCond, SysmodSup}
 use Rattle.sql_texts.specs.declared.write.TableByZone.{TableByZone}
 use Rattle.sql_texts.specs.declared.write.TableByZone.TheVariants.{ZoneHead, ZoneRow as OfZoneRow}
-use Rattle.sql_tables.specs.Changes.{is_under, replaced}
+use Rattle.sql_tables.specs.Changes.{is_under}
 use Rattle.sql_tables.specs.Fit.{AreIds, AreZoneRows, IsCond}
 use Rattle.sql_tables.specs.Rows.{cond_row, sup_row, zone_row}
 use Rattle.sql_tables.specs.Stored.{Stored, is_named, is_of, is_of_both}
@@ -124,11 +125,6 @@ taken_has (suc n) (y ∷ ys) x (inr later) = inr (taken_has n ys x later)
 same_order : (a b : List ℕ) → a ≡ b → is_eq (id_cmp a b) ≡ true
 same_order a b same = is_eq-slice_cmp a b ∙ (bytes_eq-Decides a b).1 same
 
-tied : (o : Ordering) → is_eq o ≡ true → o ≡ Equal
-tied Less h = absurd (cc)
-tied Equal h = refl
-tied Greater h = absurd (cc)
-
 named : (id other : List ℕ) → IsId id → is_named other (id_value id) ≡ true → id ≡ other
 named id other is h = one_id id other (sym (named_value id other is) ∙ h)
 
@@ -150,7 +146,7 @@ next_cond id conds i cond ids up low at stored =
     let same_fmid = named other.fmid cond.fmid is.0 parts.0 in
     let same_need = named other.need cond.need is.1 parts.1 in
     none_before cond_cmp conds up i cond low at other here
-    (ap (λ o. is_eq (ordering_then o (id_cmp other.need cond.need))) (tied _ (same_order other.fmid cond.fmid same_fmid)) ∙ same_order other.need cond.need same_need))
+    (ap (λ o. is_eq (ordering_then o (id_cmp other.need cond.need))) (equal_is _ (same_order other.fmid cond.fmid same_fmid)) ∙ same_order other.need cond.need same_need))
 
 -- rows ascend by what their order is of
 ascend_so : {X Y : Type 0} (order : Y → Y → Ordering) (of : X → Y) (xs : List X) → IsStrictlySortedBy order (map of xs) → IsStrictlySortedBy (λ a b. order (of a) (of b)) xs

@@ -1,12 +1,14 @@
 pub mod AbsentFacts
+pub mod AlikeFacts
 pub mod AskFacts
+pub mod BoundFacts
 pub mod CallerFacts
 pub mod ChangeFacts
 pub mod ComeFacts
 pub mod DefineFacts
+pub mod FindFacts
 pub mod FittingFacts
 pub mod FoundFacts
-pub mod FourFacts
 pub mod ExcuseFacts
 pub mod GoneFacts
 pub mod KindFacts
@@ -27,5 +29,6 @@ pub mod SoundFacts
 pub mod StatementFacts
 pub mod StepFacts
 pub mod StoredFacts
+pub mod SupFacts
 pub mod TakeFacts
-pub mod ThreeFacts
+pub mod ZoneRowFacts

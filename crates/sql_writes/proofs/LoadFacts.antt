@@ -5,12 +5,12 @@ use Rattle.std.proofs.lemmas.List.Sums.{fold_push}
 use Rattle.std.proofs.lemmas.List.{append-nil, map-append, take_all, take_more}
 use Rattle.sqlite.specs.Order.{Row}
 use Rattle.sqlite.specs.State.{State}
-use Rattle.sql_tables.specs.Rows.{caller_row, cond_row, sup_row, zone_row}
+use Rattle.sql_tables.specs.Rows.{caller_row, cond_row}
 use Rattle.sql_tables.specs.Changes as changes
 use Rattle.sql_tables.specs.Changes.{published, replaced, without_caller}
-use Rattle.sql_tables.specs.Stored.{Stored, is_of, is_of_both}
+use Rattle.sql_tables.specs.Stored.{Stored, is_of}
 use Rattle.sql_state.specs.Writing.{Changes}
-use Rattle.sql_writes.specs.Parts.{with_callers, with_conds, with_rows, with_sups, without_callers, without_conds, without_rows, without_sups}
+use Rattle.sql_writes.specs.Parts.{with_callers, with_conds, without_callers, without_conds}
 use Rattle.sql_writes.proofs.ChangeFacts.{alike, changes_then}
 
 -- the same success, told otherwise
@@ -41,18 +41,6 @@ module _ {X : Type 0} (first : Stored → Stored) (step : X → Stored → Store
 -- rows that come after those of a table
 pub in_turn : {X : Type 0} (make : X → Row) (rows : List Row) (xs : List X) (x : X) → (rows ++ map make xs) ++ map make (x ∷ []) ≡ rows ++ map make (xs ++ x ∷ [])
 in_turn make rows xs x = append_assoc rows (map make xs) (map make (x ∷ [])) ∙ ap (λ ys. rows ++ ys) (sym (map-append make xs (x ∷ [])))
-
-pub rows_turn : (client zone : List ℕ) → ComesInTurn (without_rows client zone) (λ row. with_rows client zone (row ∷ [])) (λ rows stored. with_rows client zone rows (without_rows client zone stored))
-rows_turn client zone = record {
-  none = λ stored. ap (λ rows. record stored { rows = rows }) (sym (append-nil (replaced (is_of_both client zone) [] stored.rows)));
-  more = λ xs x stored. ap (λ rows. record stored { rows = rows }) (in_turn (zone_row client zone) (replaced (is_of_both client zone) [] stored.rows) xs x);
-}
-
-pub sups_turn : (id : List ℕ) → ComesInTurn (without_sups id) (λ member. with_sups id (member ∷ [])) (λ members stored. with_sups id members (without_sups id stored))
-sups_turn id = record {
-  none = λ stored. ap (λ rows. record stored { sups = rows }) (sym (append-nil (replaced (is_of id) [] stored.sups)));
-  more = λ xs x stored. ap (λ rows. record stored { sups = rows }) (in_turn (sup_row id) (replaced (is_of id) [] stored.sups) xs x);
-}
 
 pub conds_turn : (id : List ℕ) → ComesInTurn (without_conds id) (λ cond. with_conds id (cond ∷ [])) (λ conds stored. with_conds id conds (without_conds id stored))
 conds_turn id = record {

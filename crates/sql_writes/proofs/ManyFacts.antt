@@ -1,7 +1,7 @@
 -- What a statement that inserts several rows makes of its table, and why it is refused.
 use Rattle.std.proofs.Common.{◌≡◌, ◌≢◌, ◌<◌, ◌+◌, ◌^◌, ◌++◌, ◌&&◌, ◌/◌, ℕ, ℤ, Bool, true, false, List, [], ◌∷◌, Option, None, Some, Result, Ok, Err, IsTrue, OnOk, length, map, suc, refl, sym, ◌∙◌, ap, ap₂, subst, inl, inr, arith, append_assoc}
 use Rattle.std.specs.Prelude.{◌==◌, IsSome, cond, drop, nat_lt, not, slice_get}
-use Rattle.std.specs.List.{AllByRecursion, list_all, range_with_len}
+use Rattle.std.specs.List.{AllByRecursion, list_all}
 use Rattle.std.proofs.lemmas.Bool.{eq-eqb, eqb-true, lt-ltb}
 use Rattle.std.proofs.lemmas.List.{append-nil}
 use Rattle.sqlite.specs.Cast.{cast_row}
@@ -43,7 +43,6 @@ use Rattle.sqlite_trees.proofs.TreeLemmas.{IsShaped-put_row}
 use Rattle.sqlite_trees.specs.Tree.{with_tree}
 use Rattle.sqlite_trees.specs.View.{IsStorable, IsStorableRow, is_int}
 use Rattle.sqlite_typing.specs.Types.{accepts_terms}
-use Rattle.sql_texts.specs.Meaning.{Means, parameter}
 use Rattle.sql_texts.specs.Schema.{bureau, indexes, tables}
 use Rattle.sql_tables.specs.InTrees.{columns_of}
 use Rattle.sql_tables.specs.Stored.{Stored}
@@ -52,6 +51,7 @@ use Rattle.sql_state.specs.Ours.{held_by}
 use Rattle.sql_state.specs.Writing.{IsKnown}
 use Rattle.sql_state.proofs.StopFacts.{was_clean}
 use Rattle.sql_writes.specs.Excused.{IsExcused, Takes}
+use Rattle.sql_writes.specs.Many.{MeansBy}
 use Rattle.sql_writes.specs.Room.{AreUpTo, IsRoomy, are_up_to}
 use Rattle.sql_writes.specs.Running.{FailsInside, Ran}
 use Rattle.sql_writes.proofs.ExcuseFacts.{excused_by}
@@ -224,11 +224,11 @@ module _ (table : Table) (listed : Has bureau.tables table) (db : Trees) where
 -- ---- one statement
 
 module _ (text : List ℕ) (old new : State) (table_index : ℕ) (table : Table) (at_index : slice_get tables table_index ≡ Some table) (uncounted : table.is_counted ≡ false)
-    (terms : List Term) (width : ℕ) (parameters : ℕ) (params : Row) (all : List Row)
+    (terms : List Term) (width : ℕ) (names : List (List ℕ)) (params : Row) (all : List Row)
     (source : value_rows (stamped table params) width (length terms / width) terms ≡ unnumbered all)
     (cast_is : map (λ given. cast_row table (drop 0 given)) (unnumbered all) ≡ unnumbered all) where
   -- they come after those of the table
-  pub inserts_all : (count : ℕ) → Means bureau text (Insert table_index (Values terms width)) parameters → old.now.schema ≡ bureau
+  pub inserts_all : (count : ℕ) → MeansBy bureau text (Insert table_index (Values terms width)) names → old.now.schema ≡ bureau
       → IsNumbered (old.now.trees table.tree) → Executes text params old new (Ok count) → IsSet table.tree (grown (old.now.trees table.tree) all) old.now new.now
   inserts_all count means ours ordered h =
       let db = old.now.trees in
@@ -262,17 +262,22 @@ module _ (text : List ℕ) (old new : State) (table_index : ℕ) (table : Table)
         others = subst (λ (every : ℕ → List Row). AllByRecursion (λ t. t.tree ≢ table.tree → every t.tree ≡ db t.tree) tables) (sym (ap (λ (d : Database). d.trees) now ∙ trees)) applied.tables;
       }
 
+-- parameters that make these rows of a table, by the terms of a statement with so many of them
+pub record IsGiven (table : Table) (terms : List Term) (width : ℕ) (names : List (List ℕ)) (params : Row) (all : List Row) : Type 0 where
+  pub counted : length params ≡ length names
+  pub accepted : accepts_terms terms (stamped table params) ≡ true
+  pub source : value_rows (stamped table params) width (length terms / width) terms ≡ unnumbered all
+
 -- why it is refused, and which numbers the table has after it
 module _ (text : List ℕ) (old new : State) (result : Result (Unit {0}) Error) (table_index : ℕ) (table : Table) (at_index : slice_get tables table_index ≡ Some table) (uncounted : table.is_counted ≡ false)
     (numbered_so : (database : Database) → IsKnown database → IsNumbered (database.trees table.tree)) (low_so : (most : ℕ) (trees : Trees) → AreUpTo most trees → are_up_to most (trees table.tree) ≡ true)
     (referred : (adds : Bool) → references_fit bureau table adds false ≡ true) where
-  pub all_take : (terms : List Term) (width parameters : ℕ) (params : Row) (all : List Row) (Fits : Stored → Type 0)
-      → (HasCleanDisk old → Means bureau text (Insert table_index (Values terms width)) parameters) → length params ≡ length (map parameter (range_with_len 1 parameters))
-      → accepts_terms terms (stamped table params) ≡ true → value_rows (stamped table params) width (length terms / width) terms ≡ unnumbered all
+  pub all_take : (terms : List Term) (width : ℕ) (names : List (List ℕ)) (params : Row) (all : List Row) (Fits : Stored → Type 0)
+      → (HasCleanDisk old → MeansBy bureau text (Insert table_index (Values terms width)) names) → IsGiven table terms width names params all
       → AllByRecursion (IsFitting table) all
       → ((database : Database) → IsKnown database → Fits (held_by database) → AreFree table (has_got tables table_index table at_index) database.trees (database.trees table.tree) all)
       → Ran text params old new result → FailsInside text params old new result → Takes old new result (length all) Fits
-  all_take terms width parameters params all Fits means given accepted source fits free ran fails =
+  all_take terms width names params all Fits means given fits free ran fails =
       record { excused = λ most room. excused most room result fails; numbers = done result ran.done }
     where
       listed : Has bureau.tables table
@@ -280,13 +285,13 @@ module _ (text : List ℕ) (old new : State) (result : Result (Unit {0}) Error) 
 
       stops : (most : ℕ) → most + length all < 2 ^ 63 → From most Fits old.now → (stop : Option Error) → Does old.step_limit (mode_of old) params old.now text None (Insert table_index (Values terms width)) (Err stop) → IsSome old.step_limit
       stops most room from stop =
-          insert_stops old text table_index table terms width params (unnumbered all) from.0.0.schema at_index uncounted accepted source
+          insert_stops old text table_index table terms width params (unnumbered all) from.0.0.schema at_index uncounted given.accepted given.source
           (come_soundly table listed old.now.trees all fits referred most (numbered_so old.now from.0.0) (low_so most old.now.trees from.0.1) room (keys_once old.now from.0.0) (free old.now from.0.0 from.1)) stop
 
       excused : (most : ℕ) → most + length all < 2 ^ 63 → (r : Result (Unit {0}) Error) → FailsInside text params old new r → IsExcused old new r (From most Fits)
       excused most room (Ok a) fails = tt
       excused most room (Err e) fails = λ clean inside from.
-          excused_by {A = Unit {0}} text old new (Err e) (From most Fits) bureau (Insert table_index (Values terms width)) parameters params (λ database from. from.0.0.schema) (means (was_clean old new _ ran.survives clean)).statement given refl
+          excused_by {A = Unit {0}} text old new (Err e) (From most Fits) bureau (Insert table_index (Values terms width)) names params (λ database from. from.0.0.schema) (means (was_clean old new _ ran.survives clean)).statement given.counted refl
           (λ from stop h. stops most room from stop h) fails clean inside from
 
       done : (r : Result (Unit {0}) Error) → OnOk r (HasCleanDisk new → IsTrue old.in_transaction → IsTrue new.is_open × IsTrue new.in_transaction × ((count : ℕ) × Executes text params old new (Ok count)))
@@ -295,6 +300,6 @@ module _ (text : List ℕ) (old new : State) (result : Result (Unit {0}) Error) 
       done (Ok a) went = λ clean inside most from.
           let it = (went clean inside).2 in
           let ordered = numbered_so old.now from.0 in
-          let set = inserts_all text old new table_index table at_index uncounted terms width parameters params all source (cast_all table listed old.now.trees all fits) it.0
+          let set = inserts_all text old new table_index table at_index uncounted terms width names params all given.source (cast_all table listed old.now.trees all fits) it.0
           (means (was_clean old new _ ran.survives clean)) from.0.schema ordered it.1 in
           set_up_to (most + length all) table.tree _ old.now new.now set (grown_up_to all most (old.now.trees table.tree) ordered (low_so most old.now.trees from.1)) (raised_up_to most (length all) old.now.trees from.1)

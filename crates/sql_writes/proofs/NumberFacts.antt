@@ -1,8 +1,8 @@
 -- Which numbers rows have, after some go and after one comes.
-use Rattle.std.proofs.Common.{◌≡◌, ◌≢◌, ◌≤◌, ◌<◌, ◌+◌, ◌+ℤ◌, ◌&&◌, ◌==◌, ◌++◌, ℕ, ℤ, pos, negsuc, suc, Bool, true, false, cond, List, [], ◌∷◌, refl, sym, ◌∙◌, ap, subst, inl, inr, arith}
-use Rattle.std.specs.Prelude.{◌^◌, filter, fold, nat_le, not}
-use Rattle.std.specs.List.{AllByRecursion, list_all}
-use Rattle.std.proofs.lemmas.Bool.{and_parts, cases_Bool, eqb-false, eqb-true, false≢true}
+use Rattle.std.proofs.Common.{◌≡◌, ◌≢◌, ◌≤◌, ◌+◌, ◌+ℤ◌, ◌==◌, ◌++◌, ℕ, ℤ, pos, negsuc, suc, Bool, true, false, List, [], ◌∷◌, refl, sym, ◌∙◌, ap, subst, arith}
+use Rattle.std.specs.Prelude.{filter, fold, nat_le}
+use Rattle.std.specs.List.{AllByRecursion}
+use Rattle.std.proofs.lemmas.Bool.{and_parts, eqb-false, eqb-true, false≢true}
 use Rattle.std.proofs.lemmas.Bool.Decides.{nat_tests}
 use Rattle.std.proofs.lemmas.Int.{ints}
 use Rattle.sqlite.specs.Edit.{id_in, next_rowid}
@@ -12,7 +12,6 @@ use Rattle.sqlite.specs.Table.{Table}
 use Rattle.sqlite.specs.Tree.{Trees, rowid}
 use Rattle.sqlite.specs.declared.types.Value.{Value}
 use Rattle.sqlite.specs.declared.types.Value.TheVariants.{Blob, Int, Null, Real, Text}
-use Rattle.sqlite_rules.specs.Lists.{Has}
 use Rattle.sqlite_rules.proofs.ListLemmas.{has_filtered, test_from, test_has, test_push}
 use Rattle.sql_texts.specs.Schema.{tables}
 use Rattle.sql_writes.specs.Room.{AreUpTo, are_up_to, is_up_to}
@@ -46,7 +45,7 @@ still_up_to most test rows low =
 
 -- ---- the number of the next row
 
-one_more : (n : ℕ) → pos n +ℤ pos 1 ≡ pos (suc n)
+pub one_more : (n : ℕ) → pos n +ℤ pos 1 ≡ pos (suc n)
 one_more n = grind (arith, ints)
 
 next_from : (most start : ℕ) (rows : List Row) → start ≤ most + 1 → are_up_to most rows ≡ true

@@ -1,7 +1,6 @@
 -- A statement whose text is right and that no rule of the tables refuses is refused with an excuse.
-use Rattle.std.proofs.Common.{◌≡◌, ◌⊎◌, ◌||◌, ◌≤◌, ℕ, Bool, true, false, List, Option, Some, None, Result, Ok, Err, length, map, refl, sym, ◌∙◌, ap, subst, inl, inr, arith}
+use Rattle.std.proofs.Common.{◌≡◌, ◌⊎◌, ◌||◌, ◌≤◌, ℕ, Bool, true, false, List, Option, Some, None, Result, Ok, Err, length, refl, sym, ◌∙◌, ap, subst, inl, inr, arith}
 use Rattle.std.specs.Prelude.{IsSome, slice_range, ◌-◌}
-use Rattle.std.specs.List.{range_with_len}
 use Rattle.std.proofs.lemmas.Bool.{MatchBool-at_false, false≢true}
 use Rattle.std.proofs.lemmas.List.{append-nil, take_all}
 use Rattle.sqlite.specs.Command.{Command}
@@ -16,7 +15,9 @@ use Rattle.sqlite.specs.declared.error.Error.{Error}
 use Rattle.sqlite_resolve.specs.declared.compiled.Compiled.{Compiled}
 use Rattle.sqlite_trees.specs.declared.error.StoreError.{StoreError}
 use Rattle.sqlite_trees.specs.declared.error.StoreError.TheVariants.{Broken, Corrupt, Full, Io, OutOfMemory, Unstorable}
-use Rattle.sql_texts.specs.Meaning.{parameter, statement}
+use Rattle.lemmas.proofs.TestFacts.{low_itself}
+use Rattle.sql_texts.specs.Meaning.{statement}
+use Rattle.sql_writes.specs.Many.{statement_by}
 use Rattle.sql_writes.specs.Excused.{Excuses}
 use Rattle.sql_writes.proofs.StatementFacts.{same_value}
 
@@ -54,18 +55,15 @@ shows_nothing _ w = absurd (false≢true w)
 pub whole_text : (text : List ℕ) → slice_range text 0 (length text) ≡ text
 whole_text text = take_all (length text - 0) text (omega arith)
 
-self_le : (n : ℕ) → n ≤ n
-self_le n = omega arith
-
 -- a text that is one statement, with its parameters
-module _ (old : State) (text : List ℕ) (params : Row) (command : Command) (parameters : ℕ) (e : Error)
-    (is : understood old.now.schema text ≡ Ok (statement command parameters text)) (given : length params ≡ length (map parameter (range_with_len 1 parameters))) where
+module _ (old : State) (text : List ℕ) (params : Row) (command : Command) (names : List (List ℕ)) (e : Error)
+    (is : understood old.now.schema text ≡ Ok (statement_by command names text)) (given : length params ≡ length names) where
   pub no_statement : IsNoStatement old text params e → ⊥
   no_statement (inl fault) = let none = sym fault.1 ∙ is in cc
   no_statement (inr why) =
-      let same : why.0 ≡ statement command parameters text = same_value (sym why.1 ∙ is) in
+      let same : why.0 ≡ statement_by command names text = same_value (sym why.1 ∙ is) in
       elim why.2 [
-        | inl more ↦ more.0 (subst (λ (c : Compiled). length text ≤ c.tail) (sym same) (self_le (length text)))
+        | inl more ↦ more.0 (subst (λ (c : Compiled). length text ≤ c.tail) (sym same) (low_itself (length text)))
         | inr rest ↦ elim rest [
           | inl few ↦ few.0 (given ∙ ap (λ (c : Compiled). length c.names) (sym same))
           | inr reads_time ↦ reads_time.0 (ap (λ (c : Compiled). c.formats) same)
@@ -85,17 +83,17 @@ failing old new e too_big big failed = by failed.0 failed.1 failed.2
     by Unstorable known why = inr (inr (big why))
 
 -- a statement that isn't run at all
-pub unrun : (old new : State) (text : List ℕ) (params : Row) (command : Command) (parameters : ℕ) (e : Error) → understood old.now.schema text ≡ Ok (statement command parameters text)
-    → length params ≡ length (map parameter (range_with_len 1 parameters)) → IsNotRun old new text params e → Excuses old new e
+pub unrun : (old new : State) (text : List ℕ) (params : Row) (command : Command) (names : List (List ℕ)) (e : Error) → understood old.now.schema text ≡ Ok (statement_by command names text)
+    → length params ≡ length names → IsNotRun old new text params e → Excuses old new e
 unfolding IsNotRun
-unrun old new text params command parameters e is given (inl unread) = absurd (no_statement old text params command parameters e is given unread.0)
-unrun old new text params command parameters e is given (inr failed) = failing old new e ⊥ (λ none. absurd none) failed
+unrun old new text params command names e is given (inl unread) = absurd (no_statement old text params command names e is given unread.0)
+unrun old new text params command names e is given (inr failed) = failing old new e ⊥ (λ none. absurd none) failed
 
-module _ (old new : State) (text : List ℕ) (params : Row) (command : Command) (parameters : ℕ) (e : Error)
-    (is : understood old.now.schema text ≡ Ok (statement command parameters text)) (given : length params ≡ length (map parameter (range_with_len 1 parameters)))
+module _ (old new : State) (text : List ℕ) (params : Row) (command : Command) (names : List (List ℕ)) (e : Error)
+    (is : understood old.now.schema text ≡ Ok (statement_by command names text)) (given : length params ≡ length names)
     (w : writes command ≡ true) (stops : (stop : Option Error) → Does old.step_limit (mode_of old) params old.now text None command (Err stop) → IsSome old.step_limit) where
   abbrev one : Compiled
-  one = statement command parameters text
+  one = statement_by command names text
 
   other : (k : Command) → writes k ≡ false → command ≡ k → ⊥
   other k none same = false≢true (sym none ∙ ap writes (sym same) ∙ w)
@@ -122,7 +120,7 @@ module _ (old new : State) (text : List ℕ) (params : Row) (command : Command) 
 
   alone : ExecutesIn false text params old new (Err e) → Excuses old new e
   unfolding ExecutesIn IsNotRun
-  alone (inl (inl unread)) = absurd (no_statement old text params command parameters e is given unread.0)
+  alone (inl (inl unread)) = absurd (no_statement old text params command names e is given unread.0)
   alone (inl (inr failed)) = failing old new e ⊥ (λ none. absurd none) failed
   alone (inr it) = ran it.0 it.1 it.2
 

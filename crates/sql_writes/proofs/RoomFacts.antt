@@ -1,21 +1,19 @@
 -- Why the statement is refused that inserts a row of one of the bureau's tables.
-use Rattle.std.proofs.Common.{◌≡◌, ◌≤◌, ◌<◌, ℕ, ℤ, pos, negsuc, false, true, List, [], ◌∷◌, Option, None, Some, Result, length, refl, sym, ◌∙◌, ap, subst, arith}
-use Rattle.std.specs.Prelude.{IfSome, nat_le}
-use Rattle.std.specs.List.{join_with_byte, list_any}
-use Rattle.std.proofs.Math.Bool.{and-true}
+use Rattle.std.proofs.Common.{◌≡◌, ◌≤◌, ◌<◌, ℕ, ℤ, pos, negsuc, false, true, List, [], ◌∷◌, Option, None, Some, Result, length, refl, ◌∙◌, ap, subst, arith}
+use Rattle.std.specs.Prelude.{IfSome}
+use Rattle.std.specs.List.{list_any}
 use Rattle.std.proofs.lemmas.Bool.{and_parts}
 use Rattle.std.proofs.lemmas.Bool.Decides.{nat_tests}
 use Rattle.holddata.specs.HoldKey.{kind_order}
 use Rattle.holddata.specs.declared.hold.Hold.{Hold}
 use Rattle.holddata.specs.declared.key.Kind.{Kind}
 use Rattle.holddata.specs.declared.key.Kind.TheVariants.{ErrorHold, FixcatHold, SystemHold, UserHold}
-use Rattle.mcs_reader.specs.Id.{IsId, is_id_text, text_of}
+use Rattle.mcs_reader.specs.Id.{IsId, text_of}
 use Rattle.catalogue.specs.declared.change.Change.TheVariants.{Whole}
 use Rattle.catalogue.specs.declared.conditional.CondNeed.{CondNeed}
 use Rattle.catalogue.specs.declared.sysmod.Sysmod.{Sysmod}
 use Rattle.catalogue.specs.declared.sysmod.SysmodKind.{SysmodKind}
 use Rattle.catalogue.specs.declared.sysmod.SysmodKind.TheVariants.{Apar, Func, Ptf, Usermod}
-use Rattle.zone_lists.specs.declared.zones.ZoneRow.{ZoneRow}
 use Rattle.zone_lists.specs.declared.zones.ZoneState.{ZoneState}
 use Rattle.zone_lists.specs.declared.zones.ZoneState.TheVariants.{Accepted, Applied, Superseded}
 use Rattle.bureau_store.specs.Tables.{LastChange}
@@ -26,27 +24,25 @@ use Rattle.sqlite.specs.declared.error.Error.{Error}
 use Rattle.sqlite.specs.declared.types.Value.TheVariants.{Blob, Int, Text}
 use Rattle.sqlite_value.specs.Value.{owned}
 use Rattle.sqlite_value.specs.declared.value.ValueRef.{ValueRef}
+use Rattle.mcs_reader.proofs.IdFacts.{text_is_few}
 use Rattle.sql_texts.specs.Meaning.{Means}
 use Rattle.sql_texts.specs.Schema as schema
 use Rattle.sql_texts.specs.Schema.{bureau}
 use Rattle.sql_texts.specs.Writes.{insert_given}
 use Rattle.sql_tables.specs.Changes.{is_under}
-use Rattle.sql_tables.specs.Fit.{IsCond, IsHold}
-use Rattle.sql_tables.specs.Rows.{change_row, cond_row, head_row, hold_row, received_row, sup_row, sysmod_row, zone_row}
+use Rattle.sql_tables.specs.Fit.{IsHold}
+use Rattle.sql_tables.specs.Rows.{change_row, cond_row, head_row, hold_row, received_row, sysmod_row}
 use Rattle.sql_tables.specs.Stored.{is_of, is_of_both}
-use Rattle.sql_tables.specs.Values.{date_value, hold_kind_value, id_value, ids_value, optional_id_value, state_order, state_value, sysmod_kind_order, sysmod_kind_value, texts_value}
+use Rattle.sql_tables.specs.Values.{date_value, hold_kind_value, id_value, ids_value, optional_id_value, state_order, sysmod_kind_order, sysmod_kind_value, texts_value}
 use Rattle.sql_writes.specs.Excused.{Takes}
 use Rattle.sql_writes.specs.Parts.{is_of_three}
 use Rattle.sql_writes.specs.Room.{are_short, are_short_ids, is_short, is_short_change}
 use Rattle.sql_writes.specs.Running.{FailsInside, Ran}
-use Rattle.sql_writes.proofs.AbsentFacts.{unique_cond, unique_head, unique_hold, unique_last, unique_received, unique_sup, unique_sysmod, unique_zone_row}
-use Rattle.sql_writes.proofs.FittingFacts.{fits_cond, fits_head, fits_hold, fits_last_change, fits_received, fits_sup, fits_sysmod, fits_zone_row}
+use Rattle.sql_writes.proofs.AbsentFacts.{unique_cond, unique_head, unique_hold, unique_last, unique_received, unique_sysmod}
+use Rattle.sql_writes.proofs.FittingFacts.{fits_cond, fits_head, fits_hold, fits_last_change, fits_received, fits_sysmod}
 use Rattle.sql_writes.proofs.StepFacts.{comes_takes}
 
 -- ---- lengths and numbers
-
-text_is_few : (text : List ℕ) → is_id_text text ≡ true → length text ≤ 7
-text_is_few text is = grind (arith, nat_tests)
 
 pub few : (id : List ℕ) → IsId id → length (text_of id) ≤ 7
 few id is = text_is_few (text_of id) is.0
@@ -119,15 +115,6 @@ module _ (old new : State) (text : List ℕ) (result : Result (Unit {0}) Error) 
       (λ database known none. unique_sysmod database known sysmod.id (sysmod_kind_value sysmod.kind ∷ ids_value sysmod.fmids ∷ ids_value sysmod.pre ∷ ids_value sysmod.req ∷ []) is none)
       (subst (λ row. Ran text row old new result) given ran) (subst (λ row. FailsInside text row old new result) given fails)
 
-  pub sup_takes : (id member : List ℕ) (a b : ValueRef) → IsId id → IsId member → owned a ≡ id_value id → owned b ≡ id_value member
-      → (HasCleanDisk old → Means bureau text (insert_given 4 2) 2) → Ran text (bound (a ∷ b ∷ [])) old new result → FailsInside text (bound (a ∷ b ∷ [])) old new result
-      → Takes old new result 1 (λ stored. list_any (is_of_both id member) stored.sups ≡ false)
-  sup_takes id member a b is is_member at_a at_b means ran fails =
-      let given : bound (a ∷ b ∷ []) ≡ sup_row id member = λ i. bound_value (at_a i) ∷ bound_value (at_b i) ∷ [] in
-      comes_takes text old new result 4 schema.sysmod_sup refl (λ database known. known.numbered.1.1.1.1.0) (λ most trees low. low.1.1.1.1.0) 2 (sup_row id member) (λ stored. list_any (is_of_both id member) stored.sups ≡ false)
-      means refl refl refl refl (fits_sup (text_of id) (text_of member) (few id is) (few member is_member)) (λ database known none. unique_sup database known id member is is_member none)
-      (subst (λ row. Ran text row old new result) given ran) (subst (λ row. FailsInside text row old new result) given fails)
-
   pub cond_takes : (id : List ℕ) (cond : CondNeed) (a b c : ValueRef) → IsId id → IsId cond.fmid → IsId cond.need → owned a ≡ id_value id → owned b ≡ id_value cond.fmid → owned c ≡ id_value cond.need
       → (HasCleanDisk old → Means bureau text (insert_given 9 3) 3) → Ran text (bound (a ∷ b ∷ c ∷ [])) old new result → FailsInside text (bound (a ∷ b ∷ c ∷ [])) old new result
       → Takes old new result 1 (λ stored. list_any (is_of_three id cond.fmid cond.need) stored.conds ≡ false)
@@ -160,16 +147,6 @@ module _ (old new : State) (text : List ℕ) (result : Result (Unit {0}) Error) 
       comes_takes text old new result 6 schema.zone_head refl (λ database known. known.numbered.1.1.1.1.1.1.0) (λ most trees low. low.1.1.1.1.1.1.0) 3 (head_row client zone patterns) (λ stored. list_any (is_of_both client zone) stored.heads ≡ false)
       means refl refl refl refl (fits_head (text_of client) (text_of zone) _ (few client is) (few zone is_zone) (short_enough _ short))
       (λ database known none. unique_head database known client zone (texts_value patterns ∷ []) is is_zone none)
-      (subst (λ row. Ran text row old new result) given ran) (subst (λ row. FailsInside text row old new result) given fails)
-
-  pub zone_row_takes : (client zone : List ℕ) (row : ZoneRow) (a b c d : ValueRef) → IsId client → IsId zone → IsId row.sysmod → owned a ≡ id_value client → owned b ≡ id_value zone → owned c ≡ id_value row.sysmod → owned d ≡ state_value row.state
-      → (HasCleanDisk old → Means bureau text (insert_given 7 4) 4) → Ran text (bound (a ∷ b ∷ c ∷ d ∷ [])) old new result → FailsInside text (bound (a ∷ b ∷ c ∷ d ∷ [])) old new result
-      → Takes old new result 1 (λ stored. list_any (is_of_three client zone row.sysmod) stored.rows ≡ false)
-  zone_row_takes client zone row a b c d is is_zone is_sysmod at_a at_b at_c at_d means ran fails =
-      let given : bound (a ∷ b ∷ c ∷ d ∷ []) ≡ zone_row client zone row = λ i. bound_value (at_a i) ∷ bound_value (at_b i) ∷ bound_value (at_c i) ∷ bound_value (at_d i) ∷ [] in
-      comes_takes text old new result 7 schema.zone_row refl (λ database known. known.numbered.1.1.1.1.1.1.1.0) (λ most trees low. low.1.1.1.1.1.1.1.0) 4 (zone_row client zone row) (λ stored. list_any (is_of_three client zone row.sysmod) stored.rows ≡ false)
-      means refl refl refl refl (fits_zone_row (text_of client) (text_of zone) (text_of row.sysmod) (state_order row.state) (few client is) (few zone is_zone) (few row.sysmod is_sysmod) (state_low row.state))
-      (λ database known none. unique_zone_row database known client zone row.sysmod (state_value row.state ∷ []) is is_zone is_sysmod none)
       (subst (λ row. Ran text row old new result) given ran) (subst (λ row. FailsInside text row old new result) given fails)
 
   pub received_takes : (client : List ℕ) (ids : List (List ℕ)) (a b : ValueRef) → IsId client → owned a ≡ id_value client → owned b ≡ ids_value ids

@@ -1,5 +1,5 @@
 -- Rows with rowids that rise: what a deletion by rowids leaves, and where a row goes whose rowid is chosen.
-use Rattle.std.proofs.Common.{◌≡◌, ℕ, zero, suc, ℤ, pos, ◌+ℤ◌, Bool, true, false, cond, ◌||◌, List, [], ◌∷◌, ◌++◌, refl, sym, ◌∙◌, ap, arith, IsTrue, Ordering, Less, Equal, Greater, int_cmp}
+use Rattle.std.proofs.Common.{◌≡◌, ℕ, zero, suc, ℤ, pos, ◌+ℤ◌, Bool, true, false, cond, ◌||◌, List, [], ◌∷◌, ◌++◌, refl, sym, ◌∙◌, ap, arith, IsTrue, Less, int_cmp}
 use Rattle.std.specs.Prelude.{filter, fold, length, map, not}
 use Rattle.std.specs.List.{AllByRecursion, list_any}
 use Rattle.std.specs.List.Sorted.{IsPermutation}
@@ -21,6 +21,7 @@ use Rattle.sqlite_rules.specs.Lists.{Has}
 use Rattle.sqlite_rules.proofs.ListLemmas.{all_from, all_has, has_filtered, has_kept, some_from, some_has}
 use Rattle.sqlite_rules.proofs.PlaceLemmas.{tied_same}
 use Rattle.sqlite_rules.proofs.TableLemmas.{int_is}
+use Rattle.lemmas.proofs.TestFacts.{equal_is}
 use Rattle.sql_texts.specs.Found.{shown}
 use Rattle.sql_state.specs.Numbered.{IsNumbered}
 
@@ -77,11 +78,6 @@ left_without : (ids : List ℤ) (rows : List Row) → without_all rows ids ≡ f
 left_without [] rows = sym (all_kept rows)
 left_without (id ∷ ids) rows = left_without ids (without_rowid id rows) ∙ twice_kept (has_rowid id) (λ row. list_any (λ i. has_rowid i row) ids) rows
 
-tied : (o : Ordering) → is_eq o ≡ true → o ≡ Equal
-tied Less h = absurd (cc)
-tied Equal h = refl
-tied Greater h = absurd (cc)
-
 -- one of the rows that pass has this row's rowid just if it is that row
 has_one : (test : Row → Bool) (rows : List Row) → IsNumbered rows → (row : Row) → Has rows row
     → list_any (λ found. has_rowid (id_in (rowid found)) row) (filter test rows) ≡ test row
@@ -97,7 +93,7 @@ has_one test rows numbered row here = by (test row) refl
     never fails any =
         let other = some_has (λ found. has_rowid (id_in (rowid found)) row) (filter test rows) any in
         let known = has_filtered test rows other.0 other.1 in
-        let tie = tied _ (ap (λ v. is_eq (value_cmp (rowid row) v)) (whole other.0 known.0) ∙ other.2) in
+        let tie = equal_is _ (ap (λ v. is_eq (value_cmp (rowid row) v)) (whole other.0 known.0) ∙ other.2) in
         let same = tied_same rows row other.0 numbered.0 here known.0 tie in
         absurd (both_ways _ fails (ap test same ∙ known.1))
 

@@ -1,5 +1,5 @@
 -- No rule of the bureau's tables speaks against a statement that writes sound rows.
-use Rattle.std.proofs.Common.{◌≡◌, ◌≢◌, ◌||◌, ℕ, Bool, true, false, List, [], ◌∷◌, Option, Some, None, Err, length, refl, sym, ◌∙◌, ap, subst, inl, inr, arith, zero, suc, ℤ, pos, negsuc}
+use Rattle.std.proofs.Common.{◌≡◌, ◌≢◌, ℕ, Bool, true, false, List, [], ◌∷◌, Option, Some, None, Err, length, refl, sym, ◌∙◌, ap, subst, inl, inr, arith, zero, suc, ℤ, pos, negsuc}
 use Rattle.std.specs.Prelude.{IsSome, ◌/◌, nat_lt, not, slice_get}
 use Rattle.std.specs.List.{AllByRecursion}
 use Rattle.std.specs.Float.{NotNan}
@@ -44,6 +44,7 @@ use Rattle.sqlite.specs.Cast.{cast_row}
 use Rattle.sqlite.specs.Ops.{binary}
 use Rattle.sqlite_value.specs.Order.{number, value_cmp}
 use Rattle.sqlite_value.specs.declared.value.Value.TheVariants.{Int, Null, Text}
+use Rattle.lemmas.proofs.TestFacts.{or_true}
 use Rattle.sql_texts.specs.Reads.{from_table}
 use Rattle.sql_texts.specs.Schema.{bureau, bureau_version, indexes}
 use Rattle.sql_texts.specs.Writes.{delete_of}
@@ -134,10 +135,6 @@ gone_soundly db ids keeps = record { free = refl; ruled = ruled; small = λ row 
   where
     edit : Edit
     edit = edit_of db bureau_version ids Given 0 []
-
-    or_true : (b : Bool) → (b || true) ≡ true
-    or_true true = refl
-    or_true false = refl
 
     ruled : (r : Refusal) → IsRefused bureau Enforced db edit r → ⊥
     ruled (rule.Violates Datatype) fails = false≢true (sym fails)

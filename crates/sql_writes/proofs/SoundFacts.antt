@@ -1,17 +1,16 @@
 -- No rule of the bureau's tables speaks against rows that go, or against a row with a key of its own that comes.
-use Rattle.std.proofs.Common.{◌≡◌, ◌≢◌, ◌||◌, ◌&&◌, ◌≤◌, ◌<◌, ◌+◌, ◌==◌, ℕ, ℤ, pos, Bool, true, false, cond, List, [], ◌∷◌, Some, Err, Option, None, length, map, refl, sym, ◌∙◌, ap, subst, inl, inr, arith}
+use Rattle.std.proofs.Common.{◌≡◌, ◌≢◌, ◌&&◌, ◌<◌, ◌+◌, ◌==◌, ℕ, ℤ, Bool, true, false, cond, List, [], ◌∷◌, Some, Err, Option, None, length, map, refl, sym, ◌∙◌, ap, subst, inl, inr, arith}
 use Rattle.std.specs.Prelude.{IsSome, ◌^◌, filter, nat_lt, not, slice_get}
 use Rattle.std.specs.List.{AllByRecursion, list_all, list_any}
 use Rattle.std.specs.Ordering.{is_ne}
 use Rattle.std.proofs.lemmas.Bool.{and_parts, both_ways, eq-eqb, false_from_ne_true, false≢true, lt-ltb, ne_eqb}
 use Rattle.std.proofs.lemmas.Cmp.{tied_itself}
 use Rattle.sqlite.specs.Cast.{cast_row}
-use Rattle.sqlite.specs.Command.TheVariants.{Delete}
 use Rattle.sqlite.specs.Does.{Does, OnRows}
 use Rattle.sqlite.specs.Edit.{next_rowid, numbered}
 use Rattle.sqlite.specs.Ops.{binary, from_truth, is_true}
-use Rattle.sqlite.specs.Order.{Row, value_cmp}
-use Rattle.sqlite.specs.Rows.{Queried, Task}
+use Rattle.sqlite.specs.Order.{Row}
+use Rattle.sqlite.specs.Rows.{Queried}
 use Rattle.sqlite.specs.State.{State, mode_of}
 use Rattle.sqlite.specs.Table.{Table}
 use Rattle.sqlite.specs.Term.{Term}
@@ -41,6 +40,7 @@ use Rattle.sqlite_trees.specs.View.{IsStorable, IsStorableRow}
 use Rattle.sqlite_typing.specs.Types.{accepts_program}
 use Rattle.sqlite_value.proofs.OrderLemmas.{value_cmp_total}
 use Rattle.sqlite_value.specs.Keys.{plain}
+use Rattle.lemmas.proofs.TestFacts.{or_true}
 use Rattle.sql_texts.specs.Reads.{from_table}
 use Rattle.sql_texts.specs.Schema.{bureau, indexes, tables}
 use Rattle.sql_texts.specs.Writes.{delete_of}
@@ -77,10 +77,6 @@ here_it_is db tree rows = ap (λ b. cond b rows (db tree)) (eq-eqb tree tree ref
 
 pub elsewhere : (db : Trees) (tree : ℕ) (rows : List Row) (t : ℕ) → t ≢ tree → with_tree db tree rows t ≡ db t
 elsewhere db tree rows t other = ap (λ b. cond b rows (db t)) (ne_eqb t tree other)
-
-or_true : (b : Bool) → (b || true) ≡ true
-or_true true = refl
-or_true false = refl
 
 -- ---- rows that go
 
@@ -141,7 +137,7 @@ deletion_stops old text table_index table tests params at ours ordered keeps acc
 
 -- ---- a row that comes
 
-itself : (n : ℤ) → differ (Int n) (Int n) ≡ false
+pub itself : (n : ℤ) → differ (Int n) (Int n) ≡ false
 unfolding binary
 itself n = ap (λ o. is_true (from_truth (Some (is_ne o)))) (tied_itself value_cmp_total (Int n))
 

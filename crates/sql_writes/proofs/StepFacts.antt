@@ -1,17 +1,15 @@
 -- Why one statement of a transaction is refused, and which numbers its table has after it.
-use Rattle.std.proofs.Common.{◌≡◌, ◌≤◌, ◌<◌, ◌+◌, ◌^◌, ◌++◌, ◌/◌, ℕ, ℤ, Bool, true, false, List, [], ◌∷◌, Option, None, Some, Result, Ok, Err, IsTrue, OnOk, length, map, suc, refl, sym, ◌∙◌, ap, subst, inl, inr, arith}
+use Rattle.std.proofs.Common.{◌≡◌, ◌<◌, ◌+◌, ◌^◌, ◌/◌, ℕ, true, false, List, [], ◌∷◌, Option, None, Some, Result, Ok, Err, IsTrue, OnOk, length, map, suc, refl, sym, ◌∙◌, ap, subst}
 use Rattle.std.specs.Prelude.{IfErr, IfOk, IsSome, slice_get}
 use Rattle.std.specs.List.{range_with_len}
-use Rattle.sqlite.specs.Cast.{cast_row}
 use Rattle.sqlite.specs.Command.{Command}
-use Rattle.sqlite.specs.Command.TheVariants.{Insert}
 use Rattle.sqlite.specs.Does.{Does}
 use Rattle.sqlite.specs.Edit.{next_rowid}
 use Rattle.sqlite.specs.Effect.{Database, value_rows}
 use Rattle.sqlite.specs.Listing.{understood}
 use Rattle.sqlite.specs.Order.{Row}
 use Rattle.sqlite.specs.Rows.{stamped}
-use Rattle.sqlite.specs.State.{Executes, HasCleanDisk, IsNotRun, IsUnchanged, State, Survives, mode_of}
+use Rattle.sqlite.specs.State.{Executes, HasCleanDisk, IsNotRun, IsUnchanged, State, mode_of}
 use Rattle.sqlite.specs.Table.{Table}
 use Rattle.sqlite.specs.Term.{Term, col, lit}
 use Rattle.sqlite.specs.Tree.{Trees, put_row}
@@ -23,7 +21,6 @@ use Rattle.sqlite_schema.specs.Rules.{Keeps}
 use Rattle.sqlite_schema.specs.declared.schema.Constraint.TheVariants.{Unique}
 use Rattle.sqlite_trees.specs.Tree.{with_tree}
 use Rattle.sqlite_typing.specs.Types.{accepts_program, accepts_terms}
-use Rattle.sql_texts.specs.Found.{passes}
 use Rattle.sql_texts.specs.Meaning.{Means, parameter}
 use Rattle.sql_texts.specs.Reads.{from_table}
 use Rattle.sql_texts.specs.Schema.{bureau, tables}
@@ -33,7 +30,7 @@ use Rattle.sql_state.specs.Numbered.{IsNumbered}
 use Rattle.sql_state.specs.Ours.{held_by}
 use Rattle.sql_state.specs.Writing.{IsKnown}
 use Rattle.sql_state.proofs.StopFacts.{was_clean}
-use Rattle.sql_writes.specs.Excused.{Excuses, IsExcused, Takes}
+use Rattle.sql_writes.specs.Excused.{IsExcused, Takes}
 use Rattle.sql_writes.specs.Room.{AreUpTo, IsRoomy, are_up_to}
 use Rattle.sql_writes.specs.Running.{FailsInside, Ran}
 use Rattle.sql_writes.proofs.ExcuseFacts.{excused_by}
@@ -60,7 +57,7 @@ module _ (text : List ℕ) (old new : State) (result : Result (Unit {0}) Error) 
     where
       excused : (most : ℕ) → IsExcused old new result (From most (λ stored. Unit {0}))
       excused most =
-          excused_by text old new result (From most (λ stored. Unit {0})) bureau (delete_of table_index table.tree tests) parameters params (λ database from. from.0.0.schema) means.statement given refl
+          excused_by text old new result (From most (λ stored. Unit {0})) bureau (delete_of table_index table.tree tests) (map parameter (range_with_len 1 parameters)) params (λ database from. from.0.0.schema) means.statement given refl
           (λ from stop h. deletion_stops old text table_index table tests params at from.0.0.schema (numbered old.now from.0.0).0 (keys_once old.now from.0.0) accepted stop h) fails
 
       done : (r : Result (Unit {0}) Error) → OnOk r (HasCleanDisk new → IsTrue old.in_transaction → IsTrue new.is_open × IsTrue new.in_transaction × ((count : ℕ) × Executes text params old new (Ok count)))
@@ -93,7 +90,7 @@ module _ (text : List ℕ) (old new : State) (result : Result (Unit {0}) Error) 
       excused : (most : ℕ) → most + 1 < 2 ^ 63 → (r : Result (Unit {0}) Error) → FailsInside text values old new r → IsExcused old new r (From most Fits)
       excused most room (Ok a) fails = tt
       excused most room (Err e) fails = λ clean inside from.
-          excused_by {A = Unit {0}} text old new (Err e) (From most Fits) bureau (insert_given table_index columns) columns values (λ database from. from.0.0.schema) (means (was_clean old new _ ran.survives clean)).statement given refl
+          excused_by {A = Unit {0}} text old new (Err e) (From most Fits) bureau (insert_given table_index columns) (map parameter (range_with_len 1 columns)) values (λ database from. from.0.0.schema) (means (was_clean old new _ ran.survives clean)).statement given refl
           (λ from stop h. stops most room from stop h) fails clean inside from
 
       done : (r : Result (Unit {0}) Error) → OnOk r (HasCleanDisk new → IsTrue old.in_transaction → IsTrue new.is_open × IsTrue new.in_transaction × ((count : ℕ) × Executes text values old new (Ok count)))
@@ -125,7 +122,7 @@ prepared_takes {A} text_of old new text command parameters result means ok err =
     }
     by (Err e) ok err = record {
       excused = λ most room clean inside from.
-          unrun old new text params command parameters e (ap (λ s. understood s text) from.0.0.schema ∙ means.statement)
+          unrun old new text params command (map parameter (range_with_len 1 parameters)) e (ap (λ s. understood s text) from.0.0.schema ∙ means.statement)
           (mapped_alike (λ k. Null) parameter (range_with_len 1 parameters)) (err clean params);
       numbers = tt;
     }

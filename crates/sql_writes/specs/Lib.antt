@@ -1,4 +1,5 @@
 pub mod Altering
+pub mod Asking
 pub mod Effects
 pub mod Excused
 pub mod Making

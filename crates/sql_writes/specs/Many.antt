@@ -1,16 +1,43 @@
 -- Several rows that one statement inserts.
-use Rattle.std.specs.Prelude.{◌≡◌, ◌+◌, ◌++◌, ◌*◌, ℕ, false, List, [], ◌∷◌, flat_map, map}
+use Rattle.std.specs.Prelude.{◌≡◌, ◌+◌, ◌++◌, ◌*◌, ◌/◌, ◌%◌, if◌then◌else◌, ℕ, Bool, false, List, [], ◌∷◌, None, Ok, flat_map, length, map, nat_lt}
 use Rattle.std.specs.List.{list_any, range_with_len}
 use Rattle.sqlite.specs.Command.{Command}
 use Rattle.sqlite.specs.Command.TheVariants.{Insert}
+use Rattle.sqlite.specs.Listing.{understood}
 use Rattle.sqlite.specs.Order.{Row}
+use Rattle.sqlite.specs.Schema.{Schema}
 use Rattle.sqlite.specs.Source.TheVariants.{Values}
 use Rattle.sqlite.specs.Term.{Term, lit, col}
 use Rattle.sqlite.specs.declared.types.Value.TheVariants.{Null}
+use Rattle.sqlite_resolve.specs.declared.compiled.Compiled.{Compiled}
 use Rattle.zone_lists.specs.declared.zones.ZoneRow.{ZoneRow}
 use Rattle.sql_tables.specs.Rows.{sup_row, zone_row}
 use Rattle.sql_tables.specs.Stored.{is_of_both}
 use Rattle.sql_writes.specs.Parts.{is_of_three}
+
+-- parameters are written ?1 to ?99
+abbrev pub parameter : ℕ → List ℕ
+parameter number = if nat_lt number 10 then 0x3F ∷ (0x30 + number) ∷ [] else 0x3F ∷ (0x30 + number / 10) ∷ (0x30 + number % 10) ∷ []
+
+-- their names, up to this number
+abbrev pub parameters_to : ℕ → List (List ℕ)
+parameters_to number = map parameter (range_with_len 1 number)
+
+-- a text that is one statement, with parameters of these names
+abbrev pub statement_by : Command → List (List ℕ) → List ℕ → Compiled
+statement_by command names text = record {
+  command = command;
+  returning = None;
+  names = names;
+  formats = [];
+  start = 0;
+  end = length text;
+  tail = length text;
+}
+
+-- under this schema the text is this command, with parameters of these names
+pub record MeansBy (schema : Schema) (text : List ℕ) (command : Command) (names : List (List ℕ)) : Type 0 where
+  pub statement : understood schema text ≡ Ok (statement_by command names text)
 
 -- so many rows that begin with the same parameters, which are so many, and go on with so many of their own each
 abbrev pub rows_alike : ℕ → ℕ → ℕ → List Term
@@ -23,14 +50,15 @@ insert_alike table_index shared own count = Insert table_index (Values (rows_ali
 
 -- ---- No part of what is promised: private contracts cite it.
 
+-- none of these is told among the rows, nor comes twice: each is told by such a test, and makes such a row
+abbrev pub AreNew : {X : Type 0} → (X → Row → Bool) → (X → Row) → List X → List Row → Type 0
+AreNew is made [] rows = Unit {0}
+AreNew is made (one ∷ news) rows = (list_any (is one) rows ≡ false) × AreNew is made news (rows ++ made one ∷ [])
+
 -- none of what a record supersedes stands among these rows, nor comes twice
 abbrev pub AreNewSups : List ℕ → List (List ℕ) → List Row → Type 0
-AreNewSups id [] sups = Unit {0}
-AreNewSups id (member ∷ members) sups =
-    (list_any (is_of_both id member) sups ≡ false) × AreNewSups id members (sups ++ sup_row id member ∷ [])
+AreNewSups id = AreNew (is_of_both id) (sup_row id)
 
 -- none of the rows of a client's zone stands among these, nor comes twice
 abbrev pub AreNewRows : List ℕ → List ℕ → List ZoneRow → List Row → Type 0
-AreNewRows client zone [] rows = Unit {0}
-AreNewRows client zone (one ∷ news) rows =
-    (list_any (is_of_three client zone one.sysmod) rows ≡ false) × AreNewRows client zone news (rows ++ zone_row client zone one ∷ [])
+AreNewRows client zone = AreNew (λ row. is_of_three client zone row.sysmod) (zone_row client zone)

@@ -1,5 +1,5 @@
 -- How much room a change takes: how long what it writes is, how many rows it adds, and which numbers the tables have left.
-use Rattle.std.specs.Prelude.{◌≡◌, ◌<◌, ◌+◌, ◌^◌, ◌&&◌, ℕ, pos, negsuc, Bool, true, false, List, length, map, nat_le, sum_by, Result}
+use Rattle.std.specs.Prelude.{◌≡◌, ◌<◌, ◌+◌, ◌^◌, ◌&&◌, ℕ, pos, negsuc, Bool, true, false, List, length, map, nat_le, sum_by}
 use Rattle.std.specs.List.{AllByRecursion, join_with_byte, list_all}
 use Rattle.mcs_reader.specs.Id.{text_of}
 use Rattle.holddata.specs.declared.hold.HoldChange.TheVariants.{Put, Release}
@@ -9,14 +9,10 @@ use Rattle.bureau_store.specs.Effect.{Effect, publication, zone_put, zone_droppe
 use Rattle.bureau_store.specs.Tables.{LastChange}
 use Rattle.sqlite.specs.Effect.{Database}
 use Rattle.sqlite.specs.Order.{Row}
-use Rattle.sqlite.specs.State.{State}
 use Rattle.sqlite.specs.Tree.{Trees, rowid}
-use Rattle.sqlite.specs.declared.error.Error.{Error}
 use Rattle.sqlite.specs.declared.types.Value.{Value}
 use Rattle.sqlite.specs.declared.types.Value.TheVariants.{Blob, Int, Null, Real, Text}
 use Rattle.sql_texts.specs.Schema.{tables}
-use Rattle.sql_tables.specs.Stored.{Stored}
-use Rattle.sql_state.specs.Ours.{held_by}
 use Rattle.sql_state.specs.Writing.{IsKnown}
 
 -- ---- lengths

@@ -1,9 +1,11 @@
 //! Rows that go, by one statement. Rows that aren't there are no fault.
-ghost use Rattle.std.specs.Prelude.{◌≡◌};
+ghost use Rattle.std.specs.Prelude.{◌≡◌, IfOk};
 ghost use Rattle.sql_writes.specs.Altering.{Alters, TakesRoom};
+ghost use Rattle.sql_writes.specs.Asking.{FindsId};
 ghost use Rattle.sql_writes.specs.Parts.{without_callers, without_client, without_hold, without_id, without_zone};
 
 use crate::run::run;
+use crate::texts;
 use crate::values::id_of;
 use holddata::HoldKey;
 use mcs_reader::Id;
@@ -12,7 +14,28 @@ use sql_texts::write;
 use sql_texts::write::{TableById, TableByZone};
 use sqlite::{Alter, Error, Transaction};
 
-/// The rows of an id.
+/// Whether an id has rows.
+fn has_id<S: Alter>(tx: &mut Transaction<'_, S>, table: TableById, id: &Id) -> Result<bool, Error>
+    ensures same { tx.new.conn.ghost_name ≡ tx.old.conn.ghost_name }
+    ensures changes { Alters S.Store tx.old.conn.now tx.new.conn.now result (λ stored. stored) }
+    ensures takes { TakesRoom S.Store tx.old.conn.now tx.new.conn.now result 0 (λ stored. Unit {0}) }
+    ensures found { IfOk result (FindsId S.Store tx.old.conn.now tx.new.conn.now table id.now) }
+{
+    let rows = tx.query_all(texts::ids_of(table), &[id_of(id)])?;
+    let found = rows.as_slice();
+    Ok(!found.is_empty())
+}
+
+/// The rows of an id, whether there are any or not.
+fn any_by_id<S: Alter>(tx: &mut Transaction<'_, S>, table: TableById, id: &Id) -> Result<(), Error>
+    ensures same { tx.new.conn.ghost_name ≡ tx.old.conn.ghost_name }
+    ensures changes { Alters S.Store tx.old.conn.now tx.new.conn.now result (without_id table id.now) }
+    ensures takes { TakesRoom S.Store tx.old.conn.now tx.new.conn.now result 0 (λ stored. Unit {0}) }
+{
+    run(tx, table.deletion(), &[id_of(id)])
+}
+
+/// The rows of an id. Mostly there are none, which a read tells sooner than a statement that deletes.
 pub(crate) fn by_id<S: Alter>(
     tx: &mut Transaction<'_, S>,
     table: TableById,
@@ -22,7 +45,10 @@ pub(crate) fn by_id<S: Alter>(
     ensures changes { Alters S.Store tx.old.conn.now tx.new.conn.now result (without_id table id.now) }
     ensures takes { TakesRoom S.Store tx.old.conn.now tx.new.conn.now result 0 (λ stored. Unit {0}) }
 {
-    run(tx, table.deletion(), &[id_of(id)])
+    if has_id(tx, table, id)? {
+        return any_by_id(tx, table, id);
+    }
+    Ok(())
 }
 
 /// The rows of a client's zone.

@@ -1,12 +1,12 @@
-//! Rows that come, one by each statement, after those of their table.
-ghost use Rattle.std.specs.Prelude.{◌≡◌, ◌<◌, ◌≤◌, ◌++◌, List, ◌∷◌, [], false, true};
+//! Rows that come by one statement, after those of their table.
+ghost use Rattle.std.specs.Prelude.{◌≡◌, ◌<◌, ◌≤◌, ◌++◌, List, ◌∷◌, [], false, length, true};
 ghost use Rattle.std.specs.List.{list_any};
 ghost use Rattle.catalogue.specs.declared.change.Change.TheVariants.{Whole};
 ghost use Rattle.bureau_store.specs.Store.{greatest_number};
 ghost use Rattle.sql_tables.specs.Changes.{is_under};
 ghost use Rattle.sql_tables.specs.Fit.{IsHold};
 ghost use Rattle.sql_tables.specs.Stored.{is_of, is_of_both};
-ghost use Rattle.sql_writes.specs.Altering.{Alters, Inserts, InsertsAlike, RefusesExcused, TakesRoom, Turns};
+ghost use Rattle.sql_writes.specs.Altering.{Alters, Inserts, RefusesExcused, TakesRoom, Turns};
 ghost use Rattle.sql_writes.specs.Making.{AreFit, IsOpened};
 ghost use Rattle.sql_writes.specs.Many.{AreNewRows, AreNewSups};
 ghost use Rattle.bureau_store.specs.declared.caller.CallerRow.{CallerRow};
@@ -14,6 +14,7 @@ ghost use Rattle.sql_writes.specs.Room.{are_short, are_short_ids, is_short, is_s
 ghost use Rattle.sql_writes.specs.Parts.{is_of_three, with_callers, with_conds, with_head, with_hold, with_last, with_received, with_rows, with_sups, with_sysmod};
 
 use crate::run::{run, run_prepared};
+use crate::texts;
 use crate::values::{id_of, number_of};
 use bureau_store::CallerRow;
 use catalogue::{CondNeed, Sysmod};
@@ -88,48 +89,24 @@ pub(crate) fn sysmod<S: Alter>(
     run(tx, TableById::Sysmod.insertion(), &params)
 }
 
-/// One SYSMOD that a record supersedes, by the statement that inserts into `SysmodSup`.
-pub(crate) fn sup_row<S: Alter>(
+/// SYSMODs that a record supersedes, up to eight of them.
+pub(crate) fn sup_rows<'a, S: Alter>(
     tx: &mut Transaction<'_, S>,
-    statement: &Statement,
-    id: &Id,
-    member: &Id,
+    id: &'a Id,
+    members: &'a [Id],
 ) -> Result<(), Error>
-    requires means { Inserts S.Store tx.old.conn.now statement.now.text 4 2 }
+    requires some { 0 < length members.now }
+    requires few { length members.now ≤ 8 }
     ensures same { tx.new.conn.ghost_name ≡ tx.old.conn.ghost_name }
-    ensures changes { Alters S.Store tx.old.conn.now tx.new.conn.now result
-        (with_sups id.now (member.now ∷ [])) }
-    ensures takes { TakesRoom S.Store tx.old.conn.now tx.new.conn.now result 1
-        (λ stored. list_any (is_of_both id.now member.now) stored.sups ≡ false) }
+    ensures changes { Alters S.Store tx.old.conn.now tx.new.conn.now result (with_sups id.now members.now) }
+    ensures takes { TakesRoom S.Store tx.old.conn.now tx.new.conn.now result (length members.now)
+        (λ stored. AreNewSups id.now members.now stored.sups) }
 {
-    run_prepared(tx, statement, &[id_of(id), id_of(member)])
-}
-
-/// Four SYSMODs that a record supersedes, by the statement that inserts four rows into `SysmodSup`.
-pub(crate) fn four_sup_rows<S: Alter>(
-    tx: &mut Transaction<'_, S>,
-    statement: &Statement,
-    id: &Id,
-    first: &Id,
-    second: &Id,
-    third: &Id,
-    fourth: &Id,
-) -> Result<(), Error>
-    requires means { InsertsAlike S.Store tx.old.conn.now statement.now.text 4 1 1 4 }
-    ensures same { tx.new.conn.ghost_name ≡ tx.old.conn.ghost_name }
-    ensures changes { Alters S.Store tx.old.conn.now tx.new.conn.now result
-        (with_sups id.now (first.now ∷ second.now ∷ third.now ∷ fourth.now ∷ [])) }
-    ensures takes { TakesRoom S.Store tx.old.conn.now tx.new.conn.now result 4
-        (λ stored. AreNewSups id.now (first.now ∷ second.now ∷ third.now ∷ fourth.now ∷ []) stored.sups) }
-{
-    let params = [
-        id_of(id),
-        id_of(first),
-        id_of(second),
-        id_of(third),
-        id_of(fourth),
-    ];
-    run_prepared(tx, statement, &params)
+    let mut params = [id_of(id); 9];
+    for at in 0..members.len() {
+        params[at + 1] = id_of(&members[at]);
+    }
+    run(tx, texts::sups(members.len()), &params[..members.len() + 1])
 }
 
 /// What a record requires where a function is installed, by the statement that inserts into `SysmodCond`.
@@ -195,58 +172,33 @@ pub(crate) fn head<S: Alter>(
     run(tx, TableByZone::ZoneHead.insertion(), &params)
 }
 
-/// A SYSMOD of a client's zone, by the statement that inserts into `ZoneRow`.
-pub(crate) fn zone_row<S: Alter>(
+/// SYSMODs of a client's zone, up to eight of them.
+pub(crate) fn zone_rows<'a, S: Alter>(
     tx: &mut Transaction<'_, S>,
-    statement: &Statement,
-    client: &Id,
-    zone: &Id,
-    row: &ZoneRow,
+    client: &'a Id,
+    zone: &'a Id,
+    rows: &'a [ZoneRow],
 ) -> Result<(), Error>
-    requires means { Inserts S.Store tx.old.conn.now statement.now.text 7 4 }
+    requires some { 0 < length rows.now }
+    requires few { length rows.now ≤ 8 }
     ensures same { tx.new.conn.ghost_name ≡ tx.old.conn.ghost_name }
     ensures changes { Alters S.Store tx.old.conn.now tx.new.conn.now result
-        (with_rows client.now zone.now (row.now ∷ [])) }
-    ensures takes { TakesRoom S.Store tx.old.conn.now tx.new.conn.now result 1
-        (λ stored. list_any (is_of_three client.now zone.now row.now.sysmod) stored.rows ≡ false) }
+        (with_rows client.now zone.now rows.now) }
+    ensures takes { TakesRoom S.Store tx.old.conn.now tx.new.conn.now result (length rows.now)
+        (λ stored. AreNewRows client.now zone.now rows.now stored.rows) }
 {
-    let params = [
-        id_of(client),
-        id_of(zone),
-        id_of(&row.sysmod),
-        state_value(row.state),
-    ];
-    run_prepared(tx, statement, &params)
-}
-
-/// Three SYSMODs of a client's zone, by the statement that inserts three rows into `ZoneRow`.
-pub(crate) fn three_zone_rows<S: Alter>(
-    tx: &mut Transaction<'_, S>,
-    statement: &Statement,
-    client: &Id,
-    zone: &Id,
-    first: &ZoneRow,
-    second: &ZoneRow,
-    third: &ZoneRow,
-) -> Result<(), Error>
-    requires means { InsertsAlike S.Store tx.old.conn.now statement.now.text 7 2 2 3 }
-    ensures same { tx.new.conn.ghost_name ≡ tx.old.conn.ghost_name }
-    ensures changes { Alters S.Store tx.old.conn.now tx.new.conn.now result
-        (with_rows client.now zone.now (first.now ∷ second.now ∷ third.now ∷ [])) }
-    ensures takes { TakesRoom S.Store tx.old.conn.now tx.new.conn.now result 3
-        (λ stored. AreNewRows client.now zone.now (first.now ∷ second.now ∷ third.now ∷ []) stored.rows) }
-{
-    let params = [
-        id_of(client),
-        id_of(zone),
-        id_of(&first.sysmod),
-        state_value(first.state),
-        id_of(&second.sysmod),
-        state_value(second.state),
-        id_of(&third.sysmod),
-        state_value(third.state),
-    ];
-    run_prepared(tx, statement, &params)
+    let mut params = [id_of(client); 18];
+    params[1] = id_of(zone);
+    for at in 0..rows.len() {
+        let row = &rows[at];
+        params[2 * at + 2] = id_of(&row.sysmod);
+        params[2 * at + 3] = state_value(row.state);
+    }
+    run(
+        tx,
+        texts::zone_rows(rows.len()),
+        &params[..2 * rows.len() + 2],
+    )
 }
 
 /// What a client has received.

@@ -4,27 +4,16 @@ ghost use Rattle.std.specs.List.{AllByRecursion, list_all};
 ghost use Rattle.holddata.specs.declared.hold.HoldChange.TheVariants.{Put};
 ghost use Rattle.sql_tables.specs.Changes.{holds_changed, published};
 ghost use Rattle.sql_tables.specs.Fit.{IsFitChange, IsHold};
-ghost use Rattle.sql_writes.specs.Altering.{Alters, Inserts, InsertsAlike, TakesRoom};
+ghost use Rattle.sql_writes.specs.Altering.{Alters, Inserts, TakesRoom};
 ghost use Rattle.sql_writes.specs.Room.{are_short, is_short_change, rows_of_change};
 
 use crate::run::prepare;
-use crate::{delete, insert, load, texts};
+use crate::{delete, insert, load};
 use catalogue::Change;
 use holddata::{Hold, HoldChange};
 use sql_texts::write::TableById;
 use sqlite::{Alter, Error, Statement, Transaction};
 use std::alloc::Global;
-
-/// The statements that are prepared once for a publication.
-#[derive(Drop)]
-struct Prepared {
-    /// What inserts a row into `SysmodSup`.
-    one_sup: Statement,
-    /// What inserts four rows into it.
-    four_sups: Statement,
-    /// What inserts a row into `SysmodCond`.
-    conds: Statement,
-}
 
 /// The hold comes in place of one with its key.
 fn put_hold<S: Alter>(tx: &mut Transaction<'_, S>, hold: &Hold) -> Result<(), Error>
@@ -38,16 +27,14 @@ fn put_hold<S: Alter>(tx: &mut Transaction<'_, S>, hold: &Hold) -> Result<(), Er
     insert::hold(tx, hold)
 }
 
-/// One change: what it publishes comes in place of what stands there, or a hold goes.
+/// One change: what it publishes comes in place of what stands there, or a hold goes. `conds` inserts into `SysmodCond`.
 fn put_change<S: Alter>(
     alloc: Global,
     tx: &mut Transaction<'_, S>,
-    prepared: &Prepared,
+    conds: &Statement,
     change: &Change,
 ) -> Result<(), Error>
-    requires one_sup { Inserts S.Store tx.old.conn.now prepared.now.one_sup.text 4 2 }
-    requires four_sups { InsertsAlike S.Store tx.old.conn.now prepared.now.four_sups.text 4 1 1 4 }
-    requires conds { Inserts S.Store tx.old.conn.now prepared.now.conds.text 9 3 }
+    requires conds { Inserts S.Store tx.old.conn.now conds.now.text 9 3 }
     ensures same { tx.new.conn.ghost_name ≡ tx.old.conn.ghost_name }
     ensures changes { Alters S.Store tx.old.conn.now tx.new.conn.now result
         (λ stored. published stored change.now) }
@@ -59,14 +46,8 @@ fn put_change<S: Alter>(
         Change::Whole(sysmod) => {
             delete::by_id(tx, TableById::Sysmod, &sysmod.id)?;
             insert::sysmod(alloc, tx, sysmod)?;
-            load::superseded(
-                tx,
-                &prepared.one_sup,
-                &prepared.four_sups,
-                &sysmod.id,
-                sysmod.sup.as_slice(),
-            )?;
-            load::conditional(tx, &prepared.conds, &sysmod.id, sysmod.conds.as_slice())
+            load::superseded(tx, &sysmod.id, sysmod.sup.as_slice())?;
+            load::conditional(tx, conds, &sysmod.id, sysmod.conds.as_slice())
         }
         Change::OfHold(HoldChange::Put(hold)) => put_hold(tx, hold),
         Change::OfHold(HoldChange::Release(key)) => delete::hold(tx, key),
@@ -86,16 +67,9 @@ pub(crate) fn put_changes<S: Alter>(
         → TakesRoom S.Store tx.old.conn.now tx.new.conn.now result
         (sum_by rows_of_change changes.now) (λ stored. Unit {0}) }
 {
-    let one_sup = prepare(tx, TableById::SysmodSup.insertion())?;
-    let four_sups = prepare(tx, texts::four_sups())?;
     let conds = prepare(tx, TableById::SysmodCond.insertion())?;
-    let prepared = Prepared {
-        one_sup,
-        four_sups,
-        conds,
-    };
     for change in changes {
-        put_change(alloc, tx, &prepared, change)?;
+        put_change(alloc, tx, &conds, change)?;
     }
     Ok(())
 }

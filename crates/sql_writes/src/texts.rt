@@ -1,21 +1,97 @@
-//! The texts that insert several rows into one table at once.
+//! The texts that insert several rows into one table at once, and those that ask whether an id has rows.
 #![tactic(auto, unfolding(sqlite::specs::Listing::understood, sqlite_tied::specs::Compute::everything))]
 
-ghost use Rattle.sql_texts.specs.Meaning.{Means};
+ghost use Rattle.std.specs.Prelude.{◌<◌, ◌≤◌, ◌+◌, ◌*◌, ◌∷◌, []};
+ghost use Rattle.sql_texts.specs.Meaning.{Reads};
 ghost use Rattle.sql_texts.specs.Schema.{bureau};
-ghost use Rattle.sql_writes.specs.Many.{insert_alike};
+ghost use Rattle.sql_writes.specs.Asking.{id_name, ids_of};
+ghost use Rattle.sql_writes.specs.Many.{MeansBy, insert_alike, parameters_to};
 
-/// Four rows of what the record ?1 supersedes: each of ?2 to ?5.
-pub(crate) fn four_sups() -> &'static str
-    ensures { Means bureau result.now (insert_alike 4 1 1 4) 5 }
+use sql_texts::write::TableById;
+
+/// So many rows of what the record ?1 supersedes: ?2, ?3 and so on.
+pub(crate) fn sups(count: usize) -> &'static str
+    requires some { 0 < count }
+    requires few { count ≤ 8 }
+    ensures { MeansBy bureau result.now (insert_alike 4 1 1 count) (parameters_to (1 + 1 * count)) }
 {
-    "INSERT INTO sysmod_sup (id, member) VALUES (?1, ?2), (?1, ?3), (?1, ?4), (?1, ?5)"
+    match count {
+        1 => "INSERT INTO sysmod_sup (id, member) VALUES (?1, ?2)",
+        2 => "INSERT INTO sysmod_sup (id, member) VALUES (?1, ?2), (?1, ?3)",
+        3 => "INSERT INTO sysmod_sup (id, member) VALUES (?1, ?2), (?1, ?3), (?1, ?4)",
+        4 => "INSERT INTO sysmod_sup (id, member) VALUES (?1, ?2), (?1, ?3), (?1, ?4), (?1, ?5)",
+        5 => {
+            "INSERT INTO sysmod_sup (id, member) VALUES (?1, ?2), (?1, ?3), (?1, ?4), (?1, ?5), \
+             (?1, ?6)"
+        }
+        6 => {
+            "INSERT INTO sysmod_sup (id, member) VALUES (?1, ?2), (?1, ?3), (?1, ?4), (?1, ?5), \
+             (?1, ?6), (?1, ?7)"
+        }
+        7 => {
+            "INSERT INTO sysmod_sup (id, member) VALUES (?1, ?2), (?1, ?3), (?1, ?4), (?1, ?5), \
+             (?1, ?6), (?1, ?7), (?1, ?8)"
+        }
+        _ => {
+            "INSERT INTO sysmod_sup (id, member) VALUES (?1, ?2), (?1, ?3), (?1, ?4), (?1, ?5), \
+             (?1, ?6), (?1, ?7), (?1, ?8), (?1, ?9)"
+        }
+    }
 }
 
-/// Three rows of the zone ?2 of the client ?1: the SYSMODs ?3, ?5 and ?7 with their states ?4, ?6 and ?8.
-pub(crate) fn three_zone_rows() -> &'static str
-    ensures { Means bureau result.now (insert_alike 7 2 2 3) 8 }
+/// So many rows of the zone ?2 of the client ?1: the SYSMOD ?3 with its state ?4, ?5 with ?6 and so on.
+pub(crate) fn zone_rows(count: usize) -> &'static str
+    requires some { 0 < count }
+    requires few { count ≤ 8 }
+    ensures { MeansBy bureau result.now (insert_alike 7 2 2 count) (parameters_to (2 + 2 * count)) }
 {
-    "INSERT INTO zone_row (client, zone, sysmod, state) \
-     VALUES (?1, ?2, ?3, ?4), (?1, ?2, ?5, ?6), (?1, ?2, ?7, ?8)"
+    match count {
+        1 => "INSERT INTO zone_row (client, zone, sysmod, state) VALUES (?1, ?2, ?3, ?4)",
+        2 => {
+            "INSERT INTO zone_row (client, zone, sysmod, state) \
+             VALUES (?1, ?2, ?3, ?4), (?1, ?2, ?5, ?6)"
+        }
+        3 => {
+            "INSERT INTO zone_row (client, zone, sysmod, state) \
+             VALUES (?1, ?2, ?3, ?4), (?1, ?2, ?5, ?6), (?1, ?2, ?7, ?8)"
+        }
+        4 => {
+            "INSERT INTO zone_row (client, zone, sysmod, state) \
+             VALUES (?1, ?2, ?3, ?4), (?1, ?2, ?5, ?6), (?1, ?2, ?7, ?8), (?1, ?2, ?9, ?10)"
+        }
+        5 => {
+            "INSERT INTO zone_row (client, zone, sysmod, state) \
+             VALUES (?1, ?2, ?3, ?4), (?1, ?2, ?5, ?6), (?1, ?2, ?7, ?8), \
+             (?1, ?2, ?9, ?10), (?1, ?2, ?11, ?12)"
+        }
+        6 => {
+            "INSERT INTO zone_row (client, zone, sysmod, state) \
+             VALUES (?1, ?2, ?3, ?4), (?1, ?2, ?5, ?6), (?1, ?2, ?7, ?8), \
+             (?1, ?2, ?9, ?10), (?1, ?2, ?11, ?12), (?1, ?2, ?13, ?14)"
+        }
+        7 => {
+            "INSERT INTO zone_row (client, zone, sysmod, state) \
+             VALUES (?1, ?2, ?3, ?4), (?1, ?2, ?5, ?6), (?1, ?2, ?7, ?8), \
+             (?1, ?2, ?9, ?10), (?1, ?2, ?11, ?12), (?1, ?2, ?13, ?14), (?1, ?2, ?15, ?16)"
+        }
+        _ => {
+            "INSERT INTO zone_row (client, zone, sysmod, state) \
+             VALUES (?1, ?2, ?3, ?4), (?1, ?2, ?5, ?6), (?1, ?2, ?7, ?8), \
+             (?1, ?2, ?9, ?10), (?1, ?2, ?11, ?12), (?1, ?2, ?13, ?14), \
+             (?1, ?2, ?15, ?16), (?1, ?2, ?17, ?18)"
+        }
+    }
+}
+
+/// The id ?1, once for each of its rows.
+pub(crate) fn ids_of(table: TableById) -> &'static str
+    ensures { Reads bureau result.now (ids_of table) (id_name table ∷ []) 1 }
+{
+    match table {
+        TableById::LastChange => "SELECT caller FROM last_change WHERE caller = ?1",
+        TableById::Sysmod => "SELECT id FROM sysmod WHERE id = ?1",
+        TableById::SysmodSup => "SELECT id FROM sysmod_sup WHERE id = ?1",
+        TableById::SysmodCond => "SELECT id FROM sysmod_cond WHERE id = ?1",
+        TableById::ReceivedList => "SELECT client FROM received_list WHERE client = ?1",
+    }
 }

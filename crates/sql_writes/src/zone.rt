@@ -2,7 +2,7 @@
 ghost use Rattle.std.specs.Prelude.{◌≡◌, IfOk};
 ghost use Rattle.sql_tables.specs.Changes.{with_head};
 ghost use Rattle.sql_writes.specs.Altering.{Alters, TakesRoom};
-ghost use Rattle.sql_writes.specs.Running.{FindsHead};
+ghost use Rattle.sql_writes.specs.Asking.{FindsHead};
 
 use crate::insert;
 use crate::values::id_of;

@@ -2,7 +2,6 @@ use Rattle.std.proofs.Common.{refl}
 use Rattle.sqlite_value.specs.declared.value.ValueRef.TheVariants as lent
 use Rattle.sql_writes.proofs.ComeFacts.{changes_come}
 use Rattle.sql_writes.proofs.RoomFacts.{last_takes}
-use Rattle.sql_writes.proofs.TakeFacts.{takes_then}
 use Rattle.sql_writes.proofs.insert.last_change.Goals as goal
 
 pub returns-clause-changes : goal.returns-clause-changes

@@ -1,92 +1,60 @@
-use Rattle.std.proofs.Common.{◌+◌, ◌*◌, ◌/◌, ◌≡◌, sym, Err, Ok, ℕ, subst, take, ◌∙◌, arith}
-use Rattle.std.specs.Prelude.{length}
+use Rattle.std.proofs.Common.{◌+◌, ◌≡◌, Err, Ok, ℕ, arith, length, subst, take, ◌∙◌}
 use Rattle.sqlite.specs.Held.{state}
-use Rattle.sql_texts.specs.Meaning.{Means}
-use Rattle.sql_texts.specs.Schema.{bureau}
-use Rattle.sql_texts.specs.Writes.{insert_given}
 use Rattle.sql_writes.specs.Excused.{Takes}
-use Rattle.sql_writes.specs.Many.{insert_alike}
-use Rattle.sql_writes.specs.Parts.{with_rows, without_rows}
-use Rattle.sql_state.proofs.StopFacts.{was_clean}
-use Rattle.sql_writes.proofs.ChangeFacts.{changes_then, stopped}
-use Rattle.sql_writes.proofs.LoadFacts.{ended, more, rows_turn}
-use Rattle.sql_writes.proofs.LeaveFacts.{next_row}
-use Rattle.sql_writes.proofs.TakeFacts.{stopped_first, takes_as, takes_then}
+use Rattle.sql_writes.proofs.AlikeFacts.{part_is, part_length, parts_begun, parts_ended, parts_longer, parts_take}
+use Rattle.sql_writes.proofs.ChangeFacts.{stopped}
+use Rattle.sql_writes.proofs.TakeFacts.{stopped_first}
+use Rattle.sql_writes.specs.Parts.{is_of_three, with_rows, without_rows}
+use Rattle.sql_writes.proofs.ZoneRowFacts.{rows_come_so, rows_new}
 use Rattle.sql_writes.proofs.load.zone_rows.Goals as goal
-
-pub by_threes-requires : goal.by_threes-requires
-by_threes-requires g c = record {
-  means = λ clean. subst (λ text. Means bureau text (insert_alike 7 2 2 3) 8) (sym (c.in_ok-three.ensures.text clean)) c.three_zone_rows.ensures;
-}
 
 pub loop-at-init : goal.loop-at-init
 loop-at-init g c = record {
-  same = c.by_threes.ensures.same ∙ c.prepare-2.ensures.same ∙ c.prepare.ensures.same;
-  changes = changes_then _ _ _ c.in_ok-three.three (Ok tt) (λ stored. stored) (λ stored. with_rows c.args.client.now c.args.zone.now (take (3 * (length c.args.rows.now / 3)) c.args.rows.now) (without_rows c.args.client.now c.args.zone.now stored))
-      (changes_then _ _ _ c.in_ok-one.one (Ok c.in_ok-three.three) (λ stored. stored) (λ stored. stored) c.in_ok-one.ensures.changes c.in_ok-three.ensures.changes) c.in_ok-by_threes.ensures.changes;
-  takes = λ are. let even : 0 + 3 * (length c.args.rows.now / 3) ≡ 3 * (length c.args.rows.now / 3) = omega arith in takes_as _ _ (Ok tt) (λ stored. Unit {0}) even (takes_then _ _ _ c.in_ok-three.three (Ok tt) (λ stored. stored) 0 (3 * (length c.args.rows.now / 3)) (λ stored. Unit {0}) (λ stored. Unit {0}) (λ stored u. tt)
-      (changes_then _ _ _ c.in_ok-one.one (Ok c.in_ok-three.three) (λ stored. stored) (λ stored. stored) c.in_ok-one.ensures.changes c.in_ok-three.ensures.changes)
-      (takes_then _ _ _ c.in_ok-one.one (Ok c.in_ok-three.three) (λ stored. stored) 0 0 (λ stored. Unit {0}) (λ stored. Unit {0}) (λ stored u. tt)
-      c.in_ok-one.ensures.changes (c.in_ok-one.ensures.takes (insert_given 7 4) 4 c.insertion.ensures)
-      c.prepare-2.ensures.changes.survives (c.in_ok-three.ensures.takes (insert_alike 7 2 2 3) 8 c.three_zone_rows.ensures))
-      c.by_threes.ensures.changes.survives (c.in_ok-by_threes.ensures.takes are));
-  clean = λ clean. clean;
+  same = c.by_zone.ensures.same;
+  within = omega arith;
+  changes = parts_begun _ _ _ (rows_come_so c.args.client.now c.args.zone.now) (without_rows c.args.client.now c.args.zone.now) c.args.rows.now _ _ _ c.in_ok-by_zone.ensures.changes;
+  takes = λ are. c.in_ok-by_zone.ensures.takes;
 }
 
-pub zone_row-requires : goal.zone_row-requires
-zone_row-requires g c = record {
-  means = λ clean.
-      let third = was_clean _ _ _ c.in_ok-by_threes.ensures.changes.survives (c.loop-at.invariant.clean clean) in
-      let second = was_clean _ _ _ c.in_ok-three.ensures.changes.survives third in
-      subst (λ text. Means bureau text (insert_given 7 4) 4) (sym (c.in_ok-one.ensures.text second)) c.insertion.ensures;
-}
+pub zone_rows-requires : goal.zone_rows-requires
+zone_rows-requires g c =
+    let is = part_is c.loop-at.at (length c.args.rows.now) 8 c.min-count.result c.loop-at-test.true (omega arith) c.min-count.ensures in
+    let long = part_length c.loop-at.at c.min-count.result c.args.rows.now is.2 in
+    let some = is.0 in
+    let few = is.1 in
+    record { some = omega (arith, long, some); few = omega (arith, long, few) }
 
-pub returns-in_err-zone_row-clause-changes : goal.returns-in_err-zone_row-clause-changes
-returns-in_err-zone_row-clause-changes g c =
-    stopped _ _ _ tt _ _ (λ stored. with_rows c.args.client.now c.args.zone.now (take c.loop-at.at c.args.rows.now) (without_rows c.args.client.now c.args.zone.now stored)) _ _ c.from_residual-in_err-zone_row.ensures.0 c.loop-at.invariant.changes c.in_err-zone_row.ensures.changes
+pub returns-in_err-zone_rows-clause-changes : goal.returns-in_err-zone_rows-clause-changes
+returns-in_err-zone_rows-clause-changes g c =
+    stopped _ _ _ tt _ _ (λ stored. with_rows c.args.client.now c.args.zone.now (take c.loop-at.at c.args.rows.now) (without_rows c.args.client.now c.args.zone.now stored)) _ _ c.from_residual-in_err-zone_rows.ensures.0 c.loop-at.invariant.changes c.in_err-zone_rows.ensures.changes
 
 pub loop-at-preserved : goal.loop-at-preserved
-loop-at-preserved g c = record {
-  same = c.zone_row.ensures.same ∙ c.loop-at.invariant.same;
-  changes = more _ _ (λ rows stored. with_rows c.args.client.now c.args.zone.now rows (without_rows c.args.client.now c.args.zone.now stored)) (rows_turn c.args.client.now c.args.zone.now) c.args.rows.now _ _ _ tt _ c.loop-at.at c.index-rows-at.result c.loop-at-test.true c.index-rows-at.is
-      c.loop-at.invariant.changes c.in_ok-zone_row.ensures.changes;
-  takes = λ are. takes_then _ _ _ tt (Ok tt) (λ stored. with_rows c.args.client.now c.args.zone.now (take c.loop-at.at c.args.rows.now) (without_rows c.args.client.now c.args.zone.now stored)) c.loop-at.at 1 (λ stored. Unit {0}) _ (λ stored u. next_row c.args.client.now c.args.zone.now c.args.rows.now c.loop-at.at c.index-rows-at.result are c.loop-at-test.true c.index-rows-at.is stored)
-      c.loop-at.invariant.changes (c.loop-at.invariant.takes are) c.zone_row.ensures.changes.survives c.in_ok-zone_row.ensures.takes;
-  clean = λ clean. c.loop-at.invariant.clean (was_clean _ _ _ c.zone_row.ensures.changes.survives clean);
-}
+loop-at-preserved g c =
+    let is = part_is c.loop-at.at (length c.args.rows.now) 8 c.min-count.result c.loop-at-test.true (omega arith) c.min-count.ensures in record {
+      same = c.zone_rows.ensures.same ∙ c.loop-at.invariant.same;
+      within = is.2;
+      changes = parts_longer _ _ _ (rows_come_so c.args.client.now c.args.zone.now) (without_rows c.args.client.now c.args.zone.now) c.args.rows.now c.loop-at.at c.min-count.result _ _ _ (Ok tt) c.loop-at.invariant.changes c.in_ok-zone_rows.ensures.changes;
+      takes = λ are. parts_take _ _ _ (rows_come_so c.args.client.now c.args.zone.now) (without_rows c.args.client.now c.args.zone.now) c.args.rows.now (λ row. is_of_three c.args.client.now c.args.zone.now row.sysmod) (rows_new c.args.client.now c.args.zone.now c.args.rows.now are) c.loop-at.at c.min-count.result _ _ _ (Ok tt) is.2
+          c.loop-at.invariant.changes (c.loop-at.invariant.takes are) c.zone_rows.ensures.changes.survives c.in_ok-zone_rows.ensures.takes;
+    }
 
 pub returns-clause-changes : goal.returns-clause-changes
 returns-clause-changes g c =
-    ended _ _ (λ rows stored. with_rows c.args.client.now c.args.zone.now rows (without_rows c.args.client.now c.args.zone.now stored)) (rows_turn c.args.client.now c.args.zone.now) c.args.rows.now _ _ tt c.loop-at.at (omega (arith, c.loop-at-test.false)) c.loop-at.invariant.changes
+    parts_ended _ _ _ (rows_come_so c.args.client.now c.args.zone.now) (without_rows c.args.client.now c.args.zone.now) c.args.rows.now c.loop-at.at _ _ (omega (arith, c.loop-at-test.false)) c.loop-at.invariant.changes
 
-pub returns-in_err-one-clause-takes : goal.returns-in_err-one-clause-takes
-returns-in_err-one-clause-takes g c are =
-    stopped_first _ _ c.in_err-one.field-0.0 _ 0 _ (λ stored. Unit {0}) (λ stored. Unit {0}) c.from_residual.ensures.1 (λ stored u. tt) (c.in_err-one.ensures.takes (insert_given 7 4) 4 c.insertion.ensures) (omega arith)
+pub returns-in_err-by_zone-clause-takes : goal.returns-in_err-by_zone-clause-takes
+returns-in_err-by_zone-clause-takes g c are =
+    stopped_first _ _ c.in_err-by_zone.field-0.0 _ 0 _ (λ stored. Unit {0}) (λ stored. Unit {0}) c.from_residual.ensures.1 (λ stored u. tt) c.in_err-by_zone.ensures.takes (omega arith)
 
-pub returns-in_err-three-clause-takes : goal.returns-in_err-three-clause-takes
-returns-in_err-three-clause-takes g c are =
-    stopped_first _ _ c.in_err-three.field-0.0 _ 0 _ (λ stored. Unit {0}) (λ stored. Unit {0}) c.from_residual-in_err-three.ensures.1 (λ stored u. tt)
-    (takes_then _ _ _ c.in_ok-one.one (Err c.in_err-three.field-0.0) (λ stored. stored) 0 0 (λ stored. Unit {0}) (λ stored. Unit {0}) (λ stored u. tt) c.in_ok-one.ensures.changes (c.in_ok-one.ensures.takes (insert_given 7 4) 4 c.insertion.ensures)
-    c.prepare-2.ensures.changes.survives (c.in_err-three.ensures.takes (insert_alike 7 2 2 3) 8 c.three_zone_rows.ensures)) (omega arith)
-
-pub returns-in_err-by_threes-clause-takes : goal.returns-in_err-by_threes-clause-takes
-returns-in_err-by_threes-clause-takes g c are =
-    stopped_first _ _ c.in_err-by_threes.field-0.0 _ (0 + 3 * (length c.args.rows.now / 3)) _ (λ stored. Unit {0}) (λ stored. Unit {0}) c.from_residual-in_err-by_threes.ensures.1 (λ stored u. tt)
-    (takes_then _ _ _ c.in_ok-three.three (Err c.in_err-by_threes.field-0.0) (λ stored. stored) 0 (3 * (length c.args.rows.now / 3)) (λ stored. Unit {0}) (λ stored. Unit {0}) (λ stored u. tt)
-    (changes_then _ _ _ c.in_ok-one.one (Ok c.in_ok-three.three) (λ stored. stored) (λ stored. stored) c.in_ok-one.ensures.changes c.in_ok-three.ensures.changes)
-    (takes_then _ _ _ c.in_ok-one.one (Ok c.in_ok-three.three) (λ stored. stored) 0 0 (λ stored. Unit {0}) (λ stored. Unit {0}) (λ stored u. tt)
-    c.in_ok-one.ensures.changes (c.in_ok-one.ensures.takes (insert_given 7 4) 4 c.insertion.ensures)
-    c.prepare-2.ensures.changes.survives (c.in_ok-three.ensures.takes (insert_alike 7 2 2 3) 8 c.three_zone_rows.ensures))
-    c.by_threes.ensures.changes.survives (c.in_err-by_threes.ensures.takes are)) (omega arith)
-
-pub returns-in_err-zone_row-clause-takes : goal.returns-in_err-zone_row-clause-takes
-returns-in_err-zone_row-clause-takes g c are =
-    stopped_first _ _ c.in_err-zone_row.field-0.0 _ (c.loop-at.at + 1) _ (λ stored. Unit {0}) (λ stored. Unit {0}) c.from_residual-in_err-zone_row.ensures.1 (λ stored u. tt)
-    (takes_then _ _ _ tt (Err c.in_err-zone_row.field-0.0) (λ stored. with_rows c.args.client.now c.args.zone.now (take c.loop-at.at c.args.rows.now) (without_rows c.args.client.now c.args.zone.now stored)) c.loop-at.at 1 (λ stored. Unit {0}) _ (λ stored u. next_row c.args.client.now c.args.zone.now c.args.rows.now c.loop-at.at c.index-rows-at.result are c.loop-at-test.true c.index-rows-at.is stored)
-    c.loop-at.invariant.changes (c.loop-at.invariant.takes are) c.zone_row.ensures.changes.survives c.in_err-zone_row.ensures.takes)
-    (omega (arith, c.loop-at-test.true))
+pub returns-in_err-zone_rows-clause-takes : goal.returns-in_err-zone_rows-clause-takes
+returns-in_err-zone_rows-clause-takes g c are =
+    let is = part_is c.loop-at.at (length c.args.rows.now) 8 c.min-count.result c.loop-at-test.true (omega arith) c.min-count.ensures in
+    stopped_first _ _ c.in_err-zone_rows.field-0.0 _ (c.loop-at.at + c.min-count.result) _ (λ stored. Unit {0}) (λ stored. Unit {0}) c.from_residual-in_err-zone_rows.ensures.1 (λ stored u. tt)
+    (parts_take _ _ _ (rows_come_so c.args.client.now c.args.zone.now) (without_rows c.args.client.now c.args.zone.now) c.args.rows.now (λ row. is_of_three c.args.client.now c.args.zone.now row.sysmod) (rows_new c.args.client.now c.args.zone.now c.args.rows.now are) c.loop-at.at c.min-count.result _ _ _ (Err c.in_err-zone_rows.field-0.0) is.2
+    c.loop-at.invariant.changes (c.loop-at.invariant.takes are) c.zone_rows.ensures.changes.survives c.in_err-zone_rows.ensures.takes)
+    is.2
 
 pub returns-clause-takes : goal.returns-clause-takes
 returns-clause-takes g c are =
-    let all_done : c.loop-at.at ≡ length c.args.rows.now = omega (arith, c.loop-at-test.false, c.loop-at.auto.at-end) in
-    subst (λ (n : ℕ). Takes {Answer = Unit {0}} (state g.S.Store c.args.tx.now.conn.now) (state g.S.Store c.loop-at.tx.conn.now) (Ok tt) n (λ stored. Unit {0})) all_done (c.loop-at.invariant.takes are)
+    let ended : c.loop-at.at ≡ length c.args.rows.now = omega (arith, c.loop-at-test.false, c.loop-at.invariant.within) in
+    subst (λ (n : ℕ). Takes {Answer = Unit {0}} (state g.S.Store c.args.tx.now.conn.now) (state g.S.Store c.loop-at.tx.conn.now) (Ok tt) n (λ stored. Unit {0})) ended (c.loop-at.invariant.takes are)

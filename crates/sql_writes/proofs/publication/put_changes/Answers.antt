@@ -7,42 +7,25 @@ use Rattle.sql_writes.specs.Room.{is_short_change, rows_of_change}
 use Rattle.sql_texts.specs.Meaning.{Means}
 use Rattle.sql_texts.specs.Schema.{bureau}
 use Rattle.sql_texts.specs.Writes.{insert_given}
-use Rattle.sql_writes.specs.Many.{insert_alike}
 use Rattle.std.specs.Prelude.{fold, sum_by}
 use Rattle.sql_tables.specs.Changes.{published}
 use Rattle.sql_state.proofs.StopFacts.{was_clean}
-use Rattle.sql_writes.proofs.ChangeFacts.{changes_then, stopped}
+use Rattle.sql_writes.proofs.ChangeFacts.{stopped}
 use Rattle.sql_writes.proofs.LoadFacts.{begun, ended, more, published_turn}
 use Rattle.sql_writes.proofs.TakeFacts.{element, element_passes, fewer_rows, more_rows, stopped_first, takes_as, takes_then, takes_told}
 use Rattle.sql_writes.proofs.publication.put_changes.Goals as goal
 
 pub loop-change-init : goal.loop-change-init
 loop-change-init g c = record {
-  same = c.prepare-3.ensures.same ∙ c.prepare-2.ensures.same ∙ c.prepare.ensures.same;
-  changes = begun _ _ (λ changes stored. fold published stored changes) (published_turn) c.args.changes.now _ _ _ tt
-      (changes_then _ _ _ c.in_ok-four_sups.four_sups (Ok c.in_ok-conds.conds) (λ stored. stored) (λ stored. stored)
-      (changes_then _ _ _ c.in_ok-one_sup.one_sup (Ok c.in_ok-four_sups.four_sups) (λ stored. stored) (λ stored. stored) c.in_ok-one_sup.ensures.changes c.in_ok-four_sups.ensures.changes)
-      c.in_ok-conds.ensures.changes);
-  takes = λ fits short. takes_told _ _ c.in_ok-conds.conds tt 0 (λ stored. Unit {0})
-      (takes_then _ _ _ c.in_ok-four_sups.four_sups (Ok c.in_ok-conds.conds) (λ stored. stored) 0 0 (λ stored. Unit {0}) (λ stored. Unit {0}) (λ stored u. tt)
-      (changes_then _ _ _ c.in_ok-one_sup.one_sup (Ok c.in_ok-four_sups.four_sups) (λ stored. stored) (λ stored. stored) c.in_ok-one_sup.ensures.changes c.in_ok-four_sups.ensures.changes)
-      (takes_then _ _ _ c.in_ok-one_sup.one_sup (Ok c.in_ok-four_sups.four_sups) (λ stored. stored) 0 0 (λ stored. Unit {0}) (λ stored. Unit {0}) (λ stored u. tt)
-      c.in_ok-one_sup.ensures.changes (c.in_ok-one_sup.ensures.takes (insert_given 4 2) 2 c.insertion.ensures)
-      c.prepare-2.ensures.changes.survives (c.in_ok-four_sups.ensures.takes (insert_alike 4 1 1 4) 5 c.four_sups.ensures))
-      c.prepare-3.ensures.changes.survives (c.in_ok-conds.ensures.takes (insert_given 9 3) 3 c.insertion-2.ensures));
+  same = c.prepare.ensures.same;
+  changes = begun _ _ (λ changes stored. fold published stored changes) (published_turn) c.args.changes.now _ _ _ tt c.in_ok-conds.ensures.changes;
+  takes = λ fits short. takes_told _ _ c.in_ok-conds.conds tt 0 (λ stored. Unit {0}) (c.in_ok-conds.ensures.takes (insert_given 9 3) 3 c.insertion.ensures);
   clean = λ clean. clean;
 }
 
 pub put_change-requires : goal.put_change-requires
 put_change-requires g c = record {
-  one_sup = λ clean.
-      let third = was_clean _ _ _ c.in_ok-conds.ensures.changes.survives (c.loop-change.invariant.clean clean) in
-      let second = was_clean _ _ _ c.in_ok-four_sups.ensures.changes.survives third in
-      subst (λ text. Means bureau text (insert_given 4 2) 2) (sym (c.in_ok-one_sup.ensures.text second)) c.insertion.ensures;
-  four_sups = λ clean.
-      let third = was_clean _ _ _ c.in_ok-conds.ensures.changes.survives (c.loop-change.invariant.clean clean) in
-      subst (λ text. Means bureau text (insert_alike 4 1 1 4) 5) (sym (c.in_ok-four_sups.ensures.text third)) c.four_sups.ensures;
-  conds = λ clean. subst (λ text. Means bureau text (insert_given 9 3) 3) (sym (c.in_ok-conds.ensures.text (c.loop-change.invariant.clean clean))) c.insertion-2.ensures;
+  conds = λ clean. subst (λ text. Means bureau text (insert_given 9 3) 3) (sym (c.in_ok-conds.ensures.text (c.loop-change.invariant.clean clean))) c.insertion.ensures;
 }
 
 pub returns-in_err-put_change-clause-changes : goal.returns-in_err-put_change-clause-changes
@@ -66,25 +49,9 @@ pub returns-clause-changes : goal.returns-clause-changes
 returns-clause-changes g c =
     ended _ _ (λ changes stored. fold published stored changes) (published_turn) c.args.changes.now _ _ tt c.loop-change.change-index (omega (arith, c.loop-change-test.false)) c.loop-change.invariant.changes
 
-pub returns-in_err-one_sup-clause-takes : goal.returns-in_err-one_sup-clause-takes
-returns-in_err-one_sup-clause-takes g c fits short =
-    stopped_first _ _ c.in_err-one_sup.field-0.0 _ 0 _ (λ stored. Unit {0}) (λ stored. Unit {0}) c.from_residual.ensures.1 (λ stored u. tt) (c.in_err-one_sup.ensures.takes (insert_given 4 2) 2 c.insertion.ensures) (omega arith)
-
-pub returns-in_err-four_sups-clause-takes : goal.returns-in_err-four_sups-clause-takes
-returns-in_err-four_sups-clause-takes g c fits short =
-    stopped_first _ _ c.in_err-four_sups.field-0.0 _ 0 _ (λ stored. Unit {0}) (λ stored. Unit {0}) c.from_residual-in_err-four_sups.ensures.1 (λ stored u. tt)
-    (takes_then _ _ _ c.in_ok-one_sup.one_sup (Err c.in_err-four_sups.field-0.0) (λ stored. stored) 0 0 (λ stored. Unit {0}) (λ stored. Unit {0}) (λ stored u. tt) c.in_ok-one_sup.ensures.changes (c.in_ok-one_sup.ensures.takes (insert_given 4 2) 2 c.insertion.ensures)
-    c.prepare-2.ensures.changes.survives (c.in_err-four_sups.ensures.takes (insert_alike 4 1 1 4) 5 c.four_sups.ensures)) (omega arith)
-
 pub returns-in_err-conds-clause-takes : goal.returns-in_err-conds-clause-takes
 returns-in_err-conds-clause-takes g c fits short =
-    stopped_first _ _ c.in_err-conds.field-0.0 _ 0 _ (λ stored. Unit {0}) (λ stored. Unit {0}) c.from_residual-in_err-conds.ensures.1 (λ stored u. tt)
-    (takes_then _ _ _ c.in_ok-four_sups.four_sups (Err c.in_err-conds.field-0.0) (λ stored. stored) 0 0 (λ stored. Unit {0}) (λ stored. Unit {0}) (λ stored u. tt)
-    (changes_then _ _ _ c.in_ok-one_sup.one_sup (Ok c.in_ok-four_sups.four_sups) (λ stored. stored) (λ stored. stored) c.in_ok-one_sup.ensures.changes c.in_ok-four_sups.ensures.changes)
-    (takes_then _ _ _ c.in_ok-one_sup.one_sup (Ok c.in_ok-four_sups.four_sups) (λ stored. stored) 0 0 (λ stored. Unit {0}) (λ stored. Unit {0}) (λ stored u. tt)
-    c.in_ok-one_sup.ensures.changes (c.in_ok-one_sup.ensures.takes (insert_given 4 2) 2 c.insertion.ensures)
-    c.prepare-2.ensures.changes.survives (c.in_ok-four_sups.ensures.takes (insert_alike 4 1 1 4) 5 c.four_sups.ensures))
-    c.prepare-3.ensures.changes.survives (c.in_err-conds.ensures.takes (insert_given 9 3) 3 c.insertion-2.ensures)) (omega arith)
+    stopped_first _ _ c.in_err-conds.field-0.0 _ 0 _ (λ stored. Unit {0}) (λ stored. Unit {0}) c.from_residual.ensures.1 (λ stored u. tt) (c.in_err-conds.ensures.takes (insert_given 9 3) 3 c.insertion.ensures) (omega arith)
 
 pub returns-in_err-put_change-clause-takes : goal.returns-in_err-put_change-clause-takes
 returns-in_err-put_change-clause-takes g c fits short =

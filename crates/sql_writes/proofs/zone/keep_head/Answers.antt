@@ -1,5 +1,5 @@
 use Rattle.std.proofs.Common.{◌∙◌, arith, refl}
-use Rattle.sql_writes.proofs.AskFacts.{head_added}
+use Rattle.sql_writes.proofs.FindFacts.{head_added}
 use Rattle.sql_writes.proofs.ChangeFacts.{refused}
 use Rattle.sql_writes.proofs.TakeFacts.{stopped_first, takes_here, takes_more, takes_told}
 use Rattle.sql_writes.proofs.zone.keep_head.Goals as goal
