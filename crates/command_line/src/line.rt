@@ -25,9 +25,9 @@ pub enum Line {
         store: String,
         callers: String,
     },
-    /// `serve --port P --cache N --connections K --open M --log STORE`: K connections to a port of 127.0.0.1, 1 to 65,535, are
-    /// served side by side over the store in a file. N frames at most are kept, 1 to 65,536, K is 1 to 1,000,000, and M of
-    /// them at most are open at once, 1 to 8,192. A log is kept where `--log` is given.
+    /// `serve --port P --cache N --connections K --open M --log STORE`: K connections to a port of 127.0.0.1, 1 to
+    /// 65,535, are served side by side over the store in a file. N frames at most are kept, 1 to 65,536, K is 1 to
+    /// 1,000,000, and M of them at most are open at once, 1 to 8,192. A log is kept where `--log` is given.
     Serve {
         port: u16,
         cache: u32,

@@ -202,7 +202,8 @@ fn read_given<S: Files, I: Read>(
     }
 }
 
-// What stands in a file, or in standard input where the name is `-`: all of it, or one byte more than an input may have.
+// What stands in a file, or in standard input where the name is `-`: all of it, or one byte more than an input may
+// have.
 fn read_one<S: Files, I: Read>(
     surroundings: &S,
     alloc: Global,

@@ -10,8 +10,8 @@ use transfer::read_source;
 
 /// The files that a run may name.
 ///
-/// Those of a system tell nothing of what they have. Others, as a list of files, can tell all of it. So what is proved of
-/// every `Files` says which files a run reads.
+/// Those of a system tell nothing of what they have. Others, as a list of files, can tell all of it. So what is
+/// proved of every `Files` says which files a run reads.
 pub trait Files {
     type File: Read + Drop;
 

@@ -1,19 +1,15 @@
 -- Texts of which a front part was written.
-use Rattle.std.proofs.Common.{◌≡◌, ◌⊎◌, inl, inr, ℕ, ◌+◌, ◌≤◌, Bool, true, false, List, ◌++◌, length, take, nat_le, Option, refl, sym, ◌∙◌, subst, arith}
+use Rattle.std.proofs.Common.{◌≡◌, inl, inr, ℕ, ◌+◌, List, ◌++◌, length, take, nat_le, Option, refl, sym, ◌∙◌, subst, arith}
 use Rattle.std.proofs.KnownBytes.{Appends-trans}
 use Rattle.std.proofs.Math.Seq.{take-append-add}
-use Rattle.std.proofs.lemmas.Bool.Decides.{nat_tests}
 use Rattle.std.proofs.lemmas.List.{take-append-le, take_all}
 use Rattle.std.specs.Io.KnownBytes.{Appends}
+use Rattle.lemmas.proofs.TestFacts.{either_order}
 use Rattle.transfer.specs.Transfer.{AppendsFront}
-
-order : (t : Bool) (a b : ℕ) → nat_le a b ≡ t → (a ≤ b) ⊎ (b ≤ a)
-order true a b h = inl (grind (arith, nat_tests))
-order false a b h = inr (grind (arith, nat_tests))
 
 -- a front of a text is a front of more
 front_of_more : (n : ℕ) (text more : List ℕ) → (m : ℕ) × (take m (text ++ more) ≡ take n text)
-front_of_more n text more = elim (order (nat_le n (length text)) n (length text) refl) [
+front_of_more n text more = elim (either_order (nat_le n (length text)) n (length text) refl) [
   | inl h ↦ (n, take-append-le n text more h)
   | inr h ↦ (length text, take-append-le (length text) text more (omega arith) ∙ take_all (length text) text (omega arith) ∙ sym (take_all n text h))
 ]
