@@ -4,7 +4,7 @@
 Into a new store go a publication of 30,000 SYSMODs with 60,000 holds, a zone of 10,000 rows, and 200 changes of one row each, over
 HTTP on one kept connection; then the desk is started again. It does so in turns with each program, five times, and prints the
 medians in seconds, and the least in brackets. Each program is also started over files that a kill of each other one has left.
-Without programs it makes the four: copies of this repository in which `main` names `Unknown` or `Wary`, and `connect` asks for sums
+Without programs it makes the four: copies of this repository in which `main` names `Unknown` or `Wary`, and `open_database` asks for sums
 or not, each proved and built by `rt run` (minutes each, where the crates below are proved).
 
     --folder FOLDER    the disk that is measured (the folder for temporary files)
@@ -45,7 +45,7 @@ def built(folder):
         for sums in SUMS:
             name = "%s, %s" % (reading, SUMS[sums])
             change(os.path.join(crate, "src", "main.rt"), READINGS, reading)
-            change(os.path.join(crate, "src", "system.rt"), ["name, %s, start" % each for each in SUMS], "name, %s, start" % sums)
+            change(os.path.join(crate, "src", "database.rt"), ["options, %s)" % each for each in SUMS], "options, %s)" % sums)
             subprocess.run(["rt", "run"], cwd=crate, stdin=subprocess.DEVNULL, stdout=subprocess.DEVNULL)
             programs[name] = shutil.move(os.path.join(crate, "out", "bureau_main"), os.path.join(folder, name.replace(", ", "-").replace(" ", "-")))
     return programs

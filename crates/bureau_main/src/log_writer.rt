@@ -21,8 +21,8 @@ pub(crate) enum LogWriter {
 }
 
 impl LogWriter {
-    /// Standard error as it is now. None where it is closed: what is opened next may get its descriptor, so this is asked
-    /// before any file is opened. None too where a pipe can't be opened anew.
+    /// Standard error as it is now. None where it is closed: what is opened next may get its descriptor, so this is
+    /// asked before any file is opened. None too where a pipe can't be opened anew.
     pub(crate) fn of_stderr(rt: &HostRuntime) -> Option<LogWriter> {
         let stderr = rt.stderr();
         let Ok(copy) = stderr.as_fd().try_clone_to_owned() else {

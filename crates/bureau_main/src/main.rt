@@ -1,6 +1,7 @@
 //! The program: a run over the system's own words, files, ports and streams.
 #![tactic(auto)]
 
+mod database;
 mod log_writer;
 mod system;
 

@@ -1,6 +1,7 @@
 //! What the system gives a run: words, files, connections to a port, random keys and clocks.
 ghost use Rattle.std.specs.Prelude.{◌≡◌, ◌≢◌, ◌⊎◌};
 
+use crate::database::{names_a_file, open_database};
 use crate::log_writer::LogWriter;
 use bureau_program::Surroundings;
 use bureau_store::StoreFault;
@@ -108,7 +109,7 @@ impl Stores for System<'_> {
                 let _made = make_private(self.rt, name);
             }
         }
-        match Connection::open_from(self.rt, name, false, start) {
+        match open_database(self.rt, name, start) {
             Ok(conn) => Ok(conn),
             Err((error, Some(left))) => Err((fault_of(error), Ended::Left(left))),
             Err((error, None)) => Err((fault_of(error), Ended::Nothing)),
@@ -164,11 +165,6 @@ fn is_missing(rt: &HostRuntime, name: &str) -> bool {
         }
         _ => false,
     }
-}
-
-// Whether SQLite takes a name as that of a file, and not as a database in memory or an address.
-fn names_a_file(name: &str) -> bool {
-    name != ":memory:" && !name.starts_with("file:")
 }
 
 // Makes an empty file that its owner alone may read and write, whatever the umask is. The log of a store is made as
