@@ -1,10 +1,10 @@
 #!/usr/bin/env python3
 """Times the served store beside python's sqlite3 and nginx, side by side in one run.
 
-    store.py [publication zone small start zones reports]
+    store.py [publication zone small start zones reports first same]
 
 Without names it times all of it. The program is crates/bureau_main/out/bureau_main, or the one that BUREAU_PROGRAM
-names. nginx and wrk are needed for `zones` alone: a client in Python would measure itself. Each figure is the best of three runs
+names. `same` publishes the file that BUREAU_PUBLICATION names, where it names one. nginx and wrk are needed for `zones` alone: a client in Python would measure itself. Each figure is the best of three runs
 in turns, in seconds or as it says.
 """
 import http.client
@@ -73,6 +73,12 @@ class Desk:
         """The peak of its memory, in MB."""
         with open("/proc/%d/status" % self.process.pid) as status:
             return next(int(line.split()[1]) for line in status if line.startswith("VmHWM")) / 1024
+
+    def processor(self):
+        """The processor's time that it took so far, in seconds."""
+        with open("/proc/%d/stat" % self.process.pid) as stat:
+            fields = stat.read().rsplit(")", 1)[1].split()
+        return (int(fields[11]) + int(fields[12])) / os.sysconf("SC_CLK_TCK")
 
     def end(self):
         self.connection.close()
@@ -171,6 +177,56 @@ def one_publication(count, superseded):
               count, superseded * count, 2 * count, mine, deleting, mine / deleting, inserting, mine / inserting, max(peaks), len(text) / 1e6))
 
 
+def rows_of(store):
+    """The rows of a desk's own file, table by table, as it has them."""
+    conn = sqlite3.connect(store)
+    names = [name for (name,) in conn.execute("SELECT name FROM sqlite_schema WHERE type = 'table'")]
+    found = {name: conn.execute("SELECT * FROM %s" % name).fetchall() for name in names}
+    conn.close()
+    return {name: rows for name, rows in found.items() if rows}
+
+
+def python_rows(found):
+    """Inserts these rows by prepared statements in one transaction, into tables with the desk's indexes and settings."""
+    conn = tables()
+    for name in found:
+        conn.execute("DELETE FROM %s" % name)
+    began = time.monotonic()
+    conn.execute("BEGIN")
+    for name, rows in found.items():
+        text = "INSERT INTO %s VALUES (%s)" % (name, ", ".join("?" * len(rows[0])))
+        for row in rows:
+            conn.execute(text, row)
+    conn.execute("COMMIT")
+    took = time.monotonic() - began
+    conn.close()
+    return took
+
+
+def same():
+    """A publication beside a program that inserts the very rows that it leaves, and nothing else."""
+    path = os.environ.get("BUREAU_PUBLICATION")
+    if not path:
+        return
+    with open(path, "rb") as source:
+        text = source.read()
+    stores = []
+
+    def ours():
+        desk = Desk("same%d" % next(fresh))
+        took = desk.timed("POST", "/publish", PUBLISHER, 1, text)
+        stores.append((desk.store, os.path.getsize(desk.store + "-wal")))
+        desk.end()
+        return took
+
+    ours()
+    found = rows_of(stores[0][0])
+    mine, theirs = least(ours, lambda: python_rows(found))
+    print("%s: %d rows: %.2f; python's sqlite3, inserts alone %.2f: %.2f times; log %.1f MB, database %.1f MB" % (
+        os.path.basename(path), sum(map(len, found.values())), mine, theirs, mine / theirs, stores[-1][1] / 1e6,
+        os.path.getsize(stores[0][0]) / 1e6))
+
+
 def a_zone(count=40000):
     text = zone(count)
 
@@ -254,13 +310,33 @@ def reports():
         desk.end()
 
 
+def first(count=30000, rows=10000):
+    """Reports of a large zone: the first of a desk, later ones, and the first after a publication of one PTF, by processor time. Each
+    of its SYSMODs is held in error, and a PTF resolves that which isn't installed. So all that is catalogued has to be looked over."""
+    desk = Desk("first%d" % next(fresh))
+    held = ["++HOLD(U%d) ERROR FMID(HBB7790) REASON(A%d)." % (i, rows + i) for i in range(rows - 1)]
+    desk.ask("POST", "/publish", PUBLISHER, 1, statements(count) + "\n".join(held + [""]).encode())
+    desk.ask("PUT", "/zones/TGT1", ALPHA, 1, zone(rows))
+    path, shown = "/zones/TGT1/errsysmods", []
+    desk.ask("GET", "/zones", ALPHA)
+    for name, number in (("first", None), ("warm", None), ("warm", None), ("after one PTF", 2), ("after one PTF", 3), ("warm", None)):
+        if number:
+            ptf = b"++PTF(N%d).\n++VER(Z038) FMID(HBB7790) PRE(U1) SUP(M%d).\n++HOLD(U%d) ERROR FMID(HBB7790) REASON(M%d).\n"
+            desk.ask("POST", "/publish", PUBLISHER, number, ptf % (number, number, number, number))
+        before = desk.processor()
+        desk.ask("GET", path, ALPHA)
+        shown.append("%s %.0f ms" % (name, 1e3 * (desk.processor() - before)))
+    print("%d SYSMODs, a zone of %d rows, exception reports: %s; peak %.0f MB" % (count, rows, ", ".join(shown), desk.peak()))
+    desk.end()
+
+
 def start():
     desk = filled(200000)
     print("LISTENING at 200,000 rows: %.2f s, peak %.0f MB" % (desk.began, desk.peak()))
     desk.end()
 
 
-PARTS = {"publication": publication, "zone": a_zone, "small": small, "start": start, "zones": zones, "reports": reports}
+PARTS = {"publication": publication, "zone": a_zone, "small": small, "start": start, "zones": zones, "reports": reports, "first": first, "same": same}
 try:
     for name in sys.argv[1:] or PARTS:
         PARTS[name]()
