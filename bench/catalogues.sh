@@ -24,8 +24,9 @@ cp "$top/HANDLES" "$work/"
 cd "$work/crates/catalogue_runs"
 cp -a "$top/crates/verdict_tests/src" src
 # The drawn runs alone, and what they are written with.
-sed -i -E '/^mod /{/^mod (chain_cache_tests|chains_tests|content|print);$/!d}' src/tests.rt
+sed -i -E '/^mod /{/^mod (chain_cache_tests|chains_tests|content|print|sequence);$/!d}' src/tests.rt
 sed -i -E '/^mod /{/^mod random;$/!d}' src/tests/chain_cache_tests.rt
+find src/tests -name '*.rt' | grep -vE '/(chain_cache_tests|chains_tests|content|print|sequence)\.rt$|/chain_cache_tests/random\.rt$|/chains_tests/' | xargs rm
 drawn=src/tests/chain_cache_tests/random.rt
 sed -i "s/const RUNS: u32 = .*;/const RUNS: u32 = $runs;/; s/Draws::new(20_261_124)/Draws::new($seed)/" "$drawn"
 grep -q "RUNS: u32 = $runs;" "$drawn"
