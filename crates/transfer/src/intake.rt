@@ -47,23 +47,6 @@ impl Intake {
         }
     }
 
-    /// No bytes, with room for as many as this, where there is so much room in one piece.
-    ///
-    /// A system gives memory to room as it is written to. So wide room takes none before bytes come in, and none of
-    /// these is moved for the next ones.
-    pub fn with_room(alloc: Global, most: usize) -> Intake
-        ensures { result ≡ [] }
-    {
-        match Vec::with_capacity(alloc, most) {
-            Ok(room) => Intake {
-                room,
-                start: 0,
-                end: 0,
-            },
-            Err(_) => Intake::new(alloc),
-        }
-    }
-
     /// The bytes.
     pub fn bytes(&self) -> &[u8]
         ensures { result.now ≡ self.now }

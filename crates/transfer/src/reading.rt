@@ -13,11 +13,6 @@ use std::io::{self, ErrorKind, Read};
 /// How often interrupted calls are made again, in one transfer.
 pub const RETRIES: u32 = 64;
 
-// How many bytes a source has room for from the beginning, where it may have so many: one more than most sources
-// may have. Room of that size comes from the system itself, and goes back there. So it leaves no gaps between what
-// else stands in memory, as growth does.
-const WIDE: usize = 67_108_865;
-
 /// Reads `limit` bytes, or all that there are where that is less, and never asks for more.
 ///
 /// # Errors
@@ -40,7 +35,7 @@ pub fn read_source<R: Read>(
     ensures given_up { IfErr result (λ fault. IsGivenUp fault retries.new) }
     ensures counted { retries.new ≤ retries.old }
 {
-    let mut source = Intake::with_room(alloc, limit.min(WIDE));
+    let mut source = Intake::new(alloc);
     while source.len() < limit {
         let wanted = limit - source.len();
         if source.read_more(reader, wanted, retries)? == 0 {
