@@ -17,10 +17,10 @@ use Rattle.supersede.specs.Reach.{has}
 use Rattle.zone_lists.specs.Installed.{is_installed, is_listed}
 use Rattle.zone_lists.specs.declared.zones.ZoneRow.{ZoneRow}
 use Rattle.requisites.specs.Leads.{Leads}
-use Rattle.requisites.specs.Nodes.{Links, mark_of, row}
+use Rattle.requisites.specs.Nodes.{Links}
 use Rattle.requisites.specs.Sources.{AreLeastSources, HasSource, source_of}
 use Rattle.requisites.proofs.SourceFacts.{marked_inside}
-use Rattle.chains.specs.Indices.{AreSeen, AreIndicesOf, AreThere, InstalledAt, IsAt, IsThereAt, MarksAre, RowsAre, SeenAs}
+use Rattle.chains.specs.Indices.{AreSeen, AreIndicesOf, AreThere, InstalledAt, IsAt, IsSupSeen, IsThereAt, MarksAre, RowsAre, SeenAs}
 use Rattle.chains.specs.Sights.{IsSeen, Sight, all_needs, needs_seen}
 use Rattle.chains.proofs.OrderFacts.{not_above_itself, not_below_itself}
 
@@ -153,26 +153,20 @@ length-push xs x = grind (arith, common_steps)
 pub rows_none : (P : ℕ → List ℕ → Type 0) (rows : List (List ℕ)) → rows ≡ [] → RowsAre P 0 rows
 rows_none P rows is = record { len = ap length is; each = λ p below. absurd (omega (arith, below)) }
 
-row_before : (lists : List (List ℕ)) (v : List ℕ) (p : ℕ) → p < length lists → row (lists ++ v ∷ []) p ≡ row lists p
-row_before lists v p h = get_or_append_left lists (v ∷ []) [] p h
-
-row_last : (lists : List (List ℕ)) (v : List ℕ) (p : ℕ) → p ≡ length lists → row (lists ++ v ∷ []) p ≡ v
-row_last lists v p e = get_or_push lists v [] p (sym e)
+-- what holds of each of n, and of one more, holds of all
+pub each_more : {X : Type 0} (P : ℕ → X → Type 0) (n : ℕ) (d : X) (old new : List X) (v : X) → length old ≡ n → ((p : ℕ) → p < n → P p (get_or old p d)) → P n v → new ≡ old ++ v ∷ []
+    → (p : ℕ) → p < n + 1 → P p (get_or new p d)
+each_more {X} P n d old new v as_many each own is p below = (let Q : List X → Type 0 = λ l. P p (get_or l p d) in subst Q (sym is) (elim (cases_lt p n) [
+  | inl before ↦ (let R : X → Type 0 = λ x. P p x in subst R (sym (get_or_append_left old (v ∷ []) d p (omega (arith, before, as_many)))) (each p before))
+  | inr from ↦ (let last : p ≡ n = omega (arith, below, from) in let S : ℕ → Type 0 = λ k. P k (get_or (old ++ v ∷ []) k d) in let R : X → Type 0 = λ x. P n x in
+      subst S (sym last) (subst R (sym (get_or_push old v d n as_many)) own))
+]))
 
 pub rows_more : (P : ℕ → List ℕ → Type 0) (n : ℕ) (old new : List (List ℕ)) (row_of_it : List ℕ) → RowsAre P n old → P n row_of_it → new ≡ old ++ row_of_it ∷ [] → RowsAre P (n + 1) new
 rows_more P n old new v are own is = record {
   len = ap length is ∙ length-push old v ∙ ap (λ (k : ℕ). k + 1) are.len;
-  each = λ p below. (let Q : List (List ℕ) → Type 0 = λ rows. P p (row rows p) in subst Q (sym is) (here p below));
-} where
-  as_many : length old ≡ n
-  as_many = are.len
-
-  here : (p : ℕ) → p < n + 1 → P p (row (old ++ v ∷ []) p)
-  here p below = elim (cases_lt p n) [
-    | inl before ↦ (let Q : List ℕ → Type 0 = λ l. P p l in subst Q (sym (row_before old v p (omega (arith, before, as_many)))) (are.each p before))
-    | inr from ↦ (let last : p ≡ n = omega (arith, below, from) in let Q : ℕ → Type 0 = λ k. P k (row (old ++ v ∷ []) k) in let R : List ℕ → Type 0 = λ l. P n l in
-        subst Q (sym last) (subst R (sym (row_last old v n (sym as_many))) own))
-  ]
+  each = each_more P n [] old new v are.len are.each own is;
+}
 
 pub marks_none : (P : ℕ → Bool → Type 0) (marks : List Bool) → marks ≡ [] → MarksAre P 0 marks
 marks_none P marks is = record { len = ap length is; each = λ p below. absurd (omega (arith, below)) }
@@ -180,41 +174,28 @@ marks_none P marks is = record { len = ap length is; each = λ p below. absurd (
 pub marks_more : (P : ℕ → Bool → Type 0) (n : ℕ) (old new : List Bool) (mark : Bool) → MarksAre P n old → P n mark → new ≡ old ++ mark ∷ [] → MarksAre P (n + 1) new
 marks_more P n old new v are own is = record {
   len = ap length is ∙ length-push old v ∙ ap (λ (k : ℕ). k + 1) are.len;
-  each = λ p below. (let Q : List Bool → Type 0 = λ marks. P p (mark_of marks p) in subst Q (sym is) (here p below));
-} where
-  as_many : length old ≡ n
-  as_many = are.len
-
-  here : (p : ℕ) → p < n + 1 → P p (mark_of (old ++ v ∷ []) p)
-  here p below = elim (cases_lt p n) [
-    | inl before ↦ (let Q : Bool → Type 0 = λ b. P p b in subst Q (sym (get_or_append_left old (v ∷ []) false p (omega (arith, before, as_many)))) (are.each p before))
-    | inr from ↦ (let last : p ≡ n = omega (arith, below, from) in let Q : ℕ → Type 0 = λ k. P k (mark_of (old ++ v ∷ []) k) in let R : Bool → Type 0 = λ b. P n b in
-        subst Q (sym last) (subst R (sym (get_or_push old v false n as_many)) own))
-  ]
+  each = each_more P n false old new v are.len are.each own is;
+}
 
 -- ---- what is seen of one member more
 
-seen_here : (f : List ℕ → Sight) (ids members : List (List ℕ)) (i : ℕ) (member : List ℕ) (sight : Sight) (Q : Sight → Type 0) → i < length members → member ≡ get_or members i member → IsSeen f ids member sight → Q sight → SeenAs f ids (id_at members i) Q
-seen_here f ids members i member sight Q below at seen so = record {
-  sight = sight;
-  seen = (let P : List ℕ → Type 0 = λ x. IsSeen f ids x sight in subst P (at ∙ get_any members i member [] below) seen);
-  so = so;
+pub seen_more : (rows : List ZoneRow) (f : List ℕ → Sight) (ids members : List (List ℕ)) (i : ℕ) (sight : Sight) (old_marks new_marks : List Bool) (old_needs new_needs : List (List ℕ)) (mark : Bool) (needs : List ℕ)
+    → IsSeen f ids (id_at members i) sight → mark ≡ list_any (λ fmid. is_installed rows fmid) sight.fmids → AreIndicesOf members (needs_seen rows sight) needs
+    → AreSeen rows f ids members i old_marks old_needs
+    → new_marks ≡ old_marks ++ mark ∷ [] → new_needs ≡ old_needs ++ needs ∷ []
+    → AreSeen rows f ids members (i + 1) new_marks new_needs
+seen_more rows f ids members i sight old_marks new_marks old_needs new_needs mark needs seen mark_is needs_are are marks_now needs_now = record {
+  candidates_are = marks_more (λ p m. SeenAs f ids (id_at members p) (λ s. m ≡ list_any (λ fmid. is_installed rows fmid) s.fmids)) i old_marks new_marks mark are.candidates_are
+      (record { sight = sight; seen = seen; so = mark_is }) marks_now;
+  needs_are = rows_more (λ p indices. SeenAs f ids (id_at members p) (λ s. AreIndicesOf members (needs_seen rows s) indices)) i old_needs new_needs needs are.needs_are
+      (record { sight = sight; seen = seen; so = needs_are }) needs_now;
 }
 
-pub seen_more : (rows : List ZoneRow) (f : List ℕ → Sight) (ids members : List (List ℕ)) (i : ℕ) (member : List ℕ) (sight : Sight) (old_marks new_marks : List Bool) (old_needs new_needs old_supersedes new_supersedes : List (List ℕ)) (mark : Bool) (needs supersedes : List ℕ)
-    → i < length members → member ≡ get_or members i member → IsSeen f ids member sight
-    → mark ≡ list_any (λ fmid. is_installed rows fmid) sight.fmids → AreIndicesOf members (needs_seen rows sight) needs → AreIndicesOf members sight.superseded supersedes
-    → AreSeen rows f ids members i old_marks old_needs old_supersedes
-    → new_marks ≡ old_marks ++ mark ∷ [] → new_needs ≡ old_needs ++ needs ∷ [] → new_supersedes ≡ old_supersedes ++ supersedes ∷ []
-    → AreSeen rows f ids members (i + 1) new_marks new_needs new_supersedes
-seen_more rows f ids members i member sight old_marks new_marks old_needs new_needs old_supersedes new_supersedes mark needs supersedes below at seen mark_is needs_are supersedes_are are marks_now needs_now supersedes_now = record {
-  candidates_are = marks_more (λ p m. SeenAs f ids (id_at members p) (λ s. m ≡ list_any (λ fmid. is_installed rows fmid) s.fmids)) i old_marks new_marks mark are.candidates_are
-      (seen_here f ids members i member sight (λ s. mark ≡ list_any (λ fmid. is_installed rows fmid) s.fmids) below at seen mark_is) marks_now;
-  needs_are = rows_more (λ p indices. SeenAs f ids (id_at members p) (λ s. AreIndicesOf members (needs_seen rows s) indices)) i old_needs new_needs needs are.needs_are
-      (seen_here f ids members i member sight (λ s. AreIndicesOf members (needs_seen rows s) needs) below at seen needs_are) needs_now;
-  supersedes_are = rows_more (λ p indices. SeenAs f ids (id_at members p) (λ s. AreIndicesOf members s.superseded indices)) i old_supersedes new_supersedes supersedes are.supersedes_are
-      (seen_here f ids members i member sight (λ s. AreIndicesOf members s.superseded supersedes) below at seen supersedes_are) supersedes_now;
-}
+-- what one member more supersedes
+pub sup_more : (f : List ℕ → Sight) (ids members : List (List ℕ)) (i : ℕ) (sight : Sight) (old new : List (List ℕ)) (supersedes : List ℕ)
+    → IsSeen f ids (id_at members i) sight → AreIndicesOf members sight.superseded supersedes → IsSupSeen f ids members i old → new ≡ old ++ supersedes ∷ [] → IsSupSeen f ids members (i + 1) new
+sup_more f ids members i sight old new supersedes seen are was now =
+    rows_more (λ p indices. SeenAs f ids (id_at members p) (λ s. AreIndicesOf members s.superseded indices)) i old new supersedes was (record { sight = sight; seen = seen; so = are }) now
 
 -- ---- what is there
 

@@ -9,6 +9,8 @@ pub mod MarkFacts
 pub mod RenewFacts
 pub mod ConditionalFacts
 pub mod IndexFacts
+pub mod PlaceFacts
+pub mod SupFacts
 pub mod WayFacts
 pub mod MadeCutFacts
 pub mod NodeVerdictFacts

@@ -14,7 +14,7 @@ use Rattle.requisites.specs.Nodes.{IsMarked, mark_of, row, world}
 use Rattle.requisites.specs.declared.nodes.Nodes.{Nodes}
 use Rattle.requisites.proofs.SourceFacts.{marked_inside}
 use Rattle.chains.specs.Cuts.{IsCut, NeedIndex, id_at}
-use Rattle.chains.specs.Indices.{AreSeen, AreThere}
+use Rattle.chains.specs.Indices.{AreSeen, AreThere, IsSupSeen}
 use Rattle.chains.specs.Sights.{Sight, all_needs, needs_seen, sight_of}
 use Rattle.chains.specs.Worlds.{world_of}
 use Rattle.chains.proofs.ConditionalFacts.{may_be_needed}
@@ -32,7 +32,8 @@ module _ (content : Content) (rows : List ZoneRow) (members : List (List ℕ)) (
     (ascend : Ascend members)
     (ids_inside : (id : List ℕ) → Contains (ids_of content) id → Contains members id)
     (needs_inside : (id : List ℕ) → Contains (flat_map all_needs (map (sight_of content) (ids_of content))) id → Contains members id)
-    (seen : AreSeen rows (sight_of content) (ids_of content) members (length members) nodes.candidates.items nodes.needs nodes.supersedes)
+    (seen : AreSeen rows (sight_of content) (ids_of content) members (length members) nodes.candidates.items nodes.needs)
+    (supersedes : IsSupSeen (sight_of content) (ids_of content) members (length members) nodes.supersedes)
     (there : AreThere rows members nodes.supersedes nodes.there.items) where
   as_many : length nodes.candidates.items ≡ length members
   as_many = seen.candidates_are.len
@@ -96,7 +97,7 @@ module _ (content : Content) (rows : List ZoneRow) (members : List (List ℕ)) (
 
   step_up : (p q : ℕ) → p < length members → Contains (row nodes.supersedes p) q → Supersedes content (id_at members p) (id_at members q)
   step_up p q below linked =
-      let view = seen.supersedes_are.each p below in
+      let view = supersedes.each p below in
       let inside = view.so.listed q linked in
       elim (is_listed_id (id_at members p)) [
         | inl listed ↦ (let P : Sight → Type 0 = λ s. Contains s.superseded (id_at members q) in superseded_by (record_of content (id_at members p)) (subst P (view.seen.listed listed) inside))
@@ -109,7 +110,7 @@ module _ (content : Content) (rows : List ZoneRow) (members : List (List ℕ)) (
 
   step_down : (p q : ℕ) → p < length members → q < length members → Supersedes content (id_at members p) (id_at members q) → Contains (row nodes.supersedes p) q
   step_down p q below within step =
-      let view = seen.supersedes_are.each p below in
+      let view = supersedes.each p below in
       let P : Sight → Type 0 = λ s. Contains s.superseded (id_at members q) in
       view.so.whole q within (subst P (sym (view.seen.listed (superseder_listed content (id_at members p) (id_at members q) step))) (superseded_in (record_of content (id_at members p)) step))
     where
@@ -146,21 +147,22 @@ module _ (content : Content) (rows : List ZoneRow) (members : List (List ℕ)) (
   }
 
 -- the same, as the call that makes the nodes has it
-pub cut_of : (content : Content) (rows : List ZoneRow) (ids : List (List ℕ)) (sights : List Sight) (members seen_members : List (List ℕ)) (nodes : Nodes)
-    → ids ≡ ids_of content → sights ≡ map (sight_of content) ids → seen_members ≡ members → Ascend members
+pub cut_of : (content : Content) (rows : List ZoneRow) (ids : List (List ℕ)) (sights : List Sight) (members : List (List ℕ)) (nodes : Nodes)
+    → ids ≡ ids_of content → sights ≡ map (sight_of content) ids → Ascend members
     → ((id : List ℕ) → Contains ids id → Contains members id)
     → ((id : List ℕ) → Contains (flat_map all_needs sights) id → Contains members id)
-    → AreSeen rows (sight_of content) ids seen_members (length seen_members) nodes.candidates.items nodes.needs nodes.supersedes
-    → AreThere rows seen_members nodes.supersedes nodes.there.items
+    → AreSeen rows (sight_of content) ids members (length members) nodes.candidates.items nodes.needs
+    → IsSupSeen (sight_of content) ids members (length members) nodes.supersedes
+    → AreThere rows members nodes.supersedes nodes.there.items
     → IsCut (world_of content rows) members (world nodes)
-cut_of content rows ids sights members seen_members nodes ids_are sights_are same ascend ids_inside needs_inside seen there =
+cut_of content rows ids sights members nodes ids_are sights_are ascend ids_inside needs_inside seen supersedes there =
     let P : List (List ℕ) → Type 0 = λ l. (id : List ℕ) → Contains l id → Contains members id in
     let Q : List Sight → Type 0 = λ l. (id : List ℕ) → Contains (flat_map all_needs l) id → Contains members id in
-    let R : List (List ℕ) → Type 0 = λ l. AreSeen rows (sight_of content) l members (length members) nodes.candidates.items nodes.needs nodes.supersedes in
-    let S : List (List ℕ) → Type 0 = λ l. AreSeen rows (sight_of content) ids l (length l) nodes.candidates.items nodes.needs nodes.supersedes in
-    let T : List (List ℕ) → Type 0 = λ l. AreThere rows l nodes.supersedes nodes.there.items in
+    let R : List (List ℕ) → Type 0 = λ l. AreSeen rows (sight_of content) l members (length members) nodes.candidates.items nodes.needs in
+    let S : List (List ℕ) → Type 0 = λ l. IsSupSeen (sight_of content) l members (length members) nodes.supersedes in
     made_cut content rows members nodes ascend
     (subst P ids_are ids_inside)
     (subst Q (sights_are ∙ ap (map (sight_of content)) ids_are) needs_inside)
-    (subst R ids_are (subst S same seen))
-    (subst T same there)
+    (subst R ids_are seen)
+    (subst S ids_are supersedes)
+    there

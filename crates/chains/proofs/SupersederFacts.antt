@@ -1,12 +1,12 @@
 -- Who supersedes what among all that is listed, and what a listing says of it.
-use Rattle.std.proofs.Common.{◌≡◌, ◌∙◌, ℕ, zero, suc, ◌<◌, Bool, true, false, List, [], ◌∷◌, length, map, get_or, Option, Some, None, refl, sym, ap, subst, inl, inr, arith}
+use Rattle.std.proofs.Common.{◌≡◌, ◌∙◌, ◌+◌, ◌++◌, ℕ, zero, suc, ◌<◌, Bool, true, false, List, [], ◌∷◌, length, map, take, get_or, Option, Some, None, refl, sym, ap, subst, inl, inr, arith}
 use Rattle.std.specs.Prelude.{◌↔◌}
 use Rattle.std.specs.List.{Contains, flat_map, list_any}
 use Rattle.std.specs.List.Sorted.{IsStrictlySortedBy}
 use Rattle.std.specs.Option.{IsSomeAnd}
 use Rattle.std.proofs.lemmas.Bool.{cases_lt}
-use Rattle.std.proofs.lemmas.List.{get_or_past}
-use Rattle.std.proofs.lemmas.List.Elements.{Contains-append_left, Contains-append_right}
+use Rattle.std.proofs.lemmas.List.{get_or_past, take_more}
+use Rattle.std.proofs.lemmas.List.Elements.{Contains-append_left, Contains-append_right, Contains-push_cases}
 use Rattle.lemmas.proofs.ListFacts.{map_from, map_inside, none_inside, get_any}
 use Rattle.zone_lists.specs.Installed.{is_installed}
 use Rattle.zone_lists.specs.declared.zones.ZoneRow.{ZoneRow}
@@ -22,8 +22,8 @@ use Rattle.chains.specs.Climbs.{AreAbove}
 use Rattle.chains.specs.Cuts.{id_at}
 use Rattle.chains.specs.Indices.{AreIndicesOf, IsAt, RowsAre}
 use Rattle.chains.specs.Sights.{Sight, sight_of, unseen}
-use Rattle.chains.specs.Superseders.{AreTurned, SupersedesAt, superseded_at}
-use Rattle.chains.proofs.IndexFacts.{inside_at}
+use Rattle.chains.specs.Superseders.{AreBelow, AreIndicesOfAll, AreTurned, HaveAll, SupersedesAt, superseded_at}
+use Rattle.chains.proofs.IndexFacts.{indexed_inside, indices_more, indices_on, inside_at}
 use Rattle.chains.proofs.MadeCutFacts.{candidate_catalogued}
 use Rattle.chains.proofs.OrderFacts.{ascending_same}
 use Rattle.chains.proofs.PartFacts.{at_map}
@@ -61,8 +61,8 @@ listed_within rows p q listed = elim (cases_lt p (length rows)) [
 pub superseded_here : (sights : List Sight) (index : ℕ) (sight : Sight) (ids : List (List ℕ)) → index < length sights → sight ≡ get_or sights index sight → ids ≡ sight.superseded → ids ≡ superseded_at sights index
 superseded_here sights index sight ids below at is = is ∙ ap (λ (s : Sight). s.superseded) (at ∙ get_any sights index sight unseen below)
 
-pub are_turned : (sights : List Sight) (superseded : List (List ℕ)) (below above : List (List ℕ)) → Ascend superseded → ((p : ℕ) (id : List ℕ) → SupersedesAt sights p id → Contains superseded id)
-    → RowsAre (λ p indices. AreIndicesOf superseded (superseded_at sights p) indices) (length sights) below → AreReversed below (length superseded) above → AreTurned sights superseded above
+pub are_turned : (sights : List Sight) (superseded : List (List ℕ)) (below above : List (List ℕ)) → Ascend superseded → HaveAll sights superseded
+    → AreBelow sights superseded below → AreReversed below (length superseded) above → AreTurned sights superseded above
 are_turned sights superseded below above ascend whole are turned = record {
   ascend = ascend;
   whole = whole;
@@ -91,6 +91,31 @@ turned_nowhere sights superseded above id indices p turned nowhere is = (
   λ inside. (let P : List ℕ → Type 0 = λ l. Contains l p in absurd (none_inside p (subst P is inside))),
   λ at. absurd (nowhere (turned.whole p id at)),
 )
+
+-- ---- all that is superseded, by indices
+
+-- one id more, which stands somewhere
+pub all_more : (members ids : List (List ℕ)) (i : ℕ) (id : List ℕ) (old new : List ℕ) (index : ℕ) → Ascend members → i < length ids → id ≡ get_or ids i id
+    → AreIndicesOfAll members (take i ids) old → IsAt members id index → new ≡ old ++ index ∷ [] → AreIndicesOfAll members (take (i + 1) ids) new
+all_more members ids i id old new index ascend below at were here is =
+    let P : List ℕ → Type 0 = λ l. AreIndicesOf members (take i ids ++ id ∷ []) l in
+    record {
+      are = indices_on members ids i id new below at (subst P (sym is) (indices_more members (take i ids) old id index ascend were.are here));
+      all = λ x inside. (
+          let Q : List (List ℕ) → Type 0 = λ l. Contains l x in
+          elim (Contains-push_cases (take i ids) id x (subst Q (take_more ids i id below ∙ ap (λ y. take i ids ++ y ∷ []) (sym at)) inside)) [
+            | inl before ↦ were.all x before
+            | inr same ↦ (let M : List ℕ → Type 0 = λ y. Contains members y in subst M same (indexed_inside members id index here))
+          ]
+          );
+    }
+
+module _ (sights : List Sight) (superseded rows : List (List ℕ)) (are : RowsAre (λ p indices. AreIndicesOfAll superseded (superseded_at sights p) indices) (length sights) rows) where
+  pub all_below : AreBelow sights superseded rows
+  all_below = record { len = are.len; each = λ p below. (are.each p below).are }
+
+  pub have_all : HaveAll sights superseded
+  have_all p id at = (are.each p at.within).all id at.named
 
 -- ---- by a listing
 

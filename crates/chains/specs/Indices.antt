@@ -40,12 +40,15 @@ pub record MarksAre (P : ℕ → Bool → Type 0) (n : ℕ) (marks : List Bool) 
   pub len : length marks ≡ n
   pub each : (p : ℕ) → p < n → P p (mark_of marks p)
 
--- the marks and the rows of the first n members, by what is seen of each: it may be installed in a zone that has a function of it,
+-- the marks and the needs of the first n members, by what is seen of each: it may be installed in a zone that has a function of it,
 -- and needs what it needs in that zone
-pub record AreSeen (rows : List ZoneRow) (f : List ℕ → Sight) (ids members : List (List ℕ)) (n : ℕ) (candidates : List Bool) (needs supersedes : List (List ℕ)) : Type 0 where
+pub record AreSeen (rows : List ZoneRow) (f : List ℕ → Sight) (ids members : List (List ℕ)) (n : ℕ) (candidates : List Bool) (needs : List (List ℕ)) : Type 0 where
   pub candidates_are : MarksAre (λ p mark. SeenAs f ids (id_at members p) (λ sight. mark ≡ list_any (λ fmid. is_installed rows fmid) sight.fmids)) n candidates
   pub needs_are : RowsAre (λ p indices. SeenAs f ids (id_at members p) (λ sight. AreIndicesOf members (needs_seen rows sight) indices)) n needs
-  pub supersedes_are : RowsAre (λ p indices. SeenAs f ids (id_at members p) (λ sight. AreIndicesOf members sight.superseded indices)) n supersedes
+
+-- what the first n members supersede, by what is seen of each
+abbrev pub IsSupSeen : (List ℕ → Sight) → List (List ℕ) → List (List ℕ) → ℕ → List (List ℕ) → Type 0
+IsSupSeen f ids members n supersedes = RowsAre (λ p indices. SeenAs f ids (id_at members p) (λ sight. AreIndicesOf members sight.superseded indices)) n supersedes
 
 -- a member is there: it is listed, or something gives it
 abbrev pub IsThereAt : List ZoneRow → List (List ℕ) → (ℕ → Type 0) → ℕ → Bool → Type 0

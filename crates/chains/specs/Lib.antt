@@ -7,6 +7,7 @@ pub mod Sights
 pub mod Marks
 pub mod Superseders
 pub mod Indices
+pub mod Places
 pub mod Whole
 pub mod Surveys
 pub mod Frames

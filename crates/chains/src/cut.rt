@@ -8,13 +8,15 @@ ghost use Rattle.requisites.specs.Nodes.{world};
 ghost use Rattle.requisites.specs.Sources.{HasSource, source_of};
 ghost use Rattle.chains.specs.Cuts.{IsCut, id_at};
 ghost use Rattle.chains.specs.Indices.{AreNodesWithin, AreSeen, AreThere, IsThereAt, MarksAre};
-ghost use Rattle.chains.specs.Sights as Sights;
-ghost use Rattle.chains.specs.Sights.{IsSeen, Sight, sight_of};
+ghost use Rattle.chains.specs.Places.{ArePlaces};
+ghost use Rattle.chains.specs.Sights.{IsListing, Sight, sight_of};
 ghost use Rattle.chains.specs.Worlds.{world_of};
 
 use crate::conditional::push_indices_where;
-use crate::indices::{index_near, members_of, put_indices};
-use crate::listing::Entry;
+use crate::indices::{members_of, put_indices};
+use crate::listing::{Entry, Listing};
+use crate::places::places;
+use crate::supersedes::{entry_at, moved_supersedes, supersedes_of};
 use mcs_reader::{Id, NoMemory};
 use requisites::{Nodes, Rows, least_sources};
 use std::alloc::Global;
@@ -37,7 +39,6 @@ impl Cut {
         entries: &[Entry],
     ) -> Result<Cut, NoMemory>
         requires ascend { Ascend ids.now }
-        requires entries { length entries.now ≡ length ids.now }
         ensures ascend { IfOk result (λ cut. Ascend cut.members.items) }
         ensures cut { IfOk result (λ cut. (content : Content) → ids.now ≡ ids_of content
             → entries.now ≡ map (sight_of content) ids.now
@@ -47,44 +48,59 @@ impl Cut {
             (λ cut. (id : List ℕ) → Contains ids.now id → Contains cut.members.items id) }
     {
         let members = members_of(alloc, ids, entries)?;
-        let nodes = nodes_of(alloc, zone, &members, ids, entries)?;
+        let listed = places(alloc, &members, ids)?;
+        let supersedes = supersedes_of(alloc, &members, &listed, entries)?;
+        let nodes = nodes_of(alloc, zone, &members, &listed, entries, supersedes)?;
+        Ok(Cut { members, nodes })
+    }
+
+    /// The same by a listing, which has where all that is superseded stands.
+    pub(crate) fn of_listing(alloc: Global, zone: &Zone, listing: &Listing) -> Result<Cut, NoMemory>
+        ensures ascend { IfOk result (λ cut. Ascend cut.members.items) }
+        ensures cut { IfOk result (λ cut. (content : Content) → IsListing content listing.now
+            → IsCut (world_of content zone.now) cut.members.items (world cut.nodes)) }
+        ensures within { IfOk result (λ cut. AreNodesWithin cut.members.items cut.nodes) }
+        ensures ids { IfOk result
+            (λ cut. (id : List ℕ) → Contains listing.now.ids id → Contains cut.members.items id) }
+    {
+        let entries = listing.entries();
+        let members = members_of(alloc, listing.ids(), entries)?;
+        let listed = places(alloc, &members, listing.ids())?;
+        let supersedes = moved_supersedes(alloc, &members, &listed, listing.all_superseders())?;
+        let nodes = nodes_of(alloc, zone, &members, &listed, entries, supersedes)?;
         Ok(Cut { members, nodes })
     }
 }
 
+// The nodes of some members, by where each stands among the ids, and by what each supersedes.
 fn nodes_of(
     alloc: Global,
     zone: &Zone,
     members: &[Id],
-    ids: &[Id],
+    listed: &[Option<usize>],
     entries: &[Entry],
+    supersedes: Rows,
 ) -> Result<Nodes, NoMemory>
     requires members { Ascend members.now }
-    requires ascend { Ascend ids.now }
-    requires entries { length entries.now ≡ length ids.now }
-    ensures seen { IfOk result (λ nodes. (f : List ℕ → Sight) → entries.now ≡ map f ids.now
-        → AreSeen zone.now f ids.now members.now (length members.now)
-        nodes.candidates.items nodes.needs nodes.supersedes) }
+    requires listed { length listed.now ≡ length members.now }
+    ensures seen { IfOk result (λ nodes. (f : List ℕ → Sight) (ids : List (List ℕ))
+        → entries.now ≡ map f ids → ArePlaces members.now ids (length members.now) listed.now
+        → AreSeen zone.now f ids members.now (length members.now)
+        nodes.candidates.items nodes.needs) }
+    ensures supersedes { IfOk result (λ nodes. nodes.supersedes ≡ supersedes) }
     ensures within { IfOk result (λ nodes. AreNodesWithin members.now nodes) }
     ensures there { IfOk result (λ nodes. AreThere zone.now members.now nodes.supersedes nodes.there.items) }
 {
     let unseen = Entry::unseen(alloc);
     let mut candidates = Vec::with_capacity(alloc, members.len())?;
     let mut needs = Rows::new(alloc);
-    let mut supersedes = Rows::new(alloc);
     let mut indices = Vec::new(alloc);
-    let mut next = 0;
-    for (index, member) in members.iter().enumerate() {
-        let entry = entry_for(ids, entries, &unseen, member, next);
-        if next < ids.len() && ids[next] == *member {
-            next += 1;
-        }
+    for (index, place) in listed.iter().enumerate() {
+        let entry = entry_at(entries, &unseen, *place);
         candidates.push(entry.is_candidate(zone))?;
         put_indices(&mut indices, members, index + 1, entry.needs())?;
         push_indices_where(&mut indices, members, zone, entry.conds())?;
         needs.push_row(&indices)?;
-        put_indices(&mut indices, members, index + 1, entry.superseded())?;
-        supersedes.push_row(&indices)?;
     }
     let there = there_marks(alloc, zone, members, &supersedes)?;
     Ok(Nodes {
@@ -93,25 +109,6 @@ fn nodes_of(
         needs,
         supersedes,
     })
-}
-
-// The entry of an id, or the other one where the ids don't have it. The id is looked for at an index first.
-fn entry_for<'a>(
-    ids: &[Id],
-    entries: &'a [Entry],
-    unseen: &'a Entry,
-    id: &Id,
-    first: usize,
-) -> &'a Entry
-    requires ascend { Ascend ids.now }
-    requires entries { length entries.now ≡ length ids.now }
-    requires unseen { unseen.now ≡ Sights.unseen }
-    ensures { (f : List ℕ → Sight) → entries.now ≡ map f ids.now → IsSeen f ids.now id.now result.now }
-{
-    match index_near(ids, first, id) {
-        Some(index) => &entries[index],
-        None => unseen,
-    }
 }
 
 /// Which members are there: those that the zone lists, and what the installed ones supersede, themselves

@@ -116,7 +116,7 @@ pub trait Judge<P: Published> {
     ///
     /// Those of [`Judge::verdict`].
     fn candidates(
-        &self,
+        &mut self,
         alloc: Global,
         source: &mut P,
         zone: &Zone,
@@ -124,8 +124,10 @@ pub trait Judge<P: Published> {
     ) -> Result<Vec<Option<Vec<Id>>>, SourceFault>
         ensures asks { MayAsk P.content_view Device source.old source.new result }
         ensures candidates { IfOk result (λ found. Tells P.content_view source.old source.new
-            (λ content. is_right self.now content → map (option_map (λ ids. ids.items)) found.items
+            (λ content. is_right self.old content → map (option_map (λ ids. ids.items)) found.items
             ≡ map (candidates_unless_there content zone.now) ids.now)) }
+        ensures right { Tells P.content_view source.old source.new
+            (λ content. is_right self.old content → is_right self.new content) }
     {
         candidates_for(alloc, source, None, &[], zone, ids)
     }

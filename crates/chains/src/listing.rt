@@ -1,5 +1,5 @@
 //! What a source says of all that is catalogued, read once.
-ghost use Rattle.std.specs.Prelude.{◌≡◌, ◌++◌, length, map, IfOk, OnOk};
+ghost use Rattle.std.specs.Prelude.{◌≡◌, ◌<◌, ◌≤◌, ◌++◌, length, map, IfOk, OnOk};
 ghost use Rattle.std.specs.List.{list_any};
 ghost use Rattle.zone_lists.specs.Installed.{is_installed};
 ghost use Rattle.catalogue.specs.Content.{Content, ids_of, superseders};
@@ -10,6 +10,7 @@ ghost use Rattle.supersede.specs.Giving.{is_candidate};
 ghost use Rattle.catalogue.specs.Seen.{seen_in};
 ghost use Rattle.chains.specs.Marks.{IsListingBut, SaysOf, sight_seen};
 ghost use Rattle.chains.specs.Sights.{IsListing, reasons_in, sight_from, sight_of, unseen};
+ghost use Rattle.chains.specs.Superseders.{AreSuperseders};
 
 use crate::gathered::ascending;
 use crate::indices::{ids_at, index_of, sort_each_once};
@@ -98,7 +99,7 @@ impl Model for Listing {
     ghost use Rattle.std.specs.Prelude.{◌≡◌, length};
     ghost use Rattle.catalogue.specs.Ids.{Ascend};
     ghost use Rattle.chains.specs.Sights.{ListingLists};
-    ghost use Rattle.chains.specs.Superseders.{AreTurned};
+    ghost use Rattle.chains.specs.Superseders.{AreSuperseders};
 
     ghost Value = { ListingLists };
 
@@ -106,8 +107,8 @@ impl Model for Listing {
 
     ghost invariant = { λ listing. Ascend listing.ids.items
         × (length listing.entries.items ≡ length listing.ids.items)
-        × AreTurned listing.entries.items
-        listing.superseders.superseded.items listing.superseders.above };
+        × AreSuperseders listing.entries.items listing.superseders.superseded.items
+        listing.superseders.below listing.superseders.above };
 }
 
 impl Listing {
@@ -125,6 +126,14 @@ impl Listing {
         ensures len { length result.now ≡ length self.now.ids }
     {
         self.entries.as_slice()
+    }
+
+    /// The SUP of all of them, both ways.
+    pub(crate) fn all_superseders(&self) -> &Superseders
+        ensures { AreSuperseders self.now.sights result.now.superseded.items
+            result.now.below result.now.above }
+    {
+        &self.superseders
     }
 
     /// The SYSMODs whose SUP names an id, ascending.
@@ -156,12 +165,11 @@ impl Listing {
             entries,
             superseders,
         } = self;
-        drop(superseders);
         let ids = ids_now(alloc, &listed, marks, &read)?;
         let kept = unmarked_entries(alloc, &listed, entries, marks)?;
         let found = found_entries(alloc, read)?;
         let entries = woven(alloc, &ids, marks, kept, found)?;
-        let superseders = Superseders::of(alloc, &entries)?;
+        let superseders = superseders.renewed(alloc, &listed, marks, &ids, &entries)?;
         Ok(Listing {
             ids,
             entries,
@@ -181,8 +189,18 @@ impl Listing {
     }
 }
 
-// How many SYSMODs are read at once: few enough that their records take little memory beside the listing.
+// How many SYSMODs are read at once, at most: few enough that their records take little memory beside the listing.
 const RUN: usize = 4096;
+
+// How many of so many are read at once. Runs are as few as may be and of one length, since a store reads a short one
+// id by id.
+fn run_len(count: usize) -> usize
+    ensures some { 0 < result }
+    ensures most { result ≤ 4096 }
+{
+    let runs = count.div_ceil(RUN).max(1);
+    count.div_ceil(runs).max(1)
+}
 
 /// All that is catalogued, read once.
 ///
@@ -205,8 +223,8 @@ pub fn listing_of<P: Published>(alloc: Global, source: &mut P) -> Result<Listing
     })
 }
 
-// What is read of some ids, in runs.
-fn entries_of<P: Published>(
+/// What is read of some ids, in runs.
+pub(crate) fn entries_of<P: Published>(
     alloc: Global,
     source: &mut P,
     ids: &[Id],
@@ -217,7 +235,7 @@ fn entries_of<P: Published>(
     ensures len { IfOk result (λ entries. length entries.items ≡ length ids.now) }
 {
     let mut entries = Vec::with_capacity(alloc, ids.len())?;
-    for run in ids.chunks(RUN) {
+    for run in ids.chunks(run_len(ids.len())) {
         read_run(alloc, source, run, &mut entries)?;
     }
     make_as_many(alloc, &mut entries, ids.len())?;

@@ -1,11 +1,10 @@
 //! A listing kept over a publication: what that touches is read anew.
 ghost use Rattle.std.specs.Prelude.{◌≡◌, ◌<◌, ◌++◌, ◌∷◌, ℕ, List, IfOk, OnOk, is_some, length, map, slice_index_or};
 ghost use Rattle.std.specs.Vec.Iter.{into_iter_items};
-ghost use Rattle.catalogue.specs.Content.{Content};
 ghost use Rattle.catalogue.specs.Ids.{Ascend, in_order};
-ghost use Rattle.catalogue.specs.Seen.{SeenLists, seen_in};
-ghost use Rattle.chains.specs.Marks.{IsListingBut, SaysBut, catalogued_among, found_among, marked, sight_seen, unmarked};
-ghost use Rattle.chains.specs.Sights.{IsListing, Sight};
+ghost use Rattle.catalogue.specs.Seen.{SeenLists};
+ghost use Rattle.chains.specs.Marks.{SaysBut, catalogued_among, found_among, marked, sight_seen, unmarked};
+ghost use Rattle.chains.specs.Sights.{Sight};
 ghost use Rattle.supersede.specs.Reach.{has};
 
 use crate::indices::{index_of, sort_each_once};

@@ -14,7 +14,7 @@ ghost use Rattle.zone_lists.specs.declared.zones.ZoneRow.{ZoneRow};
 
 use crate::cut::Cut;
 use crate::indices::{by_ids, ids_at, index_of, put_indices};
-use crate::listing::{Listing, listing_of};
+use crate::listing::{Listing, entries_of};
 use crate::{Status, Verdict};
 use catalogue::{Published, SourceFault};
 use mcs_reader::{Id, NoMemory};
@@ -52,7 +52,7 @@ impl Survey {
         ensures { IfOk result (λ survey. (content : Content) → IsListing content listing.now
             → IsSurvey content zone.now survey) }
     {
-        let cut = Cut::of(alloc, zone, listing.ids(), listing.entries())?;
+        let cut = Cut::of_listing(alloc, zone, listing)?;
         Survey::resolved(alloc, cut)
     }
 
@@ -173,6 +173,7 @@ fn cut_of<P: Published>(alloc: Global, source: &mut P, zone: &Zone) -> Result<Cu
         (λ content. IsSurvey content zone.now
         (record { members = cut.members.items; nodes = cut.nodes }))) }
 {
-    let listing = listing_of(alloc, source)?;
-    Ok(Cut::of(alloc, zone, listing.ids(), listing.entries())?)
+    let ids = source.ids()?;
+    let entries = entries_of(alloc, source, &ids)?;
+    Ok(Cut::of(alloc, zone, &ids, &entries)?)
 }

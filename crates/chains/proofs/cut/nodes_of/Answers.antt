@@ -2,6 +2,7 @@ use Rattle.std.proofs.Common.{◌∙◌, ◌++◌, ◌∷◌, [], ◌+◌, ◌<�
 use Rattle.std.specs.List.{Contains}
 use Rattle.catalogue.specs.declared.conditional.CondNeed.{CondNeed}
 use Rattle.supersede.specs.Giving.{needs_where}
+use Rattle.chains.specs.Cuts.{id_at}
 use Rattle.chains.specs.Indices.{AreIndicesOf, AreSeen, RowsAre}
 use Rattle.chains.proofs.IndexFacts.{length-push, rows_more, seen_more}
 use Rattle.chains.proofs.cut.nodes_of.Goals as goal
@@ -9,35 +10,38 @@ use Rattle.chains.proofs.cut.nodes_of.Goals as goal
 pub loop-index-preserved : goal.loop-index-preserved
 loop-index-preserved c =
     let members = c.args.members.now in
+    let index = c.loop-index.index in
     let needs = c.push_indices_where.new.indices.items in
-    let superseded = c.put_indices-in-loop-index.new.indices.items in
     let needs_pushed = c.in_ok-push_row.ensures.rows ∙ ap (λ (row : List ℕ). c.loop-index.needs ++ row ∷ []) c.deref.ensures.value in
-    let superseded_pushed = c.in_ok-push_row-2.ensures.rows ∙ ap (λ (row : List ℕ). c.loop-index.supersedes ++ row ∷ []) c.deref-in-loop-index.ensures.value in
     record {
-      seen = λ f are.
-          let P : List (List ℕ) → Type 0 = λ ids. AreIndicesOf members ids c.put_indices.new.indices.items in
-          let Q' : List CondNeed → Type 0 = λ conds. AreIndicesOf members (c.entry_for-entry.result.now.needs ++ needs_where c.args.zone.now conds) needs in
-          let Q : List (List ℕ) → Type 0 = λ ids. AreIndicesOf members ids superseded in
-          seen_more c.args.zone.now f c.args.ids.now members c.loop-index.index c.index-members-index.result c.entry_for-entry.result.now
-          c.loop-index.candidates.items _ c.loop-index.needs _ c.loop-index.supersedes _ c.is_candidate.result needs superseded
-          c.loop-index-test.true c.index-members-index.is (c.entry_for-entry.ensures f are)
-          c.is_candidate.ensures (subst Q' c.conds.ensures (c.in_ok-push_indices_where.ensures c.entry_for-entry.result.now.needs (subst P c.needs-in-loop-index.ensures c.in_ok-put_indices.ensures))) (subst Q c.superseded.ensures c.in_ok-put_indices-2.ensures)
-          (c.loop-index.invariant.seen f are) c.in_ok-push.ensures.items needs_pushed superseded_pushed;
+      seen = λ f ids are stand.
+          let as_many = stand.len in
+          let test = c.loop-index-test.true in
+          let here : index < length members = omega (arith, as_many, test) in
+          let P : List (List ℕ) → Type 0 = λ l. AreIndicesOf members l c.put_indices.new.indices.items in
+          let Q : List CondNeed → Type 0 = λ conds. AreIndicesOf members (c.entry_at-entry.result.now.needs ++ needs_where c.args.zone.now conds) needs in
+          seen_more c.args.zone.now f ids members index c.entry_at-entry.result.now
+          c.loop-index.candidates.items _ c.loop-index.needs _ c.is_candidate.result needs
+          (c.entry_at-entry.ensures f ids (id_at members index) are (stand.each index here))
+          c.is_candidate.ensures (subst Q c.conds.ensures (c.in_ok-push_indices_where.ensures c.entry_at-entry.result.now.needs (subst P c.needs-in-loop-index.ensures c.in_ok-put_indices.ensures)))
+          (c.loop-index.invariant.seen f ids are stand) c.in_ok-push.ensures.items needs_pushed;
       len = ap length c.in_ok-push.ensures.items ∙ length-push c.loop-index.candidates.items c.is_candidate.result ∙ ap (λ k. k + 1) c.loop-index.invariant.len;
-      within = rows_more (λ p indices. (q : ℕ) → Contains indices q → q < length members) c.loop-index.index c.loop-index.needs _ needs
+      within = rows_more (λ p indices. (q : ℕ) → Contains indices q → q < length members) index c.loop-index.needs _ needs
           c.loop-index.invariant.within (c.in_ok-push_indices_where.ensures _ c.in_ok-put_indices.ensures).within needs_pushed;
     }
 
 pub returns-clause-within : goal.returns-clause-within
 returns-clause-within c =
     let members = c.args.members.now in
+    let as_many = c.requires.listed in
     let all : c.loop-index.index ≡ length members = omega arith in
     let R : ℕ → Type 0 = λ n. RowsAre (λ p indices. (q : ℕ) → Contains indices q → q < length members) n c.loop-index.needs in
     record { len = c.loop-index.invariant.len ∙ all; needs = subst R all c.loop-index.invariant.within }
 
 pub returns-clause-seen : goal.returns-clause-seen
-returns-clause-seen c = λ f are.
+returns-clause-seen c = λ f ids are stand.
     let members = c.args.members.now in
+    let as_many = c.requires.listed in
     let all : c.loop-index.index ≡ length members = omega arith in
-    let R : ℕ → Type 0 = λ n. AreSeen c.args.zone.now f c.args.ids.now members n c.loop-index.candidates.items c.loop-index.needs c.loop-index.supersedes in
-    subst R all (c.loop-index.invariant.seen f are)
+    let R : ℕ → Type 0 = λ n. AreSeen c.args.zone.now f ids members n c.loop-index.candidates.items c.loop-index.needs in
+    subst R all (c.loop-index.invariant.seen f ids are stand)
