@@ -1,5 +1,5 @@
 -- What is kept of the whole catalogue stays right where it is added to, or loses something, and over a publication.
-use Rattle.std.proofs.Common.{◌≡◌, ◌++◌, ◌∷◌, [], ℕ, List, None, Some, inl, inr, subst, sym}
+use Rattle.std.proofs.Common.{◌≡◌, ◌++◌, ◌∷◌, [], ℕ, List, None, Some, inl, inr, refl, subst, sym}
 use Rattle.std.specs.Prelude.{IfSome}
 use Rattle.std.specs.List.{Contains}
 use Rattle.std.proofs.lemmas.List.Elements.{Contains-append_left, Contains-push_cases}
@@ -39,6 +39,11 @@ pub right_renewed : (content : Content) (surveys : SurveyedLists) (listing : Lis
 right_renewed content surveys listing marks kept are were =
     let but = some_is (IsListingBut content surveys.marks) surveys.listing listing kept were.listing in
     more_marks content surveys.marks marks listing (λ id inside. subst (λ marks. Contains marks id) (sym are) ((in_order_has surveys.marks id).1 inside)) but
+
+-- the marks may be told in order
+pub at_hand_in_order : (content : Content) (surveys : SurveyedLists) → AreSurveys content surveys → IfSome surveys.listing (IsListingBut content (in_order surveys.marks))
+at_hand_in_order content surveys were =
+    if_some (IsListingBut content (in_order surveys.marks)) surveys.listing (λ listing kept. right_renewed content surveys listing (in_order surveys.marks) kept refl were)
 
 -- the same listing, with the same marks
 same_listing : (content : Content) (old new : SurveyedLists) → new.listing ≡ old.listing → new.marks ≡ old.marks → AreSurveys content old → IfSome new.listing (IsListingBut content new.marks)

@@ -1,5 +1,5 @@
 //! `ChainCache`.
-ghost use Rattle.std.specs.Prelude.{◌≡◌, ◌≤◌, [], ℕ, true, false, IfOk, IsSome, OnOk, OnErr, Some, map, slice_get, take};
+ghost use Rattle.std.specs.Prelude.{◌≡◌, ◌<◌, ◌≤◌, [], ℕ, true, false, IfOk, IsSome, OnOk, OnErr, Some, length, map, option_map, slice_get, take};
 ghost use Rattle.std.specs.Borrow.{sem};
 ghost use Rattle.std.specs.Map.Iter.{ShowsInOrder, deref_pair};
 ghost use Rattle.catalogue.specs.Content.{Content, IsInOrder};
@@ -7,8 +7,9 @@ ghost use Rattle.catalogue.specs.Ids.{Ascend};
 ghost use Rattle.catalogue.specs.Touched.{AgreeOutside};
 ghost use Rattle.catalogue.specs.View.{MayAsk, Tells};
 ghost use Rattle.catalogue.specs.declared.fault.SourceFault.TheVariants.{Device};
-ghost use Rattle.chain_cache.specs.Cache.{AreFew, AreFilled, CacheLists, IsAsked, IsFilled, IsRightFor, KeepsFrames, MayBeMarked, after_hit, has, nothing_surveyed, untouched};
+ghost use Rattle.chain_cache.specs.Cache.{AreFew, AreFilled, CacheLists, IsAsked, IsFilled, IsFresh, IsRightFor, KeepsFrames, MayBeMarked, after_hit, has, nothing_surveyed, untouched};
 ghost use Rattle.chain_cache.specs.Lent.{ends_filled};
+ghost use Rattle.chains.specs.Candidates.{candidates_unless_there};
 ghost use Rattle.chains.specs.Frames.{FrameLists, IsFrame};
 ghost use Rattle.chains.specs.Judge as judge;
 ghost use Rattle.chains.specs.United.{united};
@@ -17,7 +18,7 @@ ghost use Rattle.chains.specs.Verdicts.{verdict_of};
 use crate::dropping::drop_among;
 use crate::surveys::Surveys;
 use catalogue::{Published, SourceFault};
-use chains::{Frame, Judge, Status, Verdict, candidates_for, frame, frame_within, plan};
+use chains::{Frame, Judge, Status, Verdict, frame, frame_within, plan};
 use lru::{Iter, LruCache};
 use mcs_reader::{Id, NoMemory};
 use std::alloc::Global;
@@ -32,15 +33,14 @@ pub(crate) type Frames = LruCache<Id, Frame, RandomState>;
 /// How many nodes a frame has at most that is kept for a chain.
 pub(crate) const NODES_MOST: usize = 256;
 
-// How many SYSMODs may be asked for at once that are judged from frames.
-const FEW: usize = 256;
-
 /// Judges from frames, of which it keeps those that were used last. All callers share them: a frame names no
 /// zone and no client.
 ///
 /// A SYSMOD that reaches far has a large frame. So where a chain has more than 256 nodes, or a report many
-/// SYSMODs, the zone is looked over whole. What is catalogued is read once for that, whatever the zone; it and
-/// the surveys of up to 16 zones are kept until the next publication. Candidates are found in it as long as it is kept.
+/// SYSMODs, the zone is looked over whole. What is catalogued is read once for that, whatever the zone. It is kept
+/// over publications: what these touch is marked, and read anew before the next survey. Candidates are found in it,
+/// and the source is asked for what is marked; where they are asked for of many SYSMODs, it is read first. The surveys of
+/// up to 16 zones are kept until the next publication.
 #[derive(Debug, Drop)]
 pub struct ChainCache {
     frames: Frames,
@@ -314,12 +314,16 @@ impl<P: Published> Judge<P> for ChainCache {
         if let Some(survey) = self.surveys.of(zone) {
             return Ok(survey.statuses(alloc, ids)?);
         }
-        if ids.len() > FEW {
+        if self.is_for_survey(ids) {
             return self.statuses_by_survey(alloc, source, zone, ids);
         }
         match self.statuses_by_frames(alloc, source, zone, ids)? {
             Some(statuses) => Ok(statuses),
-            None => self.statuses_by_survey(alloc, source, zone, ids),
+            None => {
+                let statuses = self.statuses_by_survey(alloc, source, zone, ids)?;
+                self.put_wide();
+                Ok(statuses)
+            }
         }
     }
 
@@ -356,24 +360,39 @@ impl<P: Published> Judge<P> for ChainCache {
         if let Some(survey) = self.surveys.of(zone) {
             return Ok(survey.united(alloc, ids)?);
         }
-        if ids.len() > FEW {
+        if self.is_for_survey(ids) {
             return self.united_by_survey(alloc, source, zone, ids);
         }
         match self.united_by_frames(alloc, source, zone, ids)? {
             Some(found) => Ok(found),
-            None => self.united_by_survey(alloc, source, zone, ids),
+            None => {
+                let found = self.united_by_survey(alloc, source, zone, ids)?;
+                self.put_wide();
+                Ok(found)
+            }
         }
     }
 
-    // From what was read of the catalogue, where that is kept. The source is asked for what was touched since, or for all.
+    // From what is kept of the catalogue. Where many are asked for, it is read first: the statuses that follow need it
+    // anyway.
     fn candidates(
-        &self,
+        &mut self,
         alloc: Global,
         source: &mut P,
         zone: &Zone,
         ids: &[Id],
-    ) -> Result<Vec<Option<Vec<Id>>>, SourceFault> {
-        let (listing, marks) = (self.surveys.listing(), self.surveys.marks());
-        candidates_for(alloc, source, listing, marks, zone, ids)
+    ) -> Result<Vec<Option<Vec<Id>>>, SourceFault>
+        ensures asks { MayAsk P.content_view Device source.old source.new result }
+        ensures candidates { IfOk result (λ found. Tells P.content_view source.old source.new
+            (λ content. IsRightFor self.old content → map (option_map (λ ids. ids.items)) found.items
+            ≡ map (candidates_unless_there content zone.now) ids.now)) }
+        ensures right { Tells P.content_view source.old source.new
+            (λ content. IsRightFor self.old content → IsRightFor self.new content) }
+        ensures fresh { 256 < length ids.now → OnOk result (IsFresh self.new.surveys) }
+        ensures frames { KeepsFrames self.old self.new }
+        ensures few { AreFew self.new.surveys }
+    {
+        self.read_for_many(alloc, source, ids)?;
+        self.surveys.candidates(alloc, source, zone, ids)
     }
 }

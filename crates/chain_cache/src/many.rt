@@ -1,9 +1,9 @@
 //! Answers on many SYSMODs at once.
-ghost use Rattle.std.specs.Prelude.{◌≡◌, ℕ, IfOk, IfSome, map, take};
+ghost use Rattle.std.specs.Prelude.{◌≡◌, ◌<◌, ℕ, IfOk, IfSome, OnOk, length, map, take};
 ghost use Rattle.catalogue.specs.Ids.{Ascend};
 ghost use Rattle.catalogue.specs.View.{MayAsk, Tells};
 ghost use Rattle.catalogue.specs.declared.fault.SourceFault.TheVariants.{Device};
-ghost use Rattle.chain_cache.specs.Cache.{AreFew, AreFilled, IsRightFor, KeepsFrames};
+ghost use Rattle.chain_cache.specs.Cache.{AreFew, AreFilled, IsFresh, IsRightFor, KeepsFrames};
 ghost use Rattle.chains.specs.Judge as judge;
 ghost use Rattle.chains.specs.United.{united};
 ghost use Rattle.chains.specs.Verdicts.{verdict_of};
@@ -20,7 +20,39 @@ use supersede::Zone;
 // How many nodes more the frames of several SYSMODs may have for each of them.
 const NODES_EACH: usize = 8;
 
+// How many SYSMODs may be asked for at once that are judged from frames.
+const FEW: usize = 256;
+
 impl ChainCache {
+    /// Whether SYSMODs are judged by a survey at once: there are many of them, or frames were too large before.
+    pub(crate) fn is_for_survey(&self, ids: &[Id]) -> bool {
+        ids.len() > FEW || self.surveys.is_wide()
+    }
+
+    /// Remembers that frames were too large.
+    pub(crate) fn put_wide(&mut self)
+        ensures { self.new ≡ self.old }
+    {
+        self.surveys.put_wide();
+    }
+
+    /// Reads what is catalogued, where it isn't kept as it is, if many SYSMODs are asked for.
+    pub(crate) fn read_for_many<P: Published>(
+        &mut self,
+        alloc: Global,
+        source: &mut P,
+        ids: &[Id],
+    ) -> Result<(), SourceFault>
+        ensures asks { MayAsk P.content_view Device source.old source.new result }
+        ensures right { Tells P.content_view source.old source.new
+            (λ content. IsRightFor self.old content → IsRightFor self.new content) }
+        ensures fresh { 256 < length ids.now → OnOk result (IsFresh self.new.surveys) }
+        ensures frames { KeepsFrames self.old self.new }
+        ensures few { AreFew self.new.surveys }
+    {
+        self.surveys.read_if(alloc, source, ids.len() > FEW)
+    }
+
     /// For each SYSMOD which verdict it is, by a survey of the zone, which is kept.
     pub(crate) fn statuses_by_survey<P: Published>(
         &mut self,

@@ -1,16 +1,17 @@
 //! What is kept of the whole catalogue: what was read of it, and surveys of zones.
-ghost use Rattle.std.specs.Prelude.{◌≡◌, ◌<◌, ◌++◌, true, IfOk, Some, IfSome, IsSome, OnOk, Contains, length, map};
+ghost use Rattle.std.specs.Prelude.{◌≡◌, ◌<◌, ◌++◌, true, IfOk, Some, IfSome, IsSome, OnOk, Contains, length, map, option_map};
 ghost use Rattle.catalogue.specs.Content.{Content};
 ghost use Rattle.catalogue.specs.Ids.{Ascend, in_order};
 ghost use Rattle.catalogue.specs.Seen.{seen_in};
 ghost use Rattle.catalogue.specs.View.{MayAsk, Tells};
 ghost use Rattle.catalogue.specs.declared.fault.SourceFault.TheVariants.{Device};
 ghost use Rattle.chain_cache.specs.Cache.{AreFew, AreSurveys, IsFresh, MayBeMarked, ZoneSurvey, nothing_surveyed};
+ghost use Rattle.chains.specs.Candidates.{candidates_unless_there};
 ghost use Rattle.chains.specs.Marks.{IsAtHand};
 ghost use Rattle.chains.specs.Surveys.{IsSurvey};
 
 use catalogue::{Published, Seen, SourceFault};
-use chains::{Listing, Survey, listing_of, sort_each_once};
+use chains::{Listing, Survey, candidates_for, listing_of, sort_each_once};
 use mcs_reader::{Id, NoMemory};
 use std::alloc::Global;
 use std::marker::Model;
@@ -58,6 +59,8 @@ pub(crate) struct Surveys {
     // What was touched since it was read. Room for it is taken with the listing.
     marks: Vec<Id>,
     kept: Vec<Surveyed>,
+    // Whether frames were too large since it was read. It says only what is tried first.
+    wide: bool,
 }
 
 impl Model for Surveys {
@@ -81,6 +84,7 @@ impl Surveys {
             listing: None,
             marks: Vec::new(alloc),
             kept: Vec::new(alloc),
+            wide: false,
         }
     }
 
@@ -97,18 +101,43 @@ impl Surveys {
         None
     }
 
-    /// What is catalogued, if it is kept: all but what is marked.
-    pub(crate) fn listing(&self) -> Option<&Listing>
-        ensures { (content : Content) → AreSurveys content self.now → IsAtHand content result self.now.marks }
-    {
-        self.listing.as_ref()
+    /// Whether what is catalogued is kept, and frames were too large since it was read.
+    pub(crate) fn is_wide(&self) -> bool {
+        self.wide && self.listing.is_some()
     }
 
-    /// What was touched since it was read.
-    pub(crate) fn marks(&self) -> &[Id]
-        ensures { result.now ≡ self.now.marks }
+    /// Remembers that frames were too large.
+    pub(crate) fn put_wide(&mut self)
+        ensures { self.new ≡ self.old }
     {
-        self.marks.as_slice()
+        self.wide = true;
+    }
+
+    /// For each of some SYSMODs the candidates that give it, as [`candidates_for`] finds them: in what is kept of the
+    /// catalogue. The source is asked for what was touched since it was read, and for all where nothing is kept.
+    pub(crate) fn candidates<P: Published>(
+        &self,
+        alloc: Global,
+        source: &mut P,
+        zone: &Zone,
+        ids: &[Id],
+    ) -> Result<Vec<Option<Vec<Id>>>, SourceFault>
+        ensures asks { MayAsk P.content_view Device source.old source.new result }
+        ensures candidates { IfOk result (λ found. Tells P.content_view source.old source.new
+            (λ content. AreSurveys content self.now → map (option_map (λ ids. ids.items)) found.items
+            ≡ map (candidates_unless_there content zone.now) ids.now)) }
+    {
+        let marks = self.marks_in_order(alloc)?;
+        candidates_for(alloc, source, self.listing(), &marks, zone, ids)
+    }
+
+    // What is catalogued, if it is kept: all but what is marked.
+    #[tactic(auto, using(crate::proofs::SurveyFacts::at_hand_in_order))]
+    fn listing(&self) -> Option<&Listing>
+        ensures { (content : Content) → AreSurveys content self.now
+            → IsAtHand content result (in_order self.now.marks) }
+    {
+        self.listing.as_ref()
     }
 
     /// Reads what is catalogued, where it isn't kept, and what is marked, where it is; and keeps it.
@@ -132,6 +161,25 @@ impl Surveys {
         Ok(())
     }
 
+    /// The same, if it is wanted.
+    pub(crate) fn read_if<P: Published>(
+        &mut self,
+        alloc: Global,
+        source: &mut P,
+        is_wanted: bool,
+    ) -> Result<(), SourceFault>
+        ensures asks { MayAsk P.content_view Device source.old source.new result }
+        ensures right { Tells P.content_view source.old source.new
+            (λ content. AreSurveys content self.old → AreSurveys content self.new) }
+        ensures fresh { is_wanted ≡ true → OnOk result (IsFresh self.new) }
+        ensures zones { self.new.zones ≡ self.old.zones }
+    {
+        if !is_wanted {
+            return Ok(());
+        }
+        self.read_listing(alloc, source)
+    }
+
     fn put_listing(&mut self, listing: Listing, marks: Vec<Id>)
         ensures listing { self.new.listing ≡ Some listing }
         ensures marks { self.new.marks ≡ marks.items }
@@ -139,6 +187,7 @@ impl Surveys {
     {
         self.listing = Some(listing);
         self.marks = marks;
+        self.wide = false;
     }
 
     // Reads what is marked, and puts it in.
@@ -159,6 +208,7 @@ impl Surveys {
         Ok(())
     }
 
+    // What was touched since it was read, ascending.
     fn marks_in_order(&self, alloc: Global) -> Result<Vec<Id>, NoMemory>
         ensures ascend { IfOk result (λ marks. Ascend marks.items) }
         ensures marks { IfOk result (λ marks. marks.items ≡ in_order self.now.marks) }

@@ -18,15 +18,17 @@ use supersede::{Zone, givers};
 pub(crate) fn givers_of_all<P: Published, J: Judge<P>>(
     alloc: Global,
     source: &mut P,
-    judge: &J,
+    judge: &mut J,
     zone: &Zone,
     ids: &[Id],
 ) -> Result<Vec<Vec<Id>>, SourceFault>
     requires { Ascend ids.now }
     ensures asks { MayAsk P.content_view Device source.old source.new result }
     ensures givers { IfOk result (λ lists. Tells P.content_view source.old source.new
-        (λ content. J.is_right judge.now content
+        (λ content. J.is_right judge.old content
         → lists_of lists.items ≡ map (known_givers content zone.now) ids.now)) }
+    ensures right { Tells P.content_view source.old source.new
+        (λ content. J.is_right judge.old content → J.is_right judge.new content) }
 {
     let answers = judge.candidates(alloc, source, zone, ids)?;
     givers_by(alloc, source, ids, &answers)

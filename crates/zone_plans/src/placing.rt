@@ -44,14 +44,16 @@ pub(crate) struct Placed {
 pub(crate) fn place_all<P: Published, J: Judge<P>>(
     alloc: Global,
     source: &mut P,
-    judge: &J,
+    judge: &mut J,
     zone: &Zone,
     holds: &[HoldResolvers],
 ) -> Result<Vec<Placed>, SourceFault>
     ensures asks { MayAsk P.content_view Device source.old source.new result }
     ensures placed { IfOk result (λ found. Tells P.content_view source.old source.new
-        (λ content. J.is_right judge.now content → AreTold content zone.now holds.now
+        (λ content. J.is_right judge.old content → AreTold content zone.now holds.now
         → found.items ≡ map (Plans.placed content) holds.now)) }
+    ensures right { Tells P.content_view source.old source.new
+        (λ content. J.is_right judge.old content → J.is_right judge.new content) }
 {
     let known = resolvers_named(alloc, holds)?;
     let lists = givers_of_all(alloc, source, judge, zone, &known)?;

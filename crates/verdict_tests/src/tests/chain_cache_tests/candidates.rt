@@ -53,7 +53,7 @@ fn assert_given<P: Published, J: Judge<P>>(
     case: &str,
     alloc: Global,
     source: &mut P,
-    judge: &J,
+    judge: &mut J,
     zone: &Zone,
     given: &[Option<usize>],
 ) -> Result<(), Fail> {
@@ -77,21 +77,44 @@ fn keep(
     Ok(())
 }
 
-// One more supersedes the first of the row. The cache is told before.
-fn publish_one(alloc: Global, lists: &mut ListStore, cache: &mut ChainCache) -> Result<(), Fail> {
-    let source = b"++PTF(N00300).\n++VER(Z038) FMID(HBB7790) SUP(N00000).\n";
+// One more supersedes the first of the row.
+static ONE: &[u8] = b"++PTF(N00300).\n++VER(Z038) FMID(HBB7790) SUP(N00000).\n";
+
+// One that stands before them supersedes it too. It is for a function that the zone lacks.
+static OTHER: &[u8] = b"++PTF(M00001).\n++VER(Z038) FMID(HBB7791) SUP(N00000).\n";
+
+// Publishes it. The cache is told before.
+fn publish(
+    alloc: Global,
+    lists: &mut ListStore,
+    cache: &mut ChainCache,
+    number: u64,
+    source: &[u8],
+) -> Result<(), Fail> {
     let changes = changes_of(alloc, source)?;
     let ids = touched(alloc, lists, &changes)?;
     <ChainCache as Judge<ListStore>>::drop_touched(cache, ids.as_slice());
-    lists.publish(2, b"one", &changes)?;
+    lists.publish(number, source, &changes)?;
     Ok(())
+}
+
+// A source that answers a few questions: it is asked for what is marked alone.
+fn assert_by_marks(
+    alloc: Global,
+    lists: ListStore,
+    cache: &mut ChainCache,
+    zone: &Zone,
+) -> Result<ListStore, Fail> {
+    let mut source = FailingStore::new(lists, 8);
+    assert_given("marked", alloc, &mut source, cache, zone, &GIVEN_LATER)?;
+    Ok(source.lists)
 }
 
 // A source that answers nothing: what is kept answers in its place, and who keeps nothing has a fault.
 fn assert_without_source(
     alloc: Global,
     lists: ListStore,
-    cache: &ChainCache,
+    cache: &mut ChainCache,
     zone: &Zone,
 ) -> Result<ListStore, Fail> {
     let mut source = FailingStore::new(lists, 0);
@@ -102,17 +125,72 @@ fn assert_without_source(
     Ok(source.lists)
 }
 
+// Before anything is kept, and once all is.
+fn assert_at_first(
+    alloc: Global,
+    mut lists: ListStore,
+    cache: &mut ChainCache,
+    zone: &Zone,
+) -> Result<ListStore, Fail> {
+    assert_given("source", alloc, &mut lists, cache, zone, &GIVEN)?;
+    keep(alloc, &mut lists, cache, zone)?;
+    assert_without_source(alloc, lists, cache, zone)
+}
+
+// After a publication, before anything is read for another report.
+fn assert_after(
+    alloc: Global,
+    mut lists: ListStore,
+    cache: &mut ChainCache,
+    zone: &Zone,
+    number: u64,
+    source: &[u8],
+) -> Result<ListStore, Fail> {
+    publish(alloc, &mut lists, cache, number, source)?;
+    assert_by_marks(alloc, lists, cache, zone)
+}
+
+fn assert_later(
+    alloc: Global,
+    mut lists: ListStore,
+    cache: &mut ChainCache,
+    zone: &Zone,
+) -> Result<(), Fail> {
+    keep(alloc, &mut lists, cache, zone)?;
+    assert_given("later", alloc, &mut lists, cache, zone, &GIVEN_LATER)
+}
+
 #[test]
 fn candidates_come_from_what_is_kept(rt: HostRuntime) -> Result<(), Fail> {
     let alloc = rt.alloc();
     let zone = zone_of(alloc, b"SYSMOD,STATE\nHBB7790,APPLIED\n")?;
     let mut cache = ChainCache::new(alloc, 16, RandomState::new(&rt)?)?;
+    let lists = assert_at_first(alloc, row(alloc)?, &mut cache, &zone)?;
+    let lists = assert_after(alloc, lists, &mut cache, &zone, 2, ONE)?;
+    let lists = assert_after(alloc, lists, &mut cache, &zone, 3, OTHER)?;
+    assert_later(alloc, lists, &mut cache, &zone)
+}
+
+// The candidates of all that is catalogued are asked for.
+fn ask_for_all(
+    alloc: Global,
+    lists: &mut ListStore,
+    cache: &mut ChainCache,
+    zone: &Zone,
+) -> Result<(), Fail> {
+    let ids = lists.ids()?;
+    let found = cache.candidates(alloc, lists, zone, &ids)?;
+    assert_equal_at("all", found.len(), ids.len())
+}
+
+// Where candidates are asked for of many, what is catalogued is read and kept: afterwards it answers without a source.
+#[test]
+fn candidates_of_many_keep_what_is_read(rt: HostRuntime) -> Result<(), Fail> {
+    let alloc = rt.alloc();
+    let zone = zone_of(alloc, b"SYSMOD,STATE\nHBB7790,APPLIED\n")?;
+    let mut cache = ChainCache::new(alloc, 16, RandomState::new(&rt)?)?;
     let mut lists = row(alloc)?;
-    assert_given("source", alloc, &mut lists, &cache, &zone, &GIVEN)?;
-    keep(alloc, &mut lists, &mut cache, &zone)?;
-    let mut lists = assert_without_source(alloc, lists, &cache, &zone)?;
-    publish_one(alloc, &mut lists, &mut cache)?;
-    assert_given("later", alloc, &mut lists, &cache, &zone, &GIVEN_LATER)?;
-    keep(alloc, &mut lists, &mut cache, &zone)?;
-    assert_given("kept later", alloc, &mut lists, &cache, &zone, &GIVEN_LATER)
+    ask_for_all(alloc, &mut lists, &mut cache, &zone)?;
+    assert_without_source(alloc, lists, &mut cache, &zone)?;
+    Ok(())
 }
