@@ -95,6 +95,14 @@ unique_zone_row db rows client zone sysmod rest is is_zone is_sysmod none =
     (none_agree_so (1 ∷ 2 ∷ 3 ∷ []) (is_of_three client zone sysmod) (next_rowid rows) (id_value client ∷ id_value zone ∷ id_value sysmod ∷ rest) rows
     (λ other. agree_three (next_rowid rows) other client zone sysmod rest is is_zone is_sysmod) none))
 
+-- the row of a record, among any rows of its table
+pub unique_sysmod : (db : Trees) (rows : List Row) (id : List ℕ) (rest : Row) → IsId id → list_any (is_of id) (columns_of rows) ≡ false
+    → are_unique bureau.indexes (with_tree db 6 (put_row (Int (next_rowid rows) ∷ id_value id ∷ rest) rows)) schema.sysmod ((Int (next_rowid rows) ∷ id_value id ∷ rest) ∷ []) ≡ true
+unique_sysmod db rows id rest is none =
+    ap (λ b. not (b || false) && true)
+    (unclashed (1 ∷ []) rows (next_rowid rows) (id_value id ∷ rest)
+    (none_agree_so (1 ∷ []) (is_of id) (next_rowid rows) (id_value id ∷ rest) rows (λ other. agree_one (next_rowid rows) other id rest is) none))
+
 -- ---- a new row keeps the keys of its table apart
 
 module _ (database : Database) (known : IsKnown database) where
@@ -107,13 +115,6 @@ module _ (database : Database) (known : IsKnown database) where
       ap (λ b. not (b || false) && true)
       (unclashed (1 ∷ []) (db 4) (next_rowid (db 4)) (id_value name ∷ rest)
       (none_agree_so (1 ∷ []) (is_of name) (next_rowid (db 4)) (id_value name ∷ rest) (db 4) (λ other. agree_one (next_rowid (db 4)) other name rest is) none))
-
-  pub unique_sysmod : (id : List ℕ) (rest : Row) → IsId id → list_any (is_of id) (columns_of (db 6)) ≡ false
-      → are_unique bureau.indexes (with_tree db 6 (put_row (Int (next_rowid (db 6)) ∷ id_value id ∷ rest) (db 6))) schema.sysmod ((Int (next_rowid (db 6)) ∷ id_value id ∷ rest) ∷ []) ≡ true
-  unique_sysmod id rest is none =
-      ap (λ b. not (b || false) && true)
-      (unclashed (1 ∷ []) (db 6) (next_rowid (db 6)) (id_value id ∷ rest)
-      (none_agree_so (1 ∷ []) (is_of id) (next_rowid (db 6)) (id_value id ∷ rest) (db 6) (λ other. agree_one (next_rowid (db 6)) other id rest is) none))
 
   pub unique_received : (client : List ℕ) (rest : Row) → IsId client → list_any (is_of client) (columns_of (db 17)) ≡ false
       → are_unique bureau.indexes (with_tree db 17 (put_row (Int (next_rowid (db 17)) ∷ id_value client ∷ rest) (db 17))) schema.received_list ((Int (next_rowid (db 17)) ∷ id_value client ∷ rest) ∷ []) ≡ true

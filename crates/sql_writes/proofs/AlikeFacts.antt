@@ -1,9 +1,11 @@
 -- Lists of rows that come in parts, each part by one statement.
-use Rattle.std.proofs.Common.{◌≡◌, ◌≤◌, ◌<◌, ◌+◌, ◌-◌, ◌++◌, ℕ, Bool, false, List, [], ◌∷◌, Ok, Result, append_assoc, drop, get_or, length, map, take, refl, sym, ◌∙◌, ap, subst, arith}
+use Rattle.std.proofs.Common.{◌≡◌, ◌≤◌, ◌<◌, ◌+◌, ◌-◌, ◌++◌, ℕ, zero, suc, Bool, false, true, List, [], ◌∷◌, Ok, Result, append_assoc, drop, get_or, length, map, take, refl, sym, ◌∙◌, ap, subst, arith}
 use Rattle.std.proofs.Math.Seq.{get_or-append_seam, take-add, take-append_seam}
 use Rattle.std.proofs.lemmas.List.{append-nil, length-append, length-drop, length-take, take-append-drop, take_all}
-use Rattle.std.specs.List.{list_any}
-use Rattle.std.specs.Prelude.{min}
+use Rattle.std.proofs.lemmas.List.Sums.{fold-append, sum_by-append, sum_by-take-drop}
+use Rattle.std.proofs.lemmas.Bool.{and_from, and_parts}
+use Rattle.std.specs.List.{AllByRecursion, list_all, list_any}
+use Rattle.std.specs.Prelude.{fold, min, sum_by}
 use Rattle.sqlite.specs.Order.{Row}
 use Rattle.sqlite.specs.State.{State, Survives}
 use Rattle.sqlite.specs.declared.error.Error.{Error}
@@ -23,7 +25,7 @@ part_is at all most count low some is = (omega (arith, low, some, is), omega (ar
 abbrev pub part : {X : Type 0} → ℕ → ℕ → List X → List X
 part i n all = take (i + n - i) (drop i all)
 
-part_as : {X : Type 0} (i n : ℕ) (all : List X) → take n (drop i all) ≡ part i n all
+pub part_as : {X : Type 0} (i n : ℕ) (all : List X) → take n (drop i all) ≡ part i n all
 part_as i n all = let same : n ≡ i + n - i = omega arith in ap (λ k. take k (drop i all)) same
 
 pub part_length : {X : Type 0} (i n : ℕ) (all : List X) → i + n ≤ length all → length (part i n all) ≡ n
@@ -31,6 +33,48 @@ part_length i n all low =
     let left = length-drop i all in
     let taken = length-take (i + n - i) (drop i all) in
     omega (arith, left, taken, low)
+
+-- what is so of each is so of each of a part
+module _ {X : Type 0} where
+  all_taken : (P : X → Type 0) (n : ℕ) (xs : List X) → AllByRecursion P xs → AllByRecursion P (take n xs)
+  all_taken P zero xs all = tt
+  all_taken P (suc n) [] all = tt
+  all_taken P (suc n) (x ∷ xs) all = (all.0, all_taken P n xs all.1)
+
+  all_dropped : (P : X → Type 0) (n : ℕ) (xs : List X) → AllByRecursion P xs → AllByRecursion P (drop n xs)
+  all_dropped P zero xs all = all
+  all_dropped P (suc n) [] all = tt
+  all_dropped P (suc n) (x ∷ xs) all = all_dropped P n xs all.1
+
+  pub part_all : (P : X → Type 0) (i n : ℕ) (xs : List X) → AllByRecursion P xs → AllByRecursion P (part i n xs)
+  part_all P i n xs all = all_taken P (i + n - i) (drop i xs) (all_dropped P i xs all)
+
+  passes_taken : (p : X → Bool) (n : ℕ) (xs : List X) → list_all p xs ≡ true → list_all p (take n xs) ≡ true
+  passes_taken p zero xs passes = refl
+  passes_taken p (suc n) [] passes = refl
+  passes_taken p (suc n) (x ∷ xs) passes = let both = and_parts (p x) (list_all p xs) passes in and_from (p x) (list_all p (take n xs)) both.0 (passes_taken p n xs both.1)
+
+  passes_dropped : (p : X → Bool) (n : ℕ) (xs : List X) → list_all p xs ≡ true → list_all p (drop n xs) ≡ true
+  passes_dropped p zero xs passes = passes
+  passes_dropped p (suc n) [] passes = refl
+  passes_dropped p (suc n) (x ∷ xs) passes = passes_dropped p n xs (and_parts (p x) (list_all p xs) passes).1
+
+  pub part_passes : (p : X → Bool) (i n : ℕ) (xs : List X) → list_all p xs ≡ true → list_all p (part i n xs) ≡ true
+  part_passes p i n xs passes = passes_taken p (i + n - i) (drop i xs) (passes_dropped p i xs passes)
+
+  pub folded_longer : {Y : Type 0} (f : Y → X → Y) (i n : ℕ) (xs : List X) (y : Y) → fold f (fold f y (take i xs)) (part i n xs) ≡ fold f y (take (i + n) xs)
+  folded_longer f i n xs y =
+      sym (ap (fold f y) (take-add i n xs) ∙ fold-append f y (take i xs) (take n (drop i xs)) ∙ ap (fold f (fold f y (take i xs))) (part_as i n xs))
+
+  pub summed_longer : (count : X → ℕ) (i n : ℕ) (xs : List X) → sum_by count (take i xs) + sum_by count (part i n xs) ≡ sum_by count (take (i + n) xs)
+  summed_longer count i n xs =
+      sym (ap (sum_by count) (take-add i n xs) ∙ sum_by-append count (take i xs) (take n (drop i xs)) ∙ ap (λ ys. sum_by count (take i xs) + sum_by count ys) (part_as i n xs))
+
+  pub summed_fewer : (count : X → ℕ) (i n : ℕ) (xs : List X) → sum_by count (take i xs) + sum_by count (part i n xs) ≤ sum_by count xs
+  summed_fewer count i n xs =
+      let longer = summed_longer count i n xs in
+      let whole = sum_by-take-drop count xs (i + n) in
+      omega (arith, longer, whole)
 
 module _ {X : Type 0} (is : X → Row → Bool) (make : X → Row) where
   -- of a list that is new each part is, where it comes
@@ -90,3 +134,13 @@ module _ {X : Type 0} (make : X → Row) (table : Stored → List Row) (come : L
       takes_as old next result (λ stored. Unit {0}) (ap (λ k. i + k) (part_length i n all low))
       (takes_then old now next tt result (So i) i (length (part i n all)) (λ stored. Unit {0}) (λ stored. AreNew is make (part i n all) (table stored))
       (λ stored u. subst (AreNew is make (part i n all)) (sym (comes.rows (take i all) (away stored))) (next_new is make all i n (table (away stored)) (new stored))) change one survives two)
+
+  -- the same of parts that are new where the first call fits, and of rows that came before them
+  pub parts_fit : (is : X → Row → Bool) (Fits : Stored → Type 0) → ((stored : Stored) → Fits stored → AreNew is make all (table (away stored))) → (before i n : ℕ) {A : Type 0} (old now next : State) (result : Result A Error) → i + n ≤ length all
+      → Changes {Answer = Unit {0}} {Fault = Error} old now (Ok tt) (So i) → Takes {Answer = Unit {0}} old now (Ok tt) (before + i) Fits → Survives now next (λ trees. ⊥)
+      → Takes now next result (length (part i n all)) (λ stored. AreNew is make (part i n all) (table stored)) → Takes old next result (before + (i + n)) Fits
+  parts_fit is Fits new before i n old now next result low change one survives two =
+      let long = part_length i n all low in
+      takes_as old next result Fits (omega (arith, long))
+      (takes_then old now next tt result (So i) (before + i) (length (part i n all)) Fits (λ stored. AreNew is make (part i n all) (table stored))
+      (λ stored fits. subst (AreNew is make (part i n all)) (sym (comes.rows (take i all) (away stored))) (next_new is make all i n (table (away stored)) (new stored fits))) change one survives two)

@@ -1,5 +1,5 @@
 -- Parameters that are bound one after the other, each for one more of a list.
-use Rattle.std.proofs.Common.{◌≡◌, ◌<◌, ◌+◌, ◌++◌, ℕ, List, [], ◌∷◌, get_or, length, map, slice_set, take, sym, ◌∙◌, ap, subst}
+use Rattle.std.proofs.Common.{◌≡◌, ◌<◌, ◌+◌, ◌++◌, ℕ, List, [], ◌∷◌, get_or, length, slice_set, take, sym, ◌∙◌, ap, subst}
 use Rattle.std.specs.List.{AllByRecursion}
 use Rattle.std.proofs.lemmas.List.{map-append, take_more, take_more_set}
 use Rattle.sqlite.specs.Values.{bound, bound_value}
@@ -12,9 +12,6 @@ bound_more values i v low = ap bound (take_more_set values i v low) ∙ map-appe
 
 pub one_more : {X : Type 0} (all : List X) (i : ℕ) (x : X) → i < length all → x ≡ get_or all i x → take i all ++ x ∷ [] ≡ take (i + 1) all
 one_more all i x low at = ap (λ y. take i all ++ y ∷ []) at ∙ sym (take_more all i x low)
-
-pub mapped_more : {X Y : Type 0} (f : X → Y) (all : List X) (i : ℕ) (x : X) → i < length all → x ≡ get_or all i x → map f (take i all) ++ f x ∷ [] ≡ map f (take (i + 1) all)
-mapped_more f all i x low at = sym (map-append f (take i all) (x ∷ [])) ∙ ap (map f) (one_more all i x low at)
 
 pub all_more : {X : Type 0} (P : X → Type 0) (all : List X) (i : ℕ) (x : X) → i < length all → x ≡ get_or all i x → AllByRecursion P (take i all) → P x → AllByRecursion P (take (i + 1) all)
 all_more P all i x low at before here = subst (AllByRecursion P) (one_more all i x low at) (all-append P (take i all) (x ∷ []) before (here, tt))

@@ -3,7 +3,6 @@ use Rattle.std.proofs.Common.{◌≡◌, ℕ, pos, List, [], ◌∷◌, Option, 
 use Rattle.holddata.specs.HoldKey.{kind_order}
 use Rattle.holddata.specs.declared.hold.Hold.{Hold}
 use Rattle.catalogue.specs.declared.conditional.CondNeed.{CondNeed}
-use Rattle.catalogue.specs.declared.sysmod.Sysmod.{Sysmod}
 use Rattle.bureau_store.specs.Tables.{LastChange}
 use Rattle.bureau_store.specs.declared.caller.CallerRow.{CallerRow}
 use Rattle.sqlite.specs.Cast.{cast}
@@ -18,11 +17,11 @@ use Rattle.sql_texts.specs.Meaning.{Means}
 use Rattle.sql_texts.specs.Schema as schema
 use Rattle.sql_texts.specs.Schema.{bureau}
 use Rattle.sql_texts.specs.Writes.{insert_given}
-use Rattle.sql_tables.specs.Rows.{caller_row, change_row, cond_row, head_row, hold_row, received_row, sysmod_row}
-use Rattle.sql_tables.specs.Values.{date_value, hold_kind_value, id_value, ids_value, optional_id_value, sysmod_kind_order, sysmod_kind_value, texts_value}
+use Rattle.sql_tables.specs.Rows.{caller_row, change_row, cond_row, head_row, hold_row, received_row}
+use Rattle.sql_tables.specs.Values.{date_value, hold_kind_value, id_value, ids_value, optional_id_value, texts_value}
 use Rattle.sql_state.specs.Ours.{held_by}
 use Rattle.sql_state.specs.Writing.{Changes}
-use Rattle.sql_writes.specs.Parts.{with_callers, with_conds, with_head, with_hold, with_last, with_received, with_sysmod}
+use Rattle.sql_writes.specs.Parts.{with_callers, with_conds, with_head, with_hold, with_last, with_received}
 use Rattle.sql_writes.specs.Running.{Ran}
 use Rattle.sql_writes.proofs.ChangeFacts.{changed_by}
 use Rattle.sql_writes.proofs.StatementFacts.{cast_int, cast_null, inserts}
@@ -58,18 +57,6 @@ module _ {A F : Type 0} (old new : State) (text : List ℕ) (result : Result A F
       let set = inserts text 2 schema.last_change 3 values values old new count (means clean) refl refl refl (λ i. cast_null i ∷ id_value name ∷ cast_int (pos last.number) i ∷ Blob last.reply ∷ []) known.schema known.numbered.1.1.0 executes in (
         known_after 4 _ old.now new.now known.numbered set,
         held_set 4 _ old.now new.now set ∙ ap (λ all. record (held_by old.now) { changes = all }) (come rows (Int (next_rowid rows) ∷ values)),
-        set.others.0 (λ e. omega (arith, e)),
-      ))
-
-  pub sysmods_come : (sysmod : Sysmod) (a b c d e : ValueRef) → owned a ≡ id_value sysmod.id → owned b ≡ sysmod_kind_value sysmod.kind → owned c ≡ ids_value sysmod.fmids → owned d ≡ ids_value sysmod.pre → owned e ≡ ids_value sysmod.req
-      → (HasCleanDisk old → Means bureau text (insert_given 3 5) 5) → Ran text (bound (a ∷ b ∷ c ∷ d ∷ e ∷ [])) old new result → Changes old new result (with_sysmod sysmod)
-  sysmods_come sysmod a b c d e at_a at_b at_c at_d at_e means ran =
-      let rows = old.now.trees 6 in
-      let values = sysmod_row sysmod in
-      changed_by old new text values result (with_sysmod sysmod) (subst (λ row. Ran text row old new result) (λ i. bound_value (at_a i) ∷ bound_value (at_b i) ∷ bound_value (at_c i) ∷ bound_value (at_d i) ∷ bound_value (at_e i) ∷ []) ran) (λ clean count known executes.
-      let set = inserts text 3 schema.sysmod 5 values values old new count (means clean) refl refl refl (λ i. cast_null i ∷ id_value sysmod.id ∷ cast_int (pos (sysmod_kind_order sysmod.kind)) i ∷ ids_value sysmod.fmids ∷ ids_value sysmod.pre ∷ ids_value sysmod.req ∷ []) known.schema known.numbered.1.1.1.0 executes in (
-        known_after 6 _ old.now new.now known.numbered set,
-        held_set 6 _ old.now new.now set ∙ ap (λ all. record (held_by old.now) { sysmods = all }) (come rows (Int (next_rowid rows) ∷ values)),
         set.others.0 (λ e. omega (arith, e)),
       ))
 

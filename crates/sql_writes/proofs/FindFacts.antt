@@ -97,14 +97,14 @@ module _ (old new : State) (text id : List ℕ) (values : List ValueRef) (given 
       small : (t : TableById) (trees : Trees) → ProgramOverflows trees (id_value id ∷ []) [] [] (ids_of t) → ⊥
       small t trees overflows = elim overflows [ inl none ↦ none | inr some ↦ some.4 ]
 
-none_filtered : (test : Row → Bool) (rows : List Row) → list_any test rows ≡ false → filter (λ row. not (test row)) rows ≡ rows
+pub none_filtered : (test : Row → Bool) (rows : List Row) → list_any test rows ≡ false → filter (λ row. not (test row)) rows ≡ rows
 none_filtered test [] none = refl
 none_filtered test (row ∷ rows) none =
     let parts = or_parts (test row) (list_any test rows) none in
     let kept = filter (λ row. not (test row)) rows in
     ap (λ b. cond (not b) (row ∷ kept) kept) parts.0 ∙ ap (λ rest. row ∷ rest) (none_filtered test rows parts.1)
 
-none_gone : (test : Row → Bool) (rows : List Row) → list_any test rows ≡ false → rows ≡ replaced test [] rows
+pub none_gone : (test : Row → Bool) (rows : List Row) → list_any test rows ≡ false → rows ≡ replaced test [] rows
 none_gone test rows none = sym (append-nil (filter (λ row. not (test row)) rows) ∙ none_filtered test rows none)
 
 -- nothing goes where nothing is there

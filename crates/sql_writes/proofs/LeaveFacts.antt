@@ -1,5 +1,5 @@
 -- Why the statement is refused that deletes rows, and that no row comes twice into a table by a list in order.
-use Rattle.std.proofs.Common.{◌≡◌, ◌<◌, ◌&&◌, ℕ, zero, suc, false, true, List, [], ◌∷◌, Less, Ordering, Result, length, take, get_or, map, refl, sym, ◌∙◌, ap, subst, inl, inr}
+use Rattle.std.proofs.Common.{◌≡◌, ◌<◌, ◌&&◌, ◌++◌, ℕ, zero, suc, false, true, List, [], ◌∷◌, Less, Ordering, Result, length, take, get_or, map, refl, sym, ◌∙◌, ap, subst, inl, inr}
 use Rattle.std.specs.List.{AllByRecursion, list_any}
 use Rattle.std.specs.List.Sorted.{IsStrictlySortedBy}
 use Rattle.std.specs.Ordering.{is_eq, ordering_then}
@@ -31,14 +31,14 @@ use Rattle.sql_texts.specs.declared.write.TableById.{TableById}
 use Rattle.sql_texts.specs.declared.write.TableById.TheVariants.{LastChange, ReceivedList, Sysmod, SysmodCond, SysmodSup}
 use Rattle.sql_texts.specs.declared.write.TableByZone.{TableByZone}
 use Rattle.sql_texts.specs.declared.write.TableByZone.TheVariants.{ZoneHead, ZoneRow as OfZoneRow}
-use Rattle.sql_tables.specs.Changes.{is_under}
+use Rattle.sql_tables.specs.Changes.{is_under, replaced}
 use Rattle.sql_tables.specs.Fit.{AreIds, AreZoneRows, IsCond}
 use Rattle.sql_tables.specs.Rows.{cond_row, sup_row, zone_row}
 use Rattle.sql_tables.specs.Stored.{Stored, is_named, is_of, is_of_both}
 use Rattle.sql_tables.specs.Values.{hold_kind_value, id_value}
 use Rattle.sql_tables.proofs.ValueFacts.{named_value}
 use Rattle.sql_writes.specs.Excused.{Takes}
-use Rattle.sql_writes.specs.Parts.{is_of_three, with_conds, with_rows, with_sups, without_conds, without_head, without_hold, without_last, without_received, without_rows, without_sups, without_sysmod}
+use Rattle.sql_writes.specs.Parts.{is_of_three, with_conds, with_rows, without_conds, without_head, without_hold, without_last, without_received, without_rows}
 use Rattle.sql_writes.specs.Running.{FailsInside, Ran}
 use Rattle.sql_writes.proofs.AbsentFacts.{gone_and_come, gone_now, none_before}
 use Rattle.sql_writes.proofs.StepFacts.{goes_takes}
@@ -102,9 +102,6 @@ module _ (old new : State) (text : List ℕ) (result : Result (Unit {0}) Error) 
 pub none_last : (name : List ℕ) (stored : Stored) → list_any (is_of name) (without_last name stored).changes ≡ false
 none_last name stored = gone_now (is_of name) (is_of name) (λ row h. h) stored.changes
 
-pub none_sysmod : (id : List ℕ) (stored : Stored) → list_any (is_of id) (without_sysmod id stored).sysmods ≡ false
-none_sysmod id stored = gone_now (is_of id) (is_of id) (λ row h. h) stored.sysmods
-
 pub none_hold : (key : HoldKey) (stored : Stored) → list_any (is_under key) (without_hold key stored).holds ≡ false
 none_hold key stored = gone_now (is_under key) (is_under key) (λ row h. h) stored.holds
 
@@ -125,14 +122,14 @@ taken_has (suc n) (y ∷ ys) x (inr later) = inr (taken_has n ys x later)
 same_order : (a b : List ℕ) → a ≡ b → is_eq (id_cmp a b) ≡ true
 same_order a b same = is_eq-slice_cmp a b ∙ (bytes_eq-Decides a b).1 same
 
-named : (id other : List ℕ) → IsId id → is_named other (id_value id) ≡ true → id ≡ other
+pub named : (id other : List ℕ) → IsId id → is_named other (id_value id) ≡ true → id ≡ other
 named id other is h = one_id id other (sym (named_value id other is) ∙ h)
 
 -- one more that a record supersedes
 pub next_sup : (id : List ℕ) (members : List (List ℕ)) (i : ℕ) (member : List ℕ) → AreIds members → Ascend members → i < length members → member ≡ get_or members i member
-    → (stored : Stored) → list_any (is_of_both id member) (with_sups id (take i members) (without_sups id stored)).sups ≡ false
-next_sup id members i member ids up low at stored =
-    gone_and_come (is_of id) (is_of_both id member) (λ row h. (and_parts _ _ h).0) stored.sups (sup_row id) (take i members) (λ other here h.
+    → (rows : List Row) → list_any (is_of_both id member) (replaced (is_of id) [] rows ++ map (sup_row id) (take i members)) ≡ false
+next_sup id members i member ids up low at rows =
+    gone_and_come (is_of id) (is_of_both id member) (λ row h. (and_parts _ _ h).0) rows (sup_row id) (take i members) (λ other here h.
     let same = named other member (all_has IsId members other ids (taken_has i members other here)) (and_parts _ _ h).1 in
     none_before id_cmp members up i member low at other here (same_order other member same))
 

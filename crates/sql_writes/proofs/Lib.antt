@@ -20,6 +20,7 @@ pub mod ManyFacts
 pub mod MigrateFacts
 pub mod NewFacts
 pub mod NumberFacts
+pub mod RecordRowFacts
 pub mod RefusalFacts
 pub mod RoomFacts
 pub mod RowidFacts
@@ -31,4 +32,5 @@ pub mod StepFacts
 pub mod StoredFacts
 pub mod SupFacts
 pub mod TakeFacts
+pub mod TogetherFacts
 pub mod ZoneRowFacts

@@ -16,7 +16,6 @@ use Rattle.sqlite_resolve.specs.declared.compiled.Compiled.{Compiled}
 use Rattle.sqlite_trees.specs.declared.error.StoreError.{StoreError}
 use Rattle.sqlite_trees.specs.declared.error.StoreError.TheVariants.{Broken, Corrupt, Full, Io, OutOfMemory, Unstorable}
 use Rattle.lemmas.proofs.TestFacts.{low_itself}
-use Rattle.sql_texts.specs.Meaning.{statement}
 use Rattle.sql_writes.specs.Many.{statement_by}
 use Rattle.sql_writes.specs.Excused.{Excuses}
 use Rattle.sql_writes.proofs.StatementFacts.{same_value}

@@ -2,16 +2,13 @@
 use Rattle.std.proofs.Common.{◌≡◌, ◌≤◌, ◌<◌, ℕ, ℤ, pos, negsuc, false, true, List, [], ◌∷◌, Option, None, Some, Result, length, refl, ◌∙◌, ap, subst, arith}
 use Rattle.std.specs.Prelude.{IfSome}
 use Rattle.std.specs.List.{list_any}
-use Rattle.std.proofs.lemmas.Bool.{and_parts}
 use Rattle.std.proofs.lemmas.Bool.Decides.{nat_tests}
 use Rattle.holddata.specs.HoldKey.{kind_order}
 use Rattle.holddata.specs.declared.hold.Hold.{Hold}
 use Rattle.holddata.specs.declared.key.Kind.{Kind}
 use Rattle.holddata.specs.declared.key.Kind.TheVariants.{ErrorHold, FixcatHold, SystemHold, UserHold}
 use Rattle.mcs_reader.specs.Id.{IsId, text_of}
-use Rattle.catalogue.specs.declared.change.Change.TheVariants.{Whole}
 use Rattle.catalogue.specs.declared.conditional.CondNeed.{CondNeed}
-use Rattle.catalogue.specs.declared.sysmod.Sysmod.{Sysmod}
 use Rattle.catalogue.specs.declared.sysmod.SysmodKind.{SysmodKind}
 use Rattle.catalogue.specs.declared.sysmod.SysmodKind.TheVariants.{Apar, Func, Ptf, Usermod}
 use Rattle.zone_lists.specs.declared.zones.ZoneState.{ZoneState}
@@ -31,15 +28,15 @@ use Rattle.sql_texts.specs.Schema.{bureau}
 use Rattle.sql_texts.specs.Writes.{insert_given}
 use Rattle.sql_tables.specs.Changes.{is_under}
 use Rattle.sql_tables.specs.Fit.{IsHold}
-use Rattle.sql_tables.specs.Rows.{change_row, cond_row, head_row, hold_row, received_row, sysmod_row}
+use Rattle.sql_tables.specs.Rows.{change_row, cond_row, head_row, received_row}
 use Rattle.sql_tables.specs.Stored.{is_of, is_of_both}
-use Rattle.sql_tables.specs.Values.{date_value, hold_kind_value, id_value, ids_value, optional_id_value, state_order, sysmod_kind_order, sysmod_kind_value, texts_value}
+use Rattle.sql_tables.specs.Values.{date_value, hold_kind_value, id_value, ids_value, optional_id_value, state_order, sysmod_kind_order, texts_value}
 use Rattle.sql_writes.specs.Excused.{Takes}
 use Rattle.sql_writes.specs.Parts.{is_of_three}
-use Rattle.sql_writes.specs.Room.{are_short, are_short_ids, is_short, is_short_change}
+use Rattle.sql_writes.specs.Room.{are_short, are_short_ids, is_short}
 use Rattle.sql_writes.specs.Running.{FailsInside, Ran}
-use Rattle.sql_writes.proofs.AbsentFacts.{unique_cond, unique_head, unique_hold, unique_last, unique_received, unique_sysmod}
-use Rattle.sql_writes.proofs.FittingFacts.{fits_cond, fits_head, fits_hold, fits_last_change, fits_received, fits_sysmod}
+use Rattle.sql_writes.proofs.AbsentFacts.{unique_cond, unique_head, unique_hold, unique_last, unique_received}
+use Rattle.sql_writes.proofs.FittingFacts.{fits_cond, fits_head, fits_hold, fits_last_change, fits_received}
 use Rattle.sql_writes.proofs.StepFacts.{comes_takes}
 
 -- ---- lengths and numbers
@@ -47,7 +44,7 @@ use Rattle.sql_writes.proofs.StepFacts.{comes_takes}
 pub few : (id : List ℕ) → IsId id → length (text_of id) ≤ 7
 few id is = text_is_few (text_of id) is.0
 
-short_enough : (text : List ℕ) → is_short text ≡ true → length text ≤ 300000000
+pub short_enough : (text : List ℕ) → is_short text ≡ true → length text ≤ 300000000
 short_enough text is = grind (arith, nat_tests)
 
 kind_low : (kind : Kind) → kind_order kind ≤ 3
@@ -56,7 +53,7 @@ kind_low SystemHold = omega arith
 kind_low UserHold = omega arith
 kind_low FixcatHold = omega arith
 
-sysmod_kind_low : (kind : SysmodKind) → sysmod_kind_order kind ≤ 3
+pub sysmod_kind_low : (kind : SysmodKind) → sysmod_kind_order kind ≤ 3
 sysmod_kind_low Func = omega arith
 sysmod_kind_low Ptf = omega arith
 sysmod_kind_low Apar = omega arith
@@ -100,19 +97,6 @@ module _ (old new : State) (text : List ℕ) (result : Result (Unit {0}) Error) 
       comes_takes text old new result 2 schema.last_change refl (λ database known. known.numbered.1.1.0) (λ most trees low. low.1.1.0) 3 (change_row name last) (λ stored. list_any (is_of name) stored.changes ≡ false)
       means refl refl refl refl (fits_last_change (text_of name) last.number last.reply (few name is) (short_enough last.reply short) some)
       (λ database known none. unique_last database known name (Int (pos last.number) ∷ Blob last.reply ∷ []) is none)
-      (subst (λ row. Ran text row old new result) given ran) (subst (λ row. FailsInside text row old new result) given fails)
-
-  pub sysmod_takes : (sysmod : Sysmod) (a b c d e : ValueRef) → IsId sysmod.id → owned a ≡ id_value sysmod.id → owned b ≡ sysmod_kind_value sysmod.kind → owned c ≡ ids_value sysmod.fmids → owned d ≡ ids_value sysmod.pre → owned e ≡ ids_value sysmod.req
-      → (HasCleanDisk old → Means bureau text (insert_given 3 5) 5) → Ran text (bound (a ∷ b ∷ c ∷ d ∷ e ∷ [])) old new result → FailsInside text (bound (a ∷ b ∷ c ∷ d ∷ e ∷ [])) old new result
-      → is_short_change (Whole sysmod) ≡ true → Takes old new result 1 (λ stored. list_any (is_of sysmod.id) stored.sysmods ≡ false)
-  sysmod_takes sysmod a b c d e is at_a at_b at_c at_d at_e means ran fails short =
-      let given : bound (a ∷ b ∷ c ∷ d ∷ e ∷ []) ≡ sysmod_row sysmod = λ i. bound_value (at_a i) ∷ bound_value (at_b i) ∷ bound_value (at_c i) ∷ bound_value (at_d i) ∷ bound_value (at_e i) ∷ [] in
-      let parts = and_parts (are_short_ids sysmod.fmids) _ short in
-      let rest = and_parts (are_short_ids sysmod.pre) (are_short_ids sysmod.req) parts.1 in
-      comes_takes text old new result 3 schema.sysmod refl (λ database known. known.numbered.1.1.1.0) (λ most trees low. low.1.1.1.0) 5 (sysmod_row sysmod) (λ stored. list_any (is_of sysmod.id) stored.sysmods ≡ false)
-      means refl refl refl refl
-      (fits_sysmod (text_of sysmod.id) (sysmod_kind_order sysmod.kind) _ _ _ (few sysmod.id is) (sysmod_kind_low sysmod.kind) (short_enough _ parts.0) (short_enough _ rest.0) (short_enough _ rest.1))
-      (λ database known none. unique_sysmod database known sysmod.id (sysmod_kind_value sysmod.kind ∷ ids_value sysmod.fmids ∷ ids_value sysmod.pre ∷ ids_value sysmod.req ∷ []) is none)
       (subst (λ row. Ran text row old new result) given ran) (subst (λ row. FailsInside text row old new result) given fails)
 
   pub cond_takes : (id : List ℕ) (cond : CondNeed) (a b c : ValueRef) → IsId id → IsId cond.fmid → IsId cond.need → owned a ≡ id_value id → owned b ≡ id_value cond.fmid → owned c ≡ id_value cond.need

@@ -6,5 +6,6 @@ pub mod Making
 pub mod Many
 pub mod Migrating
 pub mod Parts
+pub mod Records
 pub mod Room
 pub mod Running

@@ -11,8 +11,7 @@ use Rattle.sqlite.specs.Term.{Term, lit, col}
 use Rattle.sqlite.specs.declared.types.Value.TheVariants.{Null}
 use Rattle.sqlite_resolve.specs.declared.compiled.Compiled.{Compiled}
 use Rattle.zone_lists.specs.declared.zones.ZoneRow.{ZoneRow}
-use Rattle.sql_tables.specs.Rows.{sup_row, zone_row}
-use Rattle.sql_tables.specs.Stored.{is_of_both}
+use Rattle.sql_tables.specs.Rows.{zone_row}
 use Rattle.sql_writes.specs.Parts.{is_of_three}
 
 -- parameters are written ?1 to ?99
@@ -54,10 +53,6 @@ insert_alike table_index shared own count = Insert table_index (Values (rows_ali
 abbrev pub AreNew : {X : Type 0} → (X → Row → Bool) → (X → Row) → List X → List Row → Type 0
 AreNew is made [] rows = Unit {0}
 AreNew is made (one ∷ news) rows = (list_any (is one) rows ≡ false) × AreNew is made news (rows ++ made one ∷ [])
-
--- none of what a record supersedes stands among these rows, nor comes twice
-abbrev pub AreNewSups : List ℕ → List (List ℕ) → List Row → Type 0
-AreNewSups id = AreNew (is_of_both id) (sup_row id)
 
 -- none of the rows of a client's zone stands among these, nor comes twice
 abbrev pub AreNewRows : List ℕ → List ℕ → List ZoneRow → List Row → Type 0

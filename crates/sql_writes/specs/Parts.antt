@@ -3,7 +3,6 @@ use Rattle.std.specs.Prelude.{ℕ, ◌++◌, ◌&&◌, Bool, List, [], ◌∷◌
 use Rattle.holddata.specs.declared.hold.Hold.{Hold}
 use Rattle.holddata.specs.declared.key.HoldKey.{HoldKey}
 use Rattle.catalogue.specs.declared.conditional.CondNeed.{CondNeed}
-use Rattle.catalogue.specs.declared.sysmod.Sysmod.{Sysmod}
 use Rattle.zone_lists.specs.declared.zones.ZoneRow.{ZoneRow}
 use Rattle.bureau_store.specs.Tables.{LastChange}
 use Rattle.bureau_store.specs.declared.caller.CallerRow.{CallerRow}
@@ -12,7 +11,7 @@ use Rattle.sql_texts.specs.declared.write.TableById.TheVariants as by_id
 use Rattle.sql_texts.specs.declared.write.TableByZone.{TableByZone}
 use Rattle.sql_texts.specs.declared.write.TableByZone.TheVariants as by_zone
 use Rattle.sql_tables.specs.Changes.{is_under, replaced}
-use Rattle.sql_tables.specs.Rows.{caller_row, change_row, cond_row, head_row, hold_row, received_row, sup_row, sysmod_row, zone_row}
+use Rattle.sql_tables.specs.Rows.{caller_row, change_row, cond_row, head_row, hold_row, received_row, zone_row}
 use Rattle.sqlite_value.specs.Order.{Row, column}
 use Rattle.sql_tables.specs.Stored.{Stored, is_named, is_of, is_of_both}
 
@@ -80,12 +79,6 @@ with_callers callers stored = record stored { callers = stored.callers ++ map ca
 
 abbrev pub with_last : List ℕ → LastChange → Stored → Stored
 with_last name last stored = record stored { changes = stored.changes ++ change_row name last ∷ [] }
-
-abbrev pub with_sysmod : Sysmod → Stored → Stored
-with_sysmod sysmod stored = record stored { sysmods = stored.sysmods ++ sysmod_row sysmod ∷ [] }
-
-abbrev pub with_sups : List ℕ → List (List ℕ) → Stored → Stored
-with_sups id members stored = record stored { sups = stored.sups ++ map (sup_row id) members }
 
 abbrev pub with_conds : List ℕ → List CondNeed → Stored → Stored
 with_conds id conds stored = record stored { conds = stored.conds ++ map (cond_row id) conds }

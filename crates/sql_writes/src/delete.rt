@@ -1,12 +1,15 @@
 //! Rows that go, by one statement. Rows that aren't there are no fault.
-ghost use Rattle.std.specs.Prelude.{◌≡◌, IfOk};
+ghost use Rattle.std.specs.Prelude.{◌≡◌, IfOk, fold};
+ghost use Rattle.catalogue.specs.declared.change.Change.TheVariants.{Whole};
 ghost use Rattle.sql_writes.specs.Altering.{Alters, TakesRoom};
 ghost use Rattle.sql_writes.specs.Asking.{FindsId};
-ghost use Rattle.sql_writes.specs.Parts.{without_callers, without_client, without_hold, without_id, without_zone};
+ghost use Rattle.sql_writes.specs.Parts.{without_callers, without_client, without_hold, without_id, without_sups, without_sysmod, without_zone};
+ghost use Rattle.sql_writes.specs.Records.{record_gone};
 
 use crate::run::run;
 use crate::texts;
 use crate::values::id_of;
+use catalogue::{Change, Sysmod};
 use holddata::HoldKey;
 use mcs_reader::Id;
 use sql_tables::hold_kind_value;
@@ -47,6 +50,38 @@ pub(crate) fn by_id<S: Alter>(
 {
     if has_id(tx, table, id)? {
         return any_by_id(tx, table, id);
+    }
+    Ok(())
+}
+
+/// The row of a record, and those of what it supersedes.
+fn record<S: Alter>(tx: &mut Transaction<'_, S>, id: &Id) -> Result<(), Error>
+    ensures same { tx.new.conn.ghost_name ≡ tx.old.conn.ghost_name }
+    ensures changes { Alters S.Store tx.old.conn.now tx.new.conn.now result
+        (λ stored. without_sups id.now (without_sysmod id.now stored)) }
+    ensures takes { TakesRoom S.Store tx.old.conn.now tx.new.conn.now result 0 (λ stored. Unit {0}) }
+{
+    by_id(tx, TableById::Sysmod, id)?;
+    by_id(tx, TableById::SysmodSup, id)
+}
+
+/// The rows of this record and of those that come with it, and those of what they supersede.
+pub(crate) fn records<S: Alter>(
+    tx: &mut Transaction<'_, S>,
+    first: &Sysmod,
+    changes: &[Change],
+) -> Result<(), Error>
+    ensures same { tx.new.conn.ghost_name ≡ tx.old.conn.ghost_name }
+    ensures changes { Alters S.Store tx.old.conn.now tx.new.conn.now result
+        (λ stored. fold record_gone (record_gone stored (Whole first.now)) changes.now) }
+    ensures takes { TakesRoom S.Store tx.old.conn.now tx.new.conn.now result 0 (λ stored. Unit {0}) }
+{
+    record(tx, &first.id)?;
+    for change in changes {
+        match change {
+            Change::Whole(sysmod) => record(tx, &sysmod.id)?,
+            Change::OfHold(_) => {}
+        }
     }
     Ok(())
 }

@@ -1,23 +1,25 @@
 //! Rows that come by one statement, after those of their table.
-ghost use Rattle.std.specs.Prelude.{◌≡◌, ◌<◌, ◌≤◌, ◌++◌, List, ◌∷◌, [], false, length, true};
-ghost use Rattle.std.specs.List.{list_any};
-ghost use Rattle.catalogue.specs.declared.change.Change.TheVariants.{Whole};
+ghost use Rattle.std.specs.Prelude.{◌≡◌, ◌⊎◌, ◌<◌, ◌≤◌, ◌++◌, List, ◌∷◌, [], false, flat_map, length, map, true};
+ghost use Rattle.std.specs.List.{AllByRecursion, list_all, list_any};
+ghost use Rattle.catalogue.specs.declared.change.Change.{Change};
 ghost use Rattle.bureau_store.specs.Store.{greatest_number};
 ghost use Rattle.sql_tables.specs.Changes.{is_under};
-ghost use Rattle.sql_tables.specs.Fit.{IsHold};
+ghost use Rattle.sql_tables.specs.Fit.{IsFitChange, IsHold};
 ghost use Rattle.sql_tables.specs.Stored.{is_of, is_of_both};
 ghost use Rattle.sql_writes.specs.Altering.{Alters, Inserts, RefusesExcused, TakesRoom, Turns};
 ghost use Rattle.sql_writes.specs.Making.{AreFit, IsOpened};
-ghost use Rattle.sql_writes.specs.Many.{AreNewRows, AreNewSups};
+ghost use Rattle.sql_writes.specs.Many.{AreNewRows};
+ghost use Rattle.sql_writes.specs.Records.{AreNewMembers, AreNewRecords, record_rows, values_of, with_members, with_sysmods};
 ghost use Rattle.bureau_store.specs.declared.caller.CallerRow.{CallerRow};
 ghost use Rattle.sql_writes.specs.Room.{are_short, are_short_ids, is_short, is_short_change};
-ghost use Rattle.sql_writes.specs.Parts.{is_of_three, with_callers, with_conds, with_head, with_hold, with_last, with_received, with_rows, with_sups, with_sysmod};
+ghost use Rattle.sql_writes.specs.Parts.{is_of_three, with_callers, with_conds, with_head, with_hold, with_last, with_received, with_rows};
 
+use crate::records::{SupRow, SysmodRow};
 use crate::run::{run, run_prepared};
 use crate::texts;
 use crate::values::{id_of, number_of};
 use bureau_store::CallerRow;
-use catalogue::{CondNeed, Sysmod};
+use catalogue::CondNeed;
 use holddata::Hold;
 use mcs_reader::Id;
 use sql_tables::{
@@ -64,49 +66,50 @@ pub(crate) fn last_change<S: Alter>(
     run(tx, TableById::LastChange.insertion(), &params)
 }
 
-/// The row of a record of the catalogue.
-pub(crate) fn sysmod<S: Alter>(
-    alloc: Global,
+/// The row of a record of the catalogue, or those of eight.
+pub(crate) fn sysmods<'a, S: Alter>(
     tx: &mut Transaction<'_, S>,
-    sysmod: &Sysmod,
+    rows: &'a [SysmodRow],
 ) -> Result<(), Error>
+    requires count { (length rows.now ≡ 1) ⊎ (length rows.now ≡ 8) }
     ensures same { tx.new.conn.ghost_name ≡ tx.old.conn.ghost_name }
-    ensures changes { Alters S.Store tx.old.conn.now tx.new.conn.now result (with_sysmod sysmod.now) }
-    ensures takes { is_short_change (Whole sysmod.now) ≡ true
-        → TakesRoom S.Store tx.old.conn.now tx.new.conn.now result 1
-        (λ stored. list_any (is_of sysmod.now.id) stored.sysmods ≡ false) }
+    ensures changes { Alters S.Store tx.old.conn.now tx.new.conn.now result (with_sysmods rows.now) }
+    ensures takes { (records : List Change) → map values_of rows.now ≡ flat_map record_rows records
+        → AllByRecursion IsFitChange records → list_all is_short_change records ≡ true
+        → TakesRoom S.Store tx.old.conn.now tx.new.conn.now result (length rows.now)
+        (λ stored. AreNewRecords records stored.sysmods) }
 {
-    let fmids = joined_ids(alloc, sysmod.fmids.as_slice())?;
-    let pre = joined_ids(alloc, sysmod.pre.as_slice())?;
-    let req = joined_ids(alloc, sysmod.req.as_slice())?;
-    let params = [
-        id_of(&sysmod.id),
-        sysmod_kind_value(sysmod.kind),
-        ValueRef::Text(fmids.as_slice()),
-        ValueRef::Text(pre.as_slice()),
-        ValueRef::Text(req.as_slice()),
-    ];
-    run(tx, TableById::Sysmod.insertion(), &params)
+    let mut params = [ValueRef::Null; 40];
+    for at in 0..rows.len() {
+        let row = &rows[at];
+        params[5 * at] = id_of(&row.id);
+        params[5 * at + 1] = sysmod_kind_value(row.kind);
+        params[5 * at + 2] = ValueRef::Text(row.fmids.as_slice());
+        params[5 * at + 3] = ValueRef::Text(row.pre.as_slice());
+        params[5 * at + 4] = ValueRef::Text(row.req.as_slice());
+    }
+    run(tx, texts::sysmods(rows.len()), &params[..5 * rows.len()])
 }
 
-/// SYSMODs that a record supersedes, up to eight of them.
+/// What records supersede, up to eight rows of it.
 pub(crate) fn sup_rows<'a, S: Alter>(
     tx: &mut Transaction<'_, S>,
-    id: &'a Id,
-    members: &'a [Id],
+    rows: &'a [SupRow],
 ) -> Result<(), Error>
-    requires some { 0 < length members.now }
-    requires few { length members.now ≤ 8 }
+    requires some { 0 < length rows.now }
+    requires few { length rows.now ≤ 8 }
     ensures same { tx.new.conn.ghost_name ≡ tx.old.conn.ghost_name }
-    ensures changes { Alters S.Store tx.old.conn.now tx.new.conn.now result (with_sups id.now members.now) }
-    ensures takes { TakesRoom S.Store tx.old.conn.now tx.new.conn.now result (length members.now)
-        (λ stored. AreNewSups id.now members.now stored.sups) }
+    ensures changes { Alters S.Store tx.old.conn.now tx.new.conn.now result (with_members rows.now) }
+    ensures takes { TakesRoom S.Store tx.old.conn.now tx.new.conn.now result (length rows.now)
+        (λ stored. AreNewMembers rows.now stored.sups) }
 {
-    let mut params = [id_of(id); 9];
-    for at in 0..members.len() {
-        params[at + 1] = id_of(&members[at]);
+    let mut params = [ValueRef::Null; 16];
+    for at in 0..rows.len() {
+        let row = &rows[at];
+        params[2 * at] = id_of(&row.id);
+        params[2 * at + 1] = id_of(&row.member);
     }
-    run(tx, texts::sups(members.len()), &params[..members.len() + 1])
+    run(tx, texts::sups(rows.len()), &params[..2 * rows.len()])
 }
 
 /// What a record requires where a function is installed, by the statement that inserts into `SysmodCond`.

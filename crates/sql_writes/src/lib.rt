@@ -18,6 +18,7 @@ mod insert;
 mod load;
 mod migration;
 mod publication;
+mod records;
 mod run;
 mod tables;
 mod texts;

@@ -1,12 +1,15 @@
 //! Lists of rows that come, in place of those that stand there.
-ghost use Rattle.std.specs.Prelude.{◌≡◌, length};
-ghost use Rattle.std.specs.List.{AllByRecursion};
+ghost use Rattle.std.specs.Prelude.{◌≡◌, ◌⊎◌, ◌+◌, List, flat_map, length, map, true};
+ghost use Rattle.std.specs.List.{AllByRecursion, list_all};
+ghost use Rattle.catalogue.specs.declared.change.Change.{Change};
 ghost use Rattle.catalogue.specs.Conditional.{CondsAscend};
-ghost use Rattle.catalogue.specs.Ids.{Ascend};
-ghost use Rattle.sql_tables.specs.Fit.{AreIds, AreZoneRows, IsCond};
+ghost use Rattle.sql_tables.specs.Fit.{AreZoneRows, IsCond, IsFitChange};
 ghost use Rattle.sql_writes.specs.Altering.{Alters, Inserts, TakesRoom};
-ghost use Rattle.sql_writes.specs.Parts.{with_conds, with_rows, with_sups, without_conds, without_rows, without_sups};
+ghost use Rattle.sql_writes.specs.Parts.{with_conds, with_rows, without_conds, without_rows};
+ghost use Rattle.sql_writes.specs.Records.{AreNewMembers, AreNewRecords, record_rows, values_of, with_members, with_sysmods};
+ghost use Rattle.sql_writes.specs.Room.{is_short_change};
 
+use crate::records::{SupRow, SysmodRow};
 use crate::{delete, insert};
 use catalogue::CondNeed;
 use mcs_reader::Id;
@@ -38,24 +41,26 @@ pub(crate) fn zone_rows<S: Alter>(
     Ok(())
 }
 
-/// What a record supersedes, in place of what stands there, eight rows by one statement.
-pub(crate) fn superseded<S: Alter>(
+/// Records come: the row of one or those of eight, and then what they supersede, eight rows by one statement.
+pub(crate) fn records<S: Alter>(
     tx: &mut Transaction<'_, S>,
-    id: &Id,
-    members: &[Id],
+    rows: &[SysmodRow],
+    sups: &[SupRow],
 ) -> Result<(), Error>
+    requires count { (length rows.now ≡ 1) ⊎ (length rows.now ≡ 8) }
     ensures same { tx.new.conn.ghost_name ≡ tx.old.conn.ghost_name }
     ensures changes { Alters S.Store tx.old.conn.now tx.new.conn.now result
-        (λ stored. with_sups id.now members.now (without_sups id.now stored)) }
-    ensures takes { AreIds members.now → Ascend members.now
-        → TakesRoom S.Store tx.old.conn.now tx.new.conn.now result
-        (length members.now) (λ stored. Unit {0}) }
+        (λ stored. with_members sups.now (with_sysmods rows.now stored)) }
+    ensures takes { (records : List Change) → map values_of rows.now ≡ flat_map record_rows records
+        → AllByRecursion IsFitChange records → list_all is_short_change records ≡ true
+        → TakesRoom S.Store tx.old.conn.now tx.new.conn.now result (length rows.now + length sups.now)
+        (λ stored. AreNewRecords records stored.sysmods × AreNewMembers sups.now stored.sups) }
 {
-    delete::by_id(tx, TableById::SysmodSup, id)?;
+    insert::sysmods(tx, rows)?;
     let mut at = 0;
-    while at < members.len() {
-        let count = (members.len() - at).min(8);
-        insert::sup_rows(tx, id, &members[at..at + count])?;
+    while at < sups.len() {
+        let count = (sups.len() - at).min(8);
+        insert::sup_rows(tx, &sups[at..at + count])?;
         at += count;
     }
     Ok(())

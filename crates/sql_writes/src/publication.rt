@@ -1,16 +1,20 @@
-//! A publication, one change after the other.
-ghost use Rattle.std.specs.Prelude.{◌≡◌, fold, sum_by, true};
+//! A publication: eight records at once with the holds between them, or one change after the other.
+ghost use Rattle.std.specs.Prelude.{◌≡◌, ◌⊎◌, ◌≢◌, ◌<◌, ◌≤◌, ◌+◌, ◌∷◌, [], IsTrue, flat_map, fold, length, map, sum_by, take, true};
 ghost use Rattle.std.specs.List.{AllByRecursion, list_all};
+ghost use Rattle.mcs_reader.specs.Id.{IsId};
 ghost use Rattle.holddata.specs.declared.hold.HoldChange.TheVariants.{Put};
 ghost use Rattle.sql_tables.specs.Changes.{holds_changed, published};
 ghost use Rattle.sql_tables.specs.Fit.{IsFitChange, IsHold};
 ghost use Rattle.sql_writes.specs.Altering.{Alters, Inserts, TakesRoom};
+ghost use Rattle.sql_writes.specs.Records.{AreApart, Begins, IsApart, IsTogether, record_gone, record_rows, records_in, rest_count, rest_put, sups_of, values_of, with_members, with_sysmods};
 ghost use Rattle.sql_writes.specs.Room.{are_short, is_short_change, rows_of_change};
 
+use crate::records::{SupRow, SysmodRow, sup_rows, sysmod_rows};
 use crate::run::prepare;
 use crate::{delete, insert, load};
-use catalogue::Change;
+use catalogue::{Change, Sysmod};
 use holddata::{Hold, HoldChange};
+use mcs_reader::Id;
 use sql_texts::write::TableById;
 use sqlite::{Alter, Error, Statement, Transaction};
 use std::alloc::Global;
@@ -27,9 +31,8 @@ fn put_hold<S: Alter>(tx: &mut Transaction<'_, S>, hold: &Hold) -> Result<(), Er
     insert::hold(tx, hold)
 }
 
-/// One change: what it publishes comes in place of what stands there, or a hold goes. `conds` inserts into `SysmodCond`.
-fn put_change<S: Alter>(
-    alloc: Global,
+/// What a change publishes beside the row of a record and those of what it supersedes. `conds` inserts into `SysmodCond`.
+fn put_rest<S: Alter>(
     tx: &mut Transaction<'_, S>,
     conds: &Statement,
     change: &Change,
@@ -37,21 +40,188 @@ fn put_change<S: Alter>(
     requires conds { Inserts S.Store tx.old.conn.now conds.now.text 9 3 }
     ensures same { tx.new.conn.ghost_name ≡ tx.old.conn.ghost_name }
     ensures changes { Alters S.Store tx.old.conn.now tx.new.conn.now result
-        (λ stored. published stored change.now) }
+        (λ stored. rest_put stored change.now) }
     ensures takes { IsFitChange change.now → is_short_change change.now ≡ true
         → TakesRoom S.Store tx.old.conn.now tx.new.conn.now result
-        (rows_of_change change.now) (λ stored. Unit {0}) }
+        (rest_count change.now) (λ stored. Unit {0}) }
 {
     match change {
-        Change::Whole(sysmod) => {
-            delete::by_id(tx, TableById::Sysmod, &sysmod.id)?;
-            insert::sysmod(alloc, tx, sysmod)?;
-            load::superseded(tx, &sysmod.id, sysmod.sup.as_slice())?;
-            load::conditional(tx, conds, &sysmod.id, sysmod.conds.as_slice())
-        }
+        Change::Whole(sysmod) => load::conditional(tx, conds, &sysmod.id, sysmod.conds.as_slice()),
         Change::OfHold(HoldChange::Put(hold)) => put_hold(tx, hold),
         Change::OfHold(HoldChange::Release(key)) => delete::hold(tx, key),
     }
+}
+
+/// The rows of records, and those of what they supersede, come in place of what stands there. `first` is the first of
+/// the changes.
+fn put_rows<S: Alter>(
+    tx: &mut Transaction<'_, S>,
+    first: &Sysmod,
+    changes: &[Change],
+    rows: &[SysmodRow],
+    sups: &[SupRow],
+) -> Result<(), Error>
+    requires first { Begins first.now changes.now }
+    requires count { (records_in changes.now ≡ 1) ⊎ (records_in changes.now ≡ 8) }
+    requires apart { AreApart changes.now }
+    requires rows { map values_of rows.now ≡ flat_map record_rows changes.now }
+    requires sups { sups.now ≡ flat_map sups_of changes.now }
+    ensures same { tx.new.conn.ghost_name ≡ tx.old.conn.ghost_name }
+    ensures changes { Alters S.Store tx.old.conn.now tx.new.conn.now result
+        (λ stored. with_members sups.now (with_sysmods rows.now (fold record_gone stored changes.now))) }
+    ensures takes { AllByRecursion IsFitChange changes.now → list_all is_short_change changes.now ≡ true
+        → TakesRoom S.Store tx.old.conn.now tx.new.conn.now result
+        (length rows.now + length sups.now) (λ stored. Unit {0}) }
+{
+    delete::records(tx, first, &changes[1..])?;
+    load::records(tx, rows, sups)
+}
+
+/// A record comes in place of what stands there, or eight of them with the holds between them. `conds` inserts into
+/// `SysmodCond`.
+fn put_records<S: Alter>(
+    alloc: Global,
+    tx: &mut Transaction<'_, S>,
+    conds: &Statement,
+    first: &Sysmod,
+    changes: &[Change],
+) -> Result<(), Error>
+    requires conds { Inserts S.Store tx.old.conn.now conds.now.text 9 3 }
+    requires first { Begins first.now changes.now }
+    requires count { (records_in changes.now ≡ 1) ⊎ (records_in changes.now ≡ 8) }
+    requires apart { AreApart changes.now }
+    ensures same { tx.new.conn.ghost_name ≡ tx.old.conn.ghost_name }
+    ensures changes { Alters S.Store tx.old.conn.now tx.new.conn.now result
+        (λ stored. fold published stored changes.now) }
+    ensures takes { AllByRecursion IsFitChange changes.now → list_all is_short_change changes.now ≡ true
+        → TakesRoom S.Store tx.old.conn.now tx.new.conn.now result
+        (sum_by rows_of_change changes.now) (λ stored. Unit {0}) }
+{
+    let rows = sysmod_rows(alloc, changes)?;
+    let sups = sup_rows(alloc, changes)?;
+    put_rows(tx, first, changes, rows.as_slice(), sups.as_slice())?;
+    for change in changes {
+        put_rest(tx, conds, change)?;
+    }
+    Ok(())
+}
+
+/// One change, or eight records at once with the holds between them: what they publish comes in place of what stands
+/// there, or a hold goes. `conds` inserts into `SysmodCond`.
+fn put_together<S: Alter>(
+    alloc: Global,
+    tx: &mut Transaction<'_, S>,
+    conds: &Statement,
+    changes: &[Change],
+) -> Result<(), Error>
+    requires conds { Inserts S.Store tx.old.conn.now conds.now.text 9 3 }
+    requires together { IsTogether changes.now }
+    ensures same { tx.new.conn.ghost_name ≡ tx.old.conn.ghost_name }
+    ensures changes { Alters S.Store tx.old.conn.now tx.new.conn.now result
+        (λ stored. fold published stored changes.now) }
+    ensures takes { AllByRecursion IsFitChange changes.now → list_all is_short_change changes.now ≡ true
+        → TakesRoom S.Store tx.old.conn.now tx.new.conn.now result
+        (sum_by rows_of_change changes.now) (λ stored. Unit {0}) }
+{
+    match &changes[0] {
+        Change::Whole(first) => put_records(alloc, tx, conds, first, changes),
+        Change::OfHold(_) => put_rest(tx, conds, &changes[0]),
+    }
+}
+
+// By their texts: `as_bytes` says of each that it is an id's.
+fn differ(one: &Id, other: &Id) -> bool
+    ensures differ { IsTrue result → one.now ≢ other.now }
+    ensures is_id { IsId one.now }
+{
+    one.as_bytes() != other.as_bytes()
+}
+
+/// Whether a change leaves the record of this id alone.
+fn is_apart(id: &Id, change: &Change) -> bool
+    ensures { IsTrue result → IsApart id.now change.now }
+{
+    match change {
+        Change::Whole(sysmod) => differ(id, &sysmod.id),
+        Change::OfHold(_) => true,
+    }
+}
+
+/// Whether all changes leave the record of this id alone.
+fn are_others(id: &Id, changes: &[Change]) -> bool
+    ensures { IsTrue result → AllByRecursion (IsApart id.now) changes.now }
+{
+    for change in changes {
+        if !is_apart(id, change) {
+            return false;
+        }
+    }
+    true
+}
+
+/// Whether the changes after this one leave its record alone. A change of a hold has none.
+fn is_first_apart(first: &Change, changes: &[Change]) -> bool
+    ensures { IsTrue result → AreApart changes.now → AreApart (first.now ∷ changes.now) }
+{
+    match first {
+        Change::Whole(sysmod) => are_others(&sysmod.id, changes),
+        Change::OfHold(_) => true,
+    }
+}
+
+/// Whether no two are records of one id.
+fn are_apart(changes: &[Change]) -> bool
+    ensures { IsTrue result → AreApart changes.now }
+{
+    let mut at = changes.len();
+    while at > 0 {
+        if !is_first_apart(&changes[at - 1], &changes[at..]) {
+            return false;
+        }
+        at -= 1;
+    }
+    true
+}
+
+/// 1 for a record, and 0 for a hold that is put or released.
+fn records_of(change: &Change) -> usize
+    ensures counted { result ≡ records_in (change.now ∷ []) }
+    ensures most { result ≤ 1 }
+{
+    match change {
+        Change::Whole(_) => 1,
+        Change::OfHold(_) => 0,
+    }
+}
+
+/// How many changes there are up to the eighth record; none where fewer records are among the first 64.
+fn to_eighth(changes: &[Change]) -> usize
+    ensures within { result ≤ length changes.now }
+    ensures eight { 0 < result → records_in (take result changes.now) ≡ 8 }
+{
+    let mut records = 0;
+    for at in 0..changes.len().min(64) {
+        records += records_of(&changes[at]);
+        if records == 8 {
+            return at + 1;
+        }
+    }
+    0
+}
+
+/// How many changes come at once: those up to the eighth record, if the first is a record and no two of them have one
+/// id, or the first alone.
+fn together(changes: &[Change]) -> usize
+    requires { 0 < length changes.now }
+    ensures some { 0 < result }
+    ensures within { result ≤ length changes.now }
+    ensures together { IsTogether (take result changes.now) }
+{
+    let count = to_eighth(changes);
+    if count > 0 && records_of(&changes[0]) == 1 && are_apart(&changes[..count]) {
+        return count;
+    }
+    1
 }
 
 /// All changes of a publication in turn.
@@ -68,8 +238,11 @@ pub(crate) fn put_changes<S: Alter>(
         (sum_by rows_of_change changes.now) (λ stored. Unit {0}) }
 {
     let conds = prepare(tx, TableById::SysmodCond.insertion())?;
-    for change in changes {
-        put_change(alloc, tx, &conds, change)?;
+    let mut at = 0;
+    while at < changes.len() {
+        let count = together(&changes[at..]);
+        put_together(alloc, tx, &conds, &changes[at..at + count])?;
+        at += count;
     }
     Ok(())
 }

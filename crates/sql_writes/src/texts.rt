@@ -1,7 +1,7 @@
 //! The texts that insert several rows into one table at once, and those that ask whether an id has rows.
 #![tactic(auto, unfolding(sqlite::specs::Listing::understood, sqlite_tied::specs::Compute::everything))]
 
-ghost use Rattle.std.specs.Prelude.{◌<◌, ◌≤◌, ◌+◌, ◌*◌, ◌∷◌, []};
+ghost use Rattle.std.specs.Prelude.{◌≡◌, ◌⊎◌, ◌<◌, ◌≤◌, ◌+◌, ◌*◌, ◌∷◌, []};
 ghost use Rattle.sql_texts.specs.Meaning.{Reads};
 ghost use Rattle.sql_texts.specs.Schema.{bureau};
 ghost use Rattle.sql_writes.specs.Asking.{id_name, ids_of};
@@ -9,32 +9,48 @@ ghost use Rattle.sql_writes.specs.Many.{MeansBy, insert_alike, parameters_to};
 
 use sql_texts::write::TableById;
 
-/// So many rows of what the record ?1 supersedes: ?2, ?3 and so on.
+/// One row of a record, or eight: the SYSMOD ?1, its kind ?2, its functions ?3, its PRE ?4 and its REQ ?5, and so on.
+pub(crate) fn sysmods(count: usize) -> &'static str
+    requires { (count ≡ 1) ⊎ (count ≡ 8) }
+    ensures { MeansBy bureau result.now (insert_alike 3 0 5 count) (parameters_to (5 * count)) }
+{
+    match count {
+        1 => "INSERT INTO sysmod (id, kind, fmids, pre, req) VALUES (?1, ?2, ?3, ?4, ?5)",
+        _ => {
+            "INSERT INTO sysmod (id, kind, fmids, pre, req) \
+             VALUES (?1, ?2, ?3, ?4, ?5), (?6, ?7, ?8, ?9, ?10), (?11, ?12, ?13, ?14, ?15), \
+             (?16, ?17, ?18, ?19, ?20), (?21, ?22, ?23, ?24, ?25), (?26, ?27, ?28, ?29, ?30), \
+             (?31, ?32, ?33, ?34, ?35), (?36, ?37, ?38, ?39, ?40)"
+        }
+    }
+}
+
+/// So many rows of what records supersede: the record ?1 and a SYSMOD that it supersedes ?2, ?3 with ?4 and so on.
 pub(crate) fn sups(count: usize) -> &'static str
     requires some { 0 < count }
     requires few { count ≤ 8 }
-    ensures { MeansBy bureau result.now (insert_alike 4 1 1 count) (parameters_to (1 + 1 * count)) }
+    ensures { MeansBy bureau result.now (insert_alike 4 0 2 count) (parameters_to (2 * count)) }
 {
     match count {
         1 => "INSERT INTO sysmod_sup (id, member) VALUES (?1, ?2)",
-        2 => "INSERT INTO sysmod_sup (id, member) VALUES (?1, ?2), (?1, ?3)",
-        3 => "INSERT INTO sysmod_sup (id, member) VALUES (?1, ?2), (?1, ?3), (?1, ?4)",
-        4 => "INSERT INTO sysmod_sup (id, member) VALUES (?1, ?2), (?1, ?3), (?1, ?4), (?1, ?5)",
+        2 => "INSERT INTO sysmod_sup (id, member) VALUES (?1, ?2), (?3, ?4)",
+        3 => "INSERT INTO sysmod_sup (id, member) VALUES (?1, ?2), (?3, ?4), (?5, ?6)",
+        4 => "INSERT INTO sysmod_sup (id, member) VALUES (?1, ?2), (?3, ?4), (?5, ?6), (?7, ?8)",
         5 => {
-            "INSERT INTO sysmod_sup (id, member) VALUES (?1, ?2), (?1, ?3), (?1, ?4), (?1, ?5), \
-             (?1, ?6)"
+            "INSERT INTO sysmod_sup (id, member) VALUES (?1, ?2), (?3, ?4), (?5, ?6), (?7, ?8), \
+             (?9, ?10)"
         }
         6 => {
-            "INSERT INTO sysmod_sup (id, member) VALUES (?1, ?2), (?1, ?3), (?1, ?4), (?1, ?5), \
-             (?1, ?6), (?1, ?7)"
+            "INSERT INTO sysmod_sup (id, member) VALUES (?1, ?2), (?3, ?4), (?5, ?6), (?7, ?8), \
+             (?9, ?10), (?11, ?12)"
         }
         7 => {
-            "INSERT INTO sysmod_sup (id, member) VALUES (?1, ?2), (?1, ?3), (?1, ?4), (?1, ?5), \
-             (?1, ?6), (?1, ?7), (?1, ?8)"
+            "INSERT INTO sysmod_sup (id, member) VALUES (?1, ?2), (?3, ?4), (?5, ?6), (?7, ?8), \
+             (?9, ?10), (?11, ?12), (?13, ?14)"
         }
         _ => {
-            "INSERT INTO sysmod_sup (id, member) VALUES (?1, ?2), (?1, ?3), (?1, ?4), (?1, ?5), \
-             (?1, ?6), (?1, ?7), (?1, ?8), (?1, ?9)"
+            "INSERT INTO sysmod_sup (id, member) VALUES (?1, ?2), (?3, ?4), (?5, ?6), (?7, ?8), \
+             (?9, ?10), (?11, ?12), (?13, ?14), (?15, ?16)"
         }
     }
 }

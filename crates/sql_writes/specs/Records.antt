@@ -1,0 +1,103 @@
+-- No part of what is promised: private contracts cite it. Records of the catalogue that are put together.
+use Rattle.std.specs.Prelude.{◌≡◌, ◌≢◌, ◌⊎◌, ℕ, suc, false, List, [], ◌∷◌, ◌++◌, drop, length, map, take}
+use Rattle.std.specs.List.{AllByRecursion, list_any}
+use Rattle.mcs_reader.specs.Id.{IsId}
+use Rattle.catalogue.specs.declared.change.Change.{Change}
+use Rattle.catalogue.specs.declared.change.Change.TheVariants.{Whole, OfHold}
+use Rattle.catalogue.specs.declared.sysmod.Sysmod.{Sysmod}
+use Rattle.sqlite_value.specs.Order.{Row}
+use Rattle.sqlite_value.specs.declared.value.Value.TheVariants.{Text}
+use Rattle.sql_tables.specs.Changes.{holds_changed}
+use Rattle.sql_tables.specs.Rows.{sup_row, sysmod_row}
+use Rattle.sql_tables.specs.Stored.{Stored, is_of, is_of_both}
+use Rattle.sql_tables.specs.Values.{id_value, sysmod_kind_value}
+use Rattle.sql_writes.specs.Many.{AreNew}
+use Rattle.sql_writes.specs.Parts.{with_conds, without_conds, without_sups, without_sysmod}
+use Rattle.sql_writes.specs.Room.{rows_of_change}
+use Rattle.sql_writes.specs.declared.records.SupRow.{SupRow}
+use Rattle.sql_writes.specs.declared.records.SysmodRow.{SysmodRow}
+
+-- the columns of a record's row
+abbrev pub values_of : SysmodRow → Row
+values_of row =
+    id_value row.id ∷ sysmod_kind_value row.kind ∷ Text row.fmids.items ∷ Text row.pre.items ∷ Text row.req.items ∷ []
+
+-- the columns of a row of what a record supersedes
+abbrev pub member_values : SupRow → Row
+member_values row = sup_row row.id row.member
+
+-- the row of a record; what is said of a hold makes none
+abbrev pub record_rows : Change → List Row
+record_rows (Whole sysmod) = sysmod_row sysmod ∷ []
+record_rows (OfHold change) = []
+
+-- what a record supersedes, one by one
+abbrev pub pairs : List ℕ → List (List ℕ) → List SupRow
+pairs id members = map (λ member. record { id = id; member = member }) members
+
+abbrev pub sups_of : Change → List SupRow
+sups_of (Whole sysmod) = pairs sysmod.id sysmod.sup
+sups_of (OfHold change) = []
+
+-- how many rows come of a change beside the row of a record and those of what it supersedes
+abbrev pub rest_count : Change → ℕ
+rest_count (Whole sysmod) = length sysmod.conds
+rest_count (OfHold change) = rows_of_change (OfHold change)
+
+-- ---- what they change
+
+-- the row of a record goes, and those of what it supersedes
+abbrev pub record_gone : Stored → Change → Stored
+record_gone stored (Whole sysmod) = without_sups sysmod.id (without_sysmod sysmod.id stored)
+record_gone stored (OfHold change) = stored
+
+-- rows of records come
+abbrev pub with_sysmods : List SysmodRow → Stored → Stored
+with_sysmods rows stored = record stored { sysmods = stored.sysmods ++ map values_of rows }
+
+-- rows of what records supersede come
+abbrev pub with_members : List SupRow → Stored → Stored
+with_members rows stored = record stored { sups = stored.sups ++ map member_values rows }
+
+-- what a record requires under a condition comes in place of what stands there, or a hold comes or goes
+abbrev pub rest_put : Stored → Change → Stored
+rest_put stored (Whole sysmod) = with_conds sysmod.id sysmod.conds (without_conds sysmod.id stored)
+rest_put stored (OfHold change) = record stored { holds = holds_changed change stored.holds }
+
+-- ---- which may be put together
+
+-- the first change is of this record
+abbrev pub Begins : Sysmod → List Change → Type 0
+Begins first changes = Whole first ∷ drop 1 changes ≡ changes
+
+-- no record of this id
+abbrev pub IsApart : List ℕ → Change → Type 0
+IsApart id (Whole sysmod) = IsId id × (id ≢ sysmod.id)
+IsApart id (OfHold change) = Unit {0}
+
+-- no two records are of one id
+abbrev pub AreApart : List Change → Type 0
+AreApart [] = Unit {0}
+AreApart (Whole sysmod ∷ changes) = AllByRecursion (IsApart sysmod.id) changes × AreApart changes
+AreApart (OfHold change ∷ changes) = AreApart changes
+
+-- how many records there are
+abbrev pub records_in : List Change → ℕ
+records_in [] = 0
+records_in (Whole sysmod ∷ changes) = suc (records_in changes)
+records_in (OfHold change ∷ changes) = records_in changes
+
+-- one change alone, or eight records with what comes of holds between them
+abbrev pub IsTogether : List Change → Type 0
+IsTogether changes = (length changes ≡ 1) ⊎ ((records_in (take 1 changes) ≡ 1) × (records_in changes ≡ 8) × AreApart changes)
+
+-- none of what records supersede stands among these rows, nor comes twice
+abbrev pub AreNewMembers : List SupRow → List Row → Type 0
+AreNewMembers = AreNew (λ row. is_of_both row.id row.member) member_values
+
+-- none of these records stands among these rows, nor comes twice
+abbrev pub AreNewRecords : List Change → List Row → Type 0
+AreNewRecords [] rows = Unit {0}
+AreNewRecords (Whole sysmod ∷ changes) rows =
+    (list_any (is_of sysmod.id) rows ≡ false) × AreNewRecords changes (rows ++ sysmod_row sysmod ∷ [])
+AreNewRecords (OfHold change ∷ changes) rows = AreNewRecords changes rows
