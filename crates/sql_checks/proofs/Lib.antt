@@ -3,6 +3,7 @@ pub mod KeyFacts
 pub mod OursFacts
 pub mod RowFacts
 pub mod SaidFacts
+pub mod SayFacts
 pub mod ScanFacts
 pub mod TallyFacts
 pub mod TypedFacts

@@ -1,11 +1,15 @@
 -- How much a store has, of what one read after another finds.
-use Rattle.std.proofs.Common.{◌≡◌, ◌+◌, ◌++◌, ℕ, List, [], ◌∷◌, length, take, sym, ◌∙◌, ap, ap₂, subst, Ok, Err, Result}
+use Rattle.std.proofs.Common.{◌≡◌, ◌<◌, ◌+◌, ◌++◌, ℕ, List, [], ◌∷◌, IsTrue, get_or, length, take, sym, ◌∙◌, ap, ap₂, subst, Ok, Err, Result}
 use Rattle.std.specs.Prelude.{map, Vec}
 use Rattle.std.specs.declared.alloc.Global.{Global}
 use Rattle.std.proofs.lemmas.List.{map-append}
+use Rattle.std.proofs.lemmas.List.Elements.{Contains-get_or}
+use Rattle.std.specs.List.{Contains}
 use Rattle.bureau_store.specs.declared.caller.CallerRow.{CallerRow}
 use Rattle.sqlite.specs.Effect.{Database}
-use Rattle.sqlite.specs.State.{State}
+use Rattle.sqlite.specs.State.{HasCleanDisk, State}
+use Rattle.sql_reads.specs.declared.fault.ReadFault.{ReadFault}
+use Rattle.sql_reads.specs.declared.fault.ReadFault.TheVariants.{Device}
 use Rattle.sql_reads.specs.Tally.{tally_of}
 use Rattle.sql_reads.specs.declared.tally.CallerTally.{CallerTally}
 use Rattle.sql_state.proofs.StopFacts.{no_read, read_on}
@@ -13,9 +17,11 @@ use Rattle.sql_state.specs.Ours.{IsOurs, held_by}
 use Rattle.sql_state.specs.Reading.{Finds, OnlyReads}
 use Rattle.sql_tables.specs.Stored.{Stored, tables_of}
 use Rattle.sql_checks.specs.Checked.{Looks}
+use Rattle.sql_checks.specs.Refused.{AreUntallied, IsCausedBy, IsUncounted}
 use Rattle.sql_checks.specs.Tally.{HasTallied, IsTallyOf, line_of}
 use Rattle.sql_checks.specs.declared.tallies.CallerLine.{CallerLine}
 use Rattle.sql_checks.specs.declared.tallies.StoreTally.{StoreTally}
+use Rattle.sql_checks.proofs.CauseFacts.{later_caused}
 use Rattle.sql_checks.proofs.ScanFacts.{look_on, look_so}
 
 -- a read is a look
@@ -79,3 +85,13 @@ of_list old new callers lines look = record { reads = look.reads; is_open = look
 pub refused_later : {A Fault : Type 0} (old mid new : State) (e : Fault) (Fact : Database → A → Type 0) → OnlyReads old mid → OnlyReads mid new
     → Looks {Answer = A} {Fault = Fault} old new (Err e) Fact
 refused_later old mid new e Fact first second = record { reads = read_on old mid new first second; is_open = tt; told = tt }
+
+-- ---- why there is no tally
+
+-- one of the callers isn't counted, after others
+pub one_untallied : (old mid new : State) (callers : List CallerRow) (at : ℕ) (caller : CallerRow) (fault : ReadFault) → at < length callers → caller ≡ get_or callers at caller
+    → OnlyReads old mid → (HasCleanDisk mid → IsTrue old.is_open → IsTrue mid.is_open) → OnlyReads mid new → (fault ≡ Device → HasCleanDisk new → IsCausedBy (IsUncounted caller.name) mid new)
+    → fault ≡ Device → HasCleanDisk new → IsCausedBy (AreUntallied callers) old new
+one_untallied old mid new callers at caller fault within is =
+    later_caused (IsUncounted caller.name) (AreUntallied callers) old mid new fault
+    (λ limit database why. (caller, subst (Contains callers) (sym is) (Contains-get_or callers at caller within), why))

@@ -1,14 +1,17 @@
 //! How much a store has.
-ghost use Rattle.std.specs.Prelude.{◌≡◌, false};
+ghost use Rattle.std.specs.Prelude.{◌≡◌, false, IfErr};
 ghost use Rattle.sqlite.specs.Held.{state};
+ghost use Rattle.sqlite.specs.State.{HasCleanDisk};
 ghost use Rattle.sql_checks.specs.Checked.{Looks};
+ghost use Rattle.sql_checks.specs.Refused.{AreUntallied, IsCausedBy, IsUntallied};
 ghost use Rattle.sql_checks.specs.Tally.{HasTallied, IsTallyOf};
 ghost use Rattle.sql_state.specs.Ours.{IsOurs, held_by};
 ghost use Rattle.sql_tables.specs.Stored.{tables_of};
 
+use crate::asked::{caller_tally, counts};
 use bureau_store::CallerRow;
 use mcs_reader::Id;
-use sql_reads::{CallerTally, ReadFault, caller_tally, counts};
+use sql_reads::{CallerTally, ReadFault};
 use sqlite::{Alter, Connection};
 use std::alloc::Global;
 
@@ -34,7 +37,8 @@ pub struct StoreTally {
 ///
 /// # Errors
 ///
-/// Those of [`ReadFault`].
+/// Those of [`ReadFault`]. A failed device is told only where the device failed, the connection was shut, or the
+/// database shows no rows that say what is asked.
 pub fn store_tally<S: Alter>(
     alloc: Global,
     conn: &mut Connection<S>,
@@ -45,6 +49,8 @@ pub fn store_tally<S: Alter>(
     ensures looks { Looks (state S.Store conn.old) (state S.Store conn.new) result
         (λ database tally. IsOurs database
         → IsTallyOf (tables_of (held_by database)) callers.now tally) }
+    ensures cause { IfErr result (λ fault. fault ≡ ReadFault.Device → HasCleanDisk (state S.Store conn.new)
+        → IsCausedBy (IsUntallied callers.now) (state S.Store conn.old) (state S.Store conn.new)) }
 {
     let counts = counts(conn)?;
     match lines(alloc, conn, callers) {
@@ -67,6 +73,8 @@ fn lines<S: Alter>(
     ensures mode { conn.new.in_transaction ≡ false }
     ensures looks { Looks (state S.Store conn.old) (state S.Store conn.new) result
         (λ database lines. HasTallied callers.now database lines.items) }
+    ensures cause { IfErr result (λ fault. fault ≡ ReadFault.Device → HasCleanDisk (state S.Store conn.new)
+        → IsCausedBy (AreUntallied callers.now) (state S.Store conn.old) (state S.Store conn.new)) }
 {
     let mut lines = Vec::with_capacity(alloc, callers.len())?;
     for caller in callers {

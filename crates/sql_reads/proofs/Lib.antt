@@ -1,19 +1,19 @@
 mod AnsweringFacts
-mod CallerFacts
-mod ClientFacts
-mod CountFacts
+pub mod CallerFacts
+pub mod ClientFacts
+pub mod CountFacts
 mod CutFacts
 mod HeldFacts
 mod JoinFacts
 pub mod LengthFacts
 mod MemberFacts
-mod OrderFacts
+pub mod OrderFacts
 mod ProperFacts
 mod PublishedFacts
 mod QuietFacts
 mod ScanFacts
 mod SeenFacts
-mod TableFacts
-mod TallyFacts
+pub mod TableFacts
+pub mod TallyFacts
 pub mod VersionFacts
-mod ZoneFacts
+pub mod ZoneFacts

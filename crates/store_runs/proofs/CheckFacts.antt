@@ -1,5 +1,5 @@
 -- What `check` sees of a database, what it tells, and what a stop leaves.
-use Rattle.std.proofs.Common.{◌≡◌, ◌⊎◌, ◌∙◌, ◌∷◌, [], ℕ, Err, List, None, Ok, Some, ap, inl, inr, map, refl, subst, sym}
+use Rattle.std.proofs.Common.{◌≡◌, ◌⊎◌, ◌∙◌, ◌∷◌, [], ℕ, Err, IsTrue, List, None, Ok, Some, ap, inl, inr, map, refl, subst, sym}
 use Rattle.std.proofs.Math.Logic.{∥∥₁_map}
 use Rattle.std.specs.Prelude.{false, IfErr, IfOk, Option, OnErr, OnOk, Result, Vec}
 use Rattle.std.specs.declared.alloc.Global.{Global}
@@ -26,12 +26,12 @@ use Rattle.sqlite.specs.Effect.{Database}
 use Rattle.sqlite.specs.Files.{HoldsDatabase, IsNothing, file_state}
 use Rattle.sqlite.specs.Held.{Held}
 use Rattle.sqlite.specs.State.{HasCleanDisk, State}
-use Rattle.sql_checks.proofs.CauseFacts.{caused_after}
+use Rattle.sql_checks.proofs.CauseFacts.{caused_after, caused_so, later_caused}
 use Rattle.sql_checks.proofs.ScanFacts.{look_on, look_so}
 use Rattle.sql_checks.proofs.TallyFacts.{read_looks}
 use Rattle.sql_checks.specs.Checked.{Finds, IsFound, IsOursIfNumbered, Looks}
 use Rattle.sql_checks.specs.Kept.{AreKept}
-use Rattle.sql_checks.specs.Refused.{IsCausedBy, IsUnread}
+use Rattle.sql_checks.specs.Refused.{IsCausedBy, IsUnread, IsUnsaid, IsUntallied, SaysCallers, of_callers}
 use Rattle.sql_checks.specs.Tally.{IsTallyOf, tally_text}
 use Rattle.sql_checks.specs.declared.checking.Finding.{Finding}
 use Rattle.sql_checks.specs.declared.checking.Finding.TheVariants.{OtherTables, OtherVersion, Whole, WrongRow}
@@ -46,7 +46,7 @@ use Rattle.sql_state.specs.Reading.{OnlyReads}
 use Rattle.sql_tables.specs.Stored.{tables_of}
 use Rattle.sql_texts.specs.Found.{shown}
 use Rattle.sql_texts.specs.Schema.{bureau}
-use Rattle.store_runs.specs.Checking.{IsCheck, IsCheckOutput, IsCheckRun, IsCheckTold, IsSeenWhole, IsSeenWrong, IsServable, IsTextOf, IsToldAs, IsToldOfRead, IsToldWhole, IsWrong, check_fault_in, check_status, in_no_table}
+use Rattle.store_runs.specs.Checking.{IsCheck, IsCheckOutput, IsCheckRun, IsCheckTold, IsSeenWhole, IsSeenWrong, IsServable, IsTextOf, IsToldAs, IsToldOfRead, IsToldWhole, IsUntold, IsWrong, check_fault_in, check_status, in_no_table}
 use Rattle.store_runs.specs.Desk.{of_store}
 use Rattle.store_runs.specs.Ended.{HasEnded, HasFound, IsEndOf, IsRefused}
 use Rattle.store_runs.specs.Keeping.{HasNoTables, Keeps as Always, KeepsFound, TellsOnly}
@@ -81,6 +81,16 @@ tallied old mid new callers slice tally (Ok text) first ascend same second is =
     record { callers = callers.items; all = it.0; ascend = ascend; tally = tally; tallied = subst (λ rows. IsTallyOf (tables_of (held_by database)) rows tally) same it.1; is = is })
 tallied old mid new callers slice tally (Err fault) first ascend same second is = record { reads = read_on old mid new first.reads second.reads; is_open = tt; told = tt }
 
+-- the callers aren't said
+pub callers_untold : (old new : State) → IsCausedBy (IsUnsaid of_callers SaysCallers) old new → IsCausedBy IsUntold old new
+callers_untold old new = caused_so (IsUnsaid of_callers SaysCallers) IsUntold old new (λ limit database why. inl why)
+
+-- or what they have isn't, after them
+pub tally_untold : (old mid new : State) (callers : List CallerRow) (refused : ReadFault) → OnlyReads old mid → (HasCleanDisk mid → IsTrue mid.is_open) → OnlyReads mid new
+    → (refused ≡ fault.Device → HasCleanDisk new → IsCausedBy (IsUntallied callers) mid new) → refused ≡ fault.Device → HasCleanDisk new → IsCausedBy IsUntold old new
+tally_untold old mid new callers refused first stays second =
+    later_caused (IsUntallied callers) IsUntold old mid new refused (λ limit database why. inr (callers, why)) first (λ clean on. stays clean) second
+
 -- ---- what is seen of an open connection
 
 -- it is whole, and how much it has
@@ -104,9 +114,12 @@ check_refused old new refused told (inr device) cause = inr (inr (device.0, λ c
 
 -- or the store is whole, and it can't be read how much it has
 pub tally_refused : (old mid new : State) (refused : ReadFault) (told : CheckFault) → IsToldOfRead refused told → Finds {Fault = ReadFault} old mid (Ok Whole) IsFound → OnlyReads mid new
-    → IsSeenWrong old new told
-tally_refused old mid new refused told (inl memory) first second = inr (inl memory)
-tally_refused old mid new refused told (inr device) first second = inr (inr (device.0, λ clean on. inr (first.told (was_clean mid new _ second.survives clean) on)))
+    → (refused ≡ fault.Device → HasCleanDisk new → IsCausedBy IsUntold mid new) → IsSeenWrong old new told
+tally_refused old mid new refused told (inl memory) first second cause = inr (inl memory)
+tally_refused old mid new refused told (inr device) first second cause = inr (inr (
+  device.0,
+  λ clean on. inr (first.told (was_clean mid new _ second.survives clean) on, caused_after IsUntold old mid new first.reads first.is_open second clean (cause device.1 clean)),
+))
 
 -- ---- what is told of the store of a connection
 
@@ -140,7 +153,10 @@ module _ (before opened after : State) (servable : IsServable before opened) (re
     device.0,
     λ clean. elim (device.1 clean (servable.is_open (open_before clean))) [
       | inl cause ↦ inl (caused_after IsUnread before opened after servable.reads (λ there was. servable.is_open there) reads clean cause)
-      | inr whole ↦ inr (subst (λ database. IsFound database Whole) (one_database clean) whole)
+      | inr whole ↦ inr (
+        subst (λ database. IsFound database Whole) (one_database clean) whole.0,
+        caused_after IsUntold before opened after servable.reads (λ there was. servable.is_open there) reads clean whole.1,
+      )
     ],
   )))
 

@@ -14,7 +14,7 @@ use Rattle.bureau_sql.specs.Opening.{HasConditions, HasTables, IsNoStore}
 use Rattle.bureau_sql.specs.SqlView.{IsAtRest}
 use Rattle.sql_checks.specs.Checked.{IsFound, IsOursIfNumbered}
 use Rattle.sql_checks.specs.Kept.{AreKept, table_name}
-use Rattle.sql_checks.specs.Refused.{IsCausedBy, IsUnread}
+use Rattle.sql_checks.specs.Refused.{IsCausedBy, IsUnread, IsUnsaid, IsUntallied, SaysCallers, of_callers}
 use Rattle.sql_checks.specs.Tally.{IsTallyOf, tally_text}
 use Rattle.sql_checks.specs.declared.checking.Finding.{Finding}
 use Rattle.sql_checks.specs.declared.checking.Finding.TheVariants.{Whole, OtherTables, OtherVersion, WrongRow}
@@ -85,11 +85,18 @@ IsUnservable before after told =
 abbrev pub IsUnsound : State → State → CheckFault → Type 0
 IsUnsound before after told = (finding : Finding) × IsToldAs finding told × (HasCleanDisk after → IsFound before.committed finding)
 
--- Memory ran out; or the device has failed, or the rows aren't shown; or it is whole, and how much it has could not be read.
+-- The database doesn't say which callers there are, or how much they have.
+abbrev pub IsUntold : Option ℕ → Database → Type 0
+IsUntold limit database = IsUnsaid of_callers SaysCallers limit database ⊎ ((callers : List CallerRow) × IsUntallied callers limit database)
+
+-- The device has failed; or the rows aren't shown; or the store is whole, and doesn't say how much it has.
+abbrev pub IsUnknown : State → State → Type 0
+IsUnknown before after = IsCausedBy IsUnread before after ⊎ (IsFound before.committed Whole × IsCausedBy IsUntold before after)
+
+-- Memory ran out; or a failed device is told, for a cause.
 abbrev pub IsUnanswered : State → State → CheckFault → Type 0
 IsUnanswered before after told =
-    (told ≡ in_no_table (of_store Memory))
-    ⊎ ((told ≡ in_no_table (of_store Device)) × (HasCleanDisk after → IsCausedBy IsUnread before after ⊎ IsFound before.committed Whole))
+    (told ≡ in_no_table (of_store Memory)) ⊎ ((told ≡ in_no_table (of_store Device)) × (HasCleanDisk after → IsUnknown before after))
 
 -- Why nothing is printed.
 abbrev pub IsWrong : State → State → CheckFault → Type 0
@@ -166,8 +173,7 @@ abbrev pub IsSeenWrong : State → State → CheckFault → Type 0
 IsSeenWrong before after told =
     ((finding : Finding) × IsToldAs finding told × (HasCleanDisk after → IsTrue before.is_open → IsFound before.committed finding))
     ⊎ (told ≡ in_no_table (of_store Memory))
-    ⊎ ((told ≡ in_no_table (of_store Device))
-    × (HasCleanDisk after → IsTrue before.is_open → IsCausedBy IsUnread before after ⊎ IsFound before.committed Whole))
+    ⊎ ((told ≡ in_no_table (of_store Device)) × (HasCleanDisk after → IsTrue before.is_open → IsUnknown before after))
 
 -- what is told of a read that is refused
 abbrev pub IsToldOfRead : ReadFault → CheckFault → Type 0

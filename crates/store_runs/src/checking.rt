@@ -9,12 +9,13 @@ ghost use Rattle.sqlite_wal.specs.Files.{image_at};
 ghost use Rattle.run_parts.specs.Outputs.{outputs_of};
 ghost use Rattle.run_parts.specs.ProgramFault.{of_program};
 ghost use Rattle.sql_checks.specs.Checked.{Looks};
+ghost use Rattle.sql_checks.specs.Refused.{IsCausedBy};
 ghost use Rattle.sql_checks.specs.Tally.{tally_text};
 ghost use Rattle.sql_checks.specs.declared.checking.Finding.TheVariants as finding;
 ghost use Rattle.sql_state.specs.Ours.{IsOurs, held_by};
 ghost use Rattle.sql_state.specs.Reading.{OnlyReads};
 ghost use Rattle.sql_tables.specs.Stored.{tables_of};
-ghost use Rattle.store_runs.specs.Checking.{IsCheck, IsCheckOutput, IsCheckRun, IsCheckTold, IsSeenWhole, IsSeenWrong, IsServable, IsTextOf, IsToldAs, IsToldOfRead, check_fault_in, check_line, check_status, in_no_table};
+ghost use Rattle.store_runs.specs.Checking.{IsCheck, IsCheckOutput, IsCheckRun, IsCheckTold, IsSeenWhole, IsSeenWrong, IsServable, IsTextOf, IsToldAs, IsToldOfRead, IsUntold, check_fault_in, check_line, check_status, in_no_table};
 ghost use Rattle.transfer.specs.Transfer.{AppendsFront};
 
 use crate::desk::of_store;
@@ -24,8 +25,8 @@ use bureau_sql::SqlStore;
 use bureau_store::StoreFault;
 use faults::AnyFault;
 use run_parts::{ProgramFault, exit_status, printed, report, tell_in};
-use sql_checks::{Finding, StoreTable, StoreTally, check, store_tally, tally_text};
-use sql_reads::{ReadFault, all_callers};
+use sql_checks::{Finding, StoreTable, StoreTally, check, every_caller, store_tally, tally_text};
+use sql_reads::ReadFault;
 use sqlite::{Alter, Connection, FileFrom, Start};
 use std::alloc::Global;
 use std::io::{self, Write};
@@ -176,8 +177,10 @@ fn tally<S: Alter>(alloc: Global, conn: &mut Connection<S>) -> Result<Vec<u8>, R
     ensures mode { conn.new.in_transaction ≡ false }
     ensures looks { Looks (state S.Store conn.old) (state S.Store conn.new) result
         (λ database text. IsOurs database → IsTextOf (tables_of (held_by database)) text.items) }
+    ensures cause { IfErr result (λ fault. fault ≡ ReadFault.Device → HasCleanDisk (state S.Store conn.new)
+        → IsCausedBy IsUntold (state S.Store conn.old) (state S.Store conn.new)) }
 {
-    let callers = all_callers(alloc, conn)?;
+    let callers = every_caller(alloc, conn)?;
     match store_tally(alloc, conn, callers.as_slice()) {
         Ok(tally) => text_of(alloc, &tally),
         Err(fault) => Err(fault),
@@ -185,7 +188,8 @@ fn tally<S: Alter>(alloc: Global, conn: &mut Connection<S>) -> Result<Vec<u8>, R
 }
 
 fn text_of(alloc: Global, tally: &StoreTally) -> Result<Vec<u8>, ReadFault>
-    ensures { IfOk result (λ text. text.items ≡ tally_text tally.now) }
+    ensures text { IfOk result (λ text. text.items ≡ tally_text tally.now) }
+    ensures memory { IfErr result (λ fault. fault ≡ ReadFault.Memory) }
 {
     Ok(tally_text(alloc, tally)?)
 }

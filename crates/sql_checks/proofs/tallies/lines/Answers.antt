@@ -1,11 +1,13 @@
-use Rattle.std.proofs.Common.{◌≡◌, ◌+◌, ◌++◌, ◌∷◌, ◌∙◌, [], Ok, Err, ap, rules, subst, sym, take}
+use Rattle.std.proofs.Common.{◌≡◌, ◌+◌, ◌++◌, ◌∷◌, ◌∙◌, [], Ok, Err, IfErr, ap, rules, subst, sym, take}
 use Rattle.std.proofs.lemmas.List.{take_all, take_more}
 use Rattle.bureau_store.specs.declared.caller.CallerRow.{CallerRow}
 use Rattle.sqlite.specs.Held.{state}
-use Rattle.sql_reads.specs.declared.fault.ReadFault.TheVariants.{Memory}
+use Rattle.sqlite.specs.State.{HasCleanDisk}
+use Rattle.sql_reads.specs.declared.fault.ReadFault.TheVariants.{Device, Memory}
 use Rattle.sql_checks.specs.Checked.{Looks}
+use Rattle.sql_checks.specs.Refused.{AreUntallied, IsCausedBy}
 use Rattle.sql_checks.specs.Tally.{HasTallied}
-use Rattle.sql_checks.proofs.TallyFacts.{all_tallied, in_list, none_tallied, one_more, refused_later}
+use Rattle.sql_checks.proofs.TallyFacts.{all_tallied, in_list, none_tallied, one_more, one_untallied, refused_later}
 use Rattle.sql_checks.proofs.tallies.lines.Goals as goal
 
 pub loop-caller-init : goal.loop-caller-init
@@ -32,6 +34,15 @@ returns-in_err-has-clause-looks g c =
     subst (λ result. Looks (state g.S.Store c.args.conn.now) (state g.S.Store c.caller_tally.new.conn) result (λ database lines. HasTallied c.args.callers.now database lines.items)) (sym is)
     (refused_later (state g.S.Store c.args.conn.now) (state g.S.Store c.loop-caller.conn) (state g.S.Store c.caller_tally.new.conn) c.in_err-has.field-0.0 _ c.loop-caller.invariant.looks.reads
     c.in_err-has.ensures.finds.reads)
+
+pub returns-in_err-has-clause-cause : goal.returns-in_err-has-clause-cause
+returns-in_err-has-clause-cause g c =
+    let old = state g.S.Store c.args.conn.now in
+    let new = state g.S.Store c.caller_tally.new.conn in
+    let is : c.from_residual-in_err-has.result ≡ Err c.in_err-has.field-0.0 = search (rules, c.from_residual-in_err-has.ensures) in
+    subst (λ result. IfErr result (λ fault. fault ≡ Device → HasCleanDisk new → IsCausedBy (AreUntallied c.args.callers.now) old new)) (sym is)
+    (one_untallied old (state g.S.Store c.loop-caller.conn) new c.args.callers.now c.loop-caller.caller-index c.caller-item.result c.in_err-has.field-0.0 c.loop-caller-test.true c.caller-item.is
+    c.loop-caller.invariant.looks.reads c.loop-caller.invariant.looks.is_open c.in_err-has.ensures.finds.reads c.in_err-has.ensures.cause)
 
 pub returns-in_err-push-clause-looks : goal.returns-in_err-push-clause-looks
 returns-in_err-push-clause-looks g c =

@@ -17,7 +17,7 @@ returns-in-Err-tally-clause-wrong g c =
     let old = state g.S.Store c.args.conn.now in
     let mid = state g.S.Store c.check.new.conn in
     tally_refused old mid (state g.S.Store c.tally.new.conn) c.in-Err-tally.fault c.unread.result c.unread.ensures
-    (subst (λ finding. Finds {Fault = ReadFault} old mid (Ok finding) IsFound) c.in-Ok-Whole.field-0-is c.in-Ok-Whole.ensures.finds) c.in-Err-tally.ensures.looks.reads
+    (subst (λ finding. Finds {Fault = ReadFault} old mid (Ok finding) IsFound) c.in-Ok-Whole.field-0-is c.in-Ok-Whole.ensures.finds) c.in-Err-tally.ensures.looks.reads c.in-Err-tally.ensures.cause
 
 pub returns-in-Err-clause-wrong : goal.returns-in-Err-clause-wrong
 returns-in-Err-clause-wrong g c =

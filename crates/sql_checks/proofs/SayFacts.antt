@@ -1,0 +1,111 @@
+-- What rows say of a store, and what they don't.
+use Rattle.std.proofs.Common.{◌≡◌, ◌<◌, ◌∙◌, ℕ, Bool, true, false, cond, List, [], ◌∷◌, Option, None, Some, ap, ap₂, length, refl, subst, sym}
+use Rattle.std.proofs.lemmas.Slice.Eq.{bytes_eq-Decides}
+use Rattle.std.specs.Prelude.{map, nat_lt, option_and_then, option_map, sum_by, unwrap_or}
+use Rattle.std.specs.List.{Contains}
+use Rattle.bureau_store.specs.Caller.{caller_named, is_publisher, publisher_name}
+use Rattle.bureau_store.specs.Tables.{LastChange, NamesAscend, no_change}
+use Rattle.bureau_store.specs.declared.caller.Caller.TheVariants.{Client, Publisher}
+use Rattle.bureau_store.specs.declared.caller.CallerRow.{CallerRow}
+use Rattle.lemmas.proofs.ListFacts.{map_from, map_inside}
+use Rattle.lemmas.proofs.TestFacts.{less_number}
+use Rattle.mcs_reader.specs.Id.{IsId, text_of}
+use Rattle.sqlite.specs.Query.{IsAnswer}
+use Rattle.sqlite.specs.Tree.{Trees}
+use Rattle.sqlite_value.specs.Order.{Row, column}
+use Rattle.sqlite_value.specs.declared.value.Value.TheVariants.{Text}
+use Rattle.sql_reads.specs.Answering.{one_of}
+use Rattle.sql_reads.specs.ZoneCounts.{zone_counted}
+use Rattle.sql_reads.specs.declared.tally.CallerTally.{CallerTally}
+use Rattle.sql_reads.proofs.ClientFacts.{last_told}
+use Rattle.sql_reads.proofs.TallyFacts.{tallied}
+use Rattle.sql_reads.proofs.ZoneFacts.{zones_told}
+use Rattle.sql_tables.specs.InTrees.{stored_in}
+use Rattle.sql_tables.specs.Rows.{caller_found, change_found}
+use Rattle.sql_tables.specs.Stored.{name_of, tables_of}
+use Rattle.sql_tables.specs.Values.{number_in}
+use Rattle.sql_tables.specs.Whole.{IsWhole}
+use Rattle.sql_texts.specs.Reads as read
+use Rattle.sql_checks.specs.Refused.{IsCountOf, SaysCallers, SaysCount, SaysLast, SaysZones, counted}
+
+-- ---- rows that say nothing
+
+-- where one says nothing, not all say something
+pub one_unsaid : {A B : Type 0} (f : A → Option B) (xs : List A) (x : A) → Contains xs x → f x ≡ None → (said : List B) → map Some said ≡ map f xs → ⊥
+one_unsaid f xs x inside none said all =
+    let it = map_from Some said None (subst (λ made. Contains made None) (sym all) (subst (Contains (map f xs)) none (map_inside f xs x inside))) in
+    let is : Some it.from ≡ None = it.is in cc
+
+-- what all say is one list
+one_list : {A : Type 0} (xs ys : List A) → map Some xs ≡ map Some ys → xs ≡ ys
+one_list [] [] same = refl
+one_list [] (y ∷ ys) same = cc
+one_list (x ∷ xs) [] same = cc
+one_list (x ∷ xs) (y ∷ ys) same =
+    let first : x ≡ y = cc in
+    let rest : map Some xs ≡ map Some ys = cc in ap (λ a. a ∷ xs) first ∙ ap (λ all. y ∷ all) (one_list xs ys rest)
+
+-- zones that can't be counted leave their rows unsaid
+pub uncounted : (rows : List Row) (zones : List (List ℕ × ℕ)) → map Some zones ≡ map zone_counted rows → ((counts : ℕ × ℕ) → IsCountOf zones counts → ⊥) → (counts : ℕ × ℕ) → SaysZones rows counts → ⊥
+uncounted rows zones are none counts said = none counts (subst (λ all. IsCountOf all counts) (one_list said.0 zones (said.1 ∙ sym are)) said.2)
+
+-- so do callers that are out of order
+pub disordered : (rows : List Row) (callers : List CallerRow) → map Some callers ≡ map caller_found rows → (NamesAscend (map (λ row. row.name) callers) → ⊥) → (others : List CallerRow) → SaysCallers rows others → ⊥
+disordered rows callers are none others said = none (subst (λ all. NamesAscend (map (λ (row : CallerRow). row.name) all)) (one_list others callers (said.0 ∙ sym are)) said.1)
+
+-- ---- what is said is so
+
+-- a count
+pub count_parts : (rows : List Row) (count : ℕ) → SaysCount rows count → (one_of (λ row. number_in (column row 0)) rows ≡ Some (Some count)) × (count < 9223372036854775807)
+count_parts [] count said = cc
+count_parts (row ∷ other ∷ rows) count said = cc
+count_parts (row ∷ []) count said = by (number_in (column row 0)) said
+  where
+    tested : (n : ℕ) (b : Bool) → nat_lt n read.most_rows ≡ b → cond b (Some n) None ≡ Some count → (Some (Some n) ≡ Some (Some count)) × (count < 9223372036854775807)
+    tested n true below said =
+        let same : n ≡ count = cc in (ap (λ m. Some (Some m)) same, subst (λ m. m < 9223372036854775807) same (less_number n read.most_rows below))
+    tested n false below said = cc
+
+    by : (o : Option ℕ) → option_and_then counted o ≡ Some count → (option_map Some o ≡ Some (Some count)) × (count < 9223372036854775807)
+    by None said = cc
+    by (Some n) said = tested n (nat_lt n read.most_rows) refl said
+
+-- the caller of a name has that name
+own_name : (name : List ℕ) → name_of (caller_named name) ≡ Some name
+own_name name = by (is_publisher name) refl
+  where
+    by : (b : Bool) → is_publisher name ≡ b → name_of (cond b Publisher (Client name)) ≡ Some name
+    by true is = ap Some (sym ((bytes_eq-Decides name publisher_name).0 is))
+    by false is = ap (λ b. cond b None (Some name)) is
+
+-- the number of a last change
+of_change : (change found : LastChange) (number : ℕ) → number ≡ change.number → change ≡ found → number ≡ found.number
+of_change change found number is same = is ∙ ap (λ (c : LastChange). c.number) same
+
+pub last_number : (trees : Trees) (name : List ℕ) (rows : List Row) (number : ℕ) → IsId name → IsAnswer read.last_change trees (Text (text_of name) ∷ []) rows → SaysLast rows number
+    → number ≡ ((tables_of (stored_in trees)).last (caller_named name)).number
+last_number trees name rows number is answer said =
+    let it = parts rows said in
+    of_change it.0 ((tables_of (stored_in trees)).last (caller_named name)) number it.2 (last_told trees (caller_named name) name rows it.0 is (own_name name) answer it.1)
+  where
+    by : (o : Option LastChange) → option_map (λ (change : LastChange). change.number) o ≡ Some number
+        → (change : LastChange) × (option_map (λ found. unwrap_or found no_change) (option_map Some o) ≡ Some change) × (number ≡ change.number)
+    by None said = cc
+    by (Some change) said = let same : change.number ≡ number = cc in (change, refl, sym same)
+
+    parts : (rows : List Row) → SaysLast rows number → (change : LastChange) × (option_map (λ found. unwrap_or found no_change) (one_of change_found rows) ≡ Some change) × (number ≡ change.number)
+    parts [] said = let same : 0 ≡ number = cc in (no_change, refl, sym same)
+    parts (row ∷ []) said = by (change_found row) said
+    parts (row ∷ other ∷ rows) said = cc
+
+-- zones
+pub zones_counted : (trees : Trees) (name : List ℕ) → IsId name → IsWhole (stored_in trees) → (rows : List Row) (counts : ℕ × ℕ) → IsAnswer read.zones trees (Text (text_of name) ∷ []) rows → SaysZones rows counts
+    → (counts.0 ≡ length ((tables_of (stored_in trees)).zones name)) × (counts.1 ≡ sum_by (λ zone. length zone.1.rows) ((tables_of (stored_in trees)).zones name))
+zones_counted trees name is whole rows counts answer said =
+    let tables = tables_of (stored_in trees) in
+    let last = tables.last (caller_named name) in
+    let tally : CallerTally = record { zones = counts.0; rows = counts.1; last = last.number } in
+    let same : tally ≡ record { zones = length said.0; rows = sum_by (λ zone. zone.1) said.0; last = last.number } =
+    ap₂ (λ (zones rows : ℕ). record { zones = zones; rows = rows; last = last.number }) said.2.many said.2.total in
+    let told = tallied tables name last.number last.reply said.0 tally refl (zones_told trees name is whole rows said.0 said.2.ascend answer said.1) same in
+    (ap (λ (tally : CallerTally). tally.zones) told, ap (λ (tally : CallerTally). tally.rows) told)

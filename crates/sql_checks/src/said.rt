@@ -1,0 +1,198 @@
+//! What the rows say that answer a question about a store.
+ghost use Rattle.std.specs.Prelude.{◌≡◌, ◌<◌, ◌↔◌, ℕ, List, None, Some, map, sum_by, IfOk, IfSome, IsErrOf, IsTrue};
+ghost use Rattle.bureau_store.specs.Tables.{NamesAscend};
+ghost use Rattle.bureau_store.specs.declared.caller.CallerRow.{CallerRow as SomeCallerRow};
+ghost use Rattle.sqlite_value.specs.Order as order;
+ghost use Rattle.sql_reads.specs.ZoneCounts.{zone_counted};
+ghost use Rattle.sql_tables.specs.Rows.{caller_found};
+ghost use Rattle.sql_tables.specs.Values as value;
+ghost use Rattle.sql_checks.specs.Refused as refused;
+ghost use Rattle.sql_checks.specs.Refused.{IsCountOf, SaysCallers, SaysCount, SaysLast, SaysZones};
+
+use bureau_store::CallerRow;
+use mcs_reader::Id;
+use sql_reads::ReadFault;
+use sql_tables::{NoMemory, caller_in, change_in, count_in, id_row_in};
+use sqlite::Row;
+use sqlite::types::ValueRef;
+use std::alloc::Global;
+
+// As much as the database can count.
+const MOST_ROWS: u64 = 9_223_372_036_854_775_807;
+
+/// The count in the one row.
+pub(crate) fn count(rows: &[Row]) -> Result<u64, ReadFault>
+    ensures said { IfOk result (SaysCount rows.now) }
+    ensures unsaid { IsErrOf result ReadFault.Device → (count : ℕ) → SaysCount rows.now count → ⊥ }
+{
+    one_count(rows).ok_or(ReadFault::Device)
+}
+
+fn one_count(rows: &[Row]) -> Option<u64>
+    ensures { result ≡ refused.count_said rows.now }
+{
+    match rows {
+        [row] => counted(count_in(row)?),
+        _ => None,
+    }
+}
+
+// A count, unless it is as much as the database can count: that may stand for more.
+fn counted(count: u64) -> Option<u64>
+    ensures { result ≡ refused.counted count }
+{
+    if count >= MOST_ROWS {
+        return None;
+    }
+    Some(count)
+}
+
+/// The number of the last change, 0 where there is no row.
+pub(crate) fn last(alloc: Global, rows: &[Row]) -> Result<u64, ReadFault>
+    ensures said { IfOk result (SaysLast rows.now) }
+    ensures unsaid { IsErrOf result ReadFault.Device → (number : ℕ) → SaysLast rows.now number → ⊥ }
+{
+    match number(alloc, rows) {
+        Ok(Some(number)) => Ok(number),
+        Ok(None) => Err(ReadFault::Device),
+        Err(_) => Err(ReadFault::Memory),
+    }
+}
+
+fn number(alloc: Global, rows: &[Row]) -> Result<Option<u64>, NoMemory>
+    ensures { IfOk result (λ number. number ≡ refused.number_said rows.now) }
+{
+    match rows {
+        [] => Ok(Some(0)),
+        [row] => match change_in(alloc, row)? {
+            Some(change) => Ok(Some(change.0)),
+            None => Ok(None),
+        },
+        _ => Ok(None),
+    }
+}
+
+/// How many zones there are, and how many rows all of them have.
+pub(crate) fn zones(alloc: Global, rows: &[Row]) -> Result<(u64, u64), ReadFault>
+    ensures said { IfOk result (SaysZones rows.now) }
+    ensures unsaid { IsErrOf result ReadFault.Device → (counts : ℕ × ℕ) → SaysZones rows.now counts → ⊥ }
+{
+    match each_zone(alloc, rows) {
+        Ok(zones) => both_counts(zones.as_slice()).ok_or(ReadFault::Device),
+        Err(fault) => Err(fault),
+    }
+}
+
+// The same, of zones with how many rows each has.
+fn both_counts(zones: &[(Id, u64)]) -> Option<(u64, u64)>
+    ensures said { IfSome result (IsCountOf zones.now) }
+    ensures unsaid { result ≡ None → (counts : ℕ × ℕ) → IsCountOf zones.now counts → ⊥ }
+{
+    if !names_ascend(zones) {
+        return None;
+    }
+    match total(zones) {
+        Some(rows) => Some((zones.len() as u64, rows)),
+        None => None,
+    }
+}
+
+// The zone of each row, with how many rows it has.
+fn each_zone(alloc: Global, rows: &[Row]) -> Result<Vec<(Id, u64)>, ReadFault>
+    ensures said { IfOk result (λ zones. map Some zones.items ≡ map zone_counted rows.now) }
+    ensures unsaid { IsErrOf result ReadFault.Device → (zones : List (List ℕ × ℕ))
+        → map Some zones ≡ map zone_counted rows.now → ⊥ }
+{
+    let mut zones = Vec::with_capacity(alloc, rows.len())?;
+    for row in rows {
+        let Some(zone) = zone_in(row) else {
+            return Err(ReadFault::Device);
+        };
+        zones.push(zone)?;
+    }
+    Ok(zones)
+}
+
+// The zone of a row, with how many rows it has.
+fn zone_in(row: &Row) -> Option<(Id, u64)>
+    ensures { result ≡ zone_counted row.now }
+{
+    let name = id_row_in(row)?;
+    let count = counted(second_number(row)?)?;
+    Some((name, count))
+}
+
+// The number in the second column.
+fn second_number(row: &Row) -> Option<u64>
+    ensures { result ≡ value.number_in (order.column row.now 1) }
+{
+    match row.get_ref(1).unwrap_or(ValueRef::Null) {
+        ValueRef::Int(number) => u64::try_from(number).ok(),
+        _ => None,
+    }
+}
+
+// Whether the names of zones ascend, each once.
+fn names_ascend(zones: &[(Id, u64)]) -> bool
+    ensures { IsTrue result ↔ NamesAscend (map (λ zone. zone.0) zones.now) }
+{
+    zones.is_sorted_by(|zone, next| zone.0.cmp(&next.0).is_lt())
+}
+
+// How many rows all zones have, unless that is beyond the greatest number.
+fn total(zones: &[(Id, u64)]) -> Option<u64>
+    ensures said { IfSome result (λ total. total ≡ sum_by (λ zone. zone.1) zones.now) }
+    ensures unsaid { result ≡ None → 18446744073709551615 < sum_by (λ zone. zone.1) zones.now }
+{
+    let mut total: u64 = 0;
+    for zone in zones {
+        total = total.checked_add(zone.1)?;
+    }
+    Some(total)
+}
+
+/// The callers of all rows, in the order of their names.
+pub(crate) fn callers(alloc: Global, rows: &[Row]) -> Result<Vec<CallerRow>, ReadFault>
+    ensures said { IfOk result (λ callers. SaysCallers rows.now callers.items) }
+    ensures unsaid { IsErrOf result ReadFault.Device → (callers : List SomeCallerRow)
+        → SaysCallers rows.now callers → ⊥ }
+{
+    match each_caller(alloc, rows) {
+        Ok(callers) => in_order(callers).ok_or(ReadFault::Device),
+        Err(fault) => Err(fault),
+    }
+}
+
+// The caller of each row.
+fn each_caller(alloc: Global, rows: &[Row]) -> Result<Vec<CallerRow>, ReadFault>
+    ensures said { IfOk result (λ callers. map Some callers.items ≡ map caller_found rows.now) }
+    ensures unsaid { IsErrOf result ReadFault.Device → (callers : List SomeCallerRow)
+        → map Some callers ≡ map caller_found rows.now → ⊥ }
+{
+    let mut callers = Vec::with_capacity(alloc, rows.len())?;
+    for row in rows {
+        let Some(caller) = caller_in(alloc, row)? else {
+            return Err(ReadFault::Device);
+        };
+        callers.push(caller)?;
+    }
+    Ok(callers)
+}
+
+// The same callers, if their names ascend, each once.
+fn in_order(callers: Vec<CallerRow>) -> Option<Vec<CallerRow>>
+    ensures same { IfSome result (λ same. same.items ≡ callers.items) }
+    ensures ascend { IfSome result (λ same. NamesAscend (map (λ row. row.name) same.items)) }
+    ensures none { result ≡ None → NamesAscend (map (λ row. row.name) callers.items) → ⊥ }
+{
+    if !callers_ascend(callers.as_slice()) {
+        return None;
+    }
+    Some(callers)
+}
+
+fn callers_ascend(callers: &[CallerRow]) -> bool
+    ensures { IsTrue result ↔ NamesAscend (map (λ row. row.name) callers.now) }
+{
+    callers.is_sorted_by(|caller, next| caller.name.cmp(&next.name).is_lt())
+}
