@@ -41,13 +41,13 @@ pub(crate) fn open_database<S: Start>(
     if !names_a_file(name) {
         return Err((CANNOT_OPEN, None));
     }
+    let options = match options(rt) {
+        Ok(options) => options,
+        Err(error) => return Err((not_opened(OpenError::from(error)), None)),
+    };
     let files = match sqlite_std_file::open(rt, name, start) {
         Ok(files) => files,
         Err(error) => return Err((not_opened(error), None)),
-    };
-    let options = match options(rt) {
-        Ok(options) => options,
-        Err(_) => return Err((CANNOT_OPEN, None)),
     };
     match Connection::open_files_with(rt.alloc(), files, options, false) {
         Ok(conn) => Ok(conn),

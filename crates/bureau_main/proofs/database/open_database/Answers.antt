@@ -15,13 +15,13 @@ seen log db is_log history = (replay (cond is_log log db) history).seen
 pub returns-in-Ok-open_files_with-clause-found : goal.returns-in-Ok-open_files_with-clause-found
 returns-in-Ok-open_files_with-clause-found g c = λ clean.
     let from = g.S.Start in
-    let fresh = c.in-Ok.ensures.fresh in
+    let fresh = c.in-Ok-open.ensures.fresh in
     let found = c.in-Ok-open_files_with.ensures.found clean in
     let P : Image → Type 0 = λ held. FindsIn held (file_state c.in-Ok-open_files_with.conn) in
     subst P (ap₂ image (ap₂ (seen from.log from.db) fresh.0.0 fresh.0.1) (ap₂ (seen from.log from.db) fresh.1.0 fresh.1.1)) (record { holds = found.holds; reads = found.reads })
 
 pub returns-in-Err-open_files_with-clause-cause : goal.returns-in-Err-open_files_with-clause-cause
 returns-in-Err-open_files_with-clause-cause g c =
-    let fresh = c.in-Ok.ensures.fresh in
+    let fresh = c.in-Ok-open.ensures.fresh in
     let refused = c.in-Err-open_files_with.ensures in
-    (c.in-Ok.files, fresh.0, fresh.1, λ clean. (refused.cause clean, refused.unharmed clean))
+    (c.in-Ok-open.files, fresh.0, fresh.1, λ clean. (refused.cause clean, refused.unharmed clean))
