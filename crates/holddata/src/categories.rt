@@ -148,16 +148,25 @@ impl Categories {
 pub fn join_with_commas(alloc: Global, texts: &[&[u8]]) -> Result<Vec<u8>, NoMemory>
     ensures { IfOk result (λ joined. joined.items ≡ join_with_byte 44 (bytes_of_each texts.now)) }
 {
-    let mut joined = Vec::new(alloc);
     let Some((first, rest)) = texts.split_first() else {
-        return Ok(joined);
+        return Ok(Vec::new(alloc));
     };
+    let mut joined = Vec::with_capacity(alloc, joined_len(first, rest))?;
     joined.extend_from_slice(first)?;
     for text in rest {
         joined.push(b',')?;
         joined.extend_from_slice(text)?;
     }
     Ok(joined)
+}
+
+// How many bytes the texts take with commas between. It decides only how much room is taken at once.
+fn joined_len(first: &[u8], rest: &[&[u8]]) -> usize {
+    let mut len = first.len();
+    for text in rest {
+        len = len.saturating_add(1).saturating_add(text.len());
+    }
+    len
 }
 
 // The parts between the commas.
