@@ -1,15 +1,19 @@
 -- Links the other way round.
-use Rattle.std.proofs.Common.{◌≡◌, ◌≢◌, ℕ, zero, suc, map, set, ◌++◌, ◌+◌, ◌<◌, ◌≤◌, List, [], ◌∷◌, length, get_or, replicate, take, append_assoc, refl, sym, ap, ◌∙◌, subst, inl, inr, arith}
-use Rattle.std.specs.List.{Contains}
-use Rattle.std.proofs.lemmas.Bool.{cases_eq, cases_lt}
-use Rattle.std.proofs.lemmas.List.{get_or-set_other, get_or-set_same, get_or_append_left, get_or_past, get_or_push, length-set, get_or-replicate, length-replicate, take_all, take_more}
+use Rattle.std.proofs.Common.{◌≡◌, ◌≢◌, ℕ, zero, suc, Bool, false, cond, eqb, set, ◌++◌, ◌+◌, ◌-◌, ◌<◌, ◌≤◌, List, [], ◌∷◌, length, get_or, replicate, take, drop, refl, sym, ap, ◌∙◌, subst, inl, inr, arith}
+use Rattle.std.specs.List.{Contains, concat}
+use Rattle.std.proofs.lemmas.Bool.{cases_eq, cases_lt, eq-eqb}
+use Rattle.std.proofs.lemmas.Bool.Decides.{eqb_tells}
+use Rattle.std.proofs.lemmas.List.{drop_all, drop-replicate, drop-set, get_or-set_other, get_or-set_same, get_or_past, length-set, take_all, take_more}
 use Rattle.std.proofs.Math.ListN.{get_or-map, length-map}
-use Rattle.std.proofs.lemmas.Grind.{common_steps}
 use Rattle.std.proofs.lemmas.List.Elements.{Contains-append_cases, Contains-append_left, Contains-append_right, Contains-push, Contains-push_cases}
+use Rattle.std.proofs.lemmas.List.Sums.{sum_by-append, sum_by-cons, sum_by-drop_more, sum_by-take-le}
 use Rattle.requisites.proofs.SpreadFacts.{in_one}
 use Rattle.requisites.specs.Nodes.{AreReversed, Links, row}
-use Rattle.requisites.specs.Reversed.{AreChained, RowAdded, chain, chains_of}
-use Rattle.requisites.specs.declared.reversed.Chains.{Chains}
+use Rattle.requisites.specs.Reversed.{AreTaken, HavePlaces, RowAdded, filled, times, times_in}
+use Rattle.requisites.specs.Rows.{blank_rows}
+
+abbrev nought : ℕ
+nought = 0
 
 pub added_none : (node : ℕ) (rows : List (List ℕ)) → RowAdded [] node rows rows
 added_none node rows = record {
@@ -72,178 +76,211 @@ turned_all lists n i rows end a = record {
   only = a.only;
 }
 
--- ---- chains of links
+-- ---- how often a node is listed
 
-length-push : (xs : List ℕ) (x : ℕ) → length (xs ++ x ∷ []) ≡ suc (length xs)
-length-push xs x = grind (arith, common_steps)
+times_one : (b q : ℕ) → times (b ∷ []) q ≡ cond (eqb b q) 1 0
+times_one b q = sum_by-cons (λ k. cond (eqb k q) 1 0) b [] ∙ omega arith
 
-abbrev pub AreEarlier : List ℕ → Type 0
-AreEarlier before = (link : ℕ) → get_or before link 0 ≤ link
+pub times_same : (b : ℕ) → times (b ∷ []) b ≡ 1
+times_same b = times_one b b ∙ ap (λ (t : Bool). cond t 1 nought) (eq-eqb b b refl)
 
--- a chain is as long as it is, however many links are asked for beyond that
-fits : (from before : List ℕ) → AreEarlier before → (k k' link : ℕ) → link ≤ k → link ≤ k' → chain from before k link ≡ chain from before k' link
-fits from before earlier zero zero link h h' = refl
-fits from before earlier zero (suc k') zero h h' = refl
-fits from before earlier zero (suc k') (suc link) h h' = absurd (omega (arith, h))
-fits from before earlier (suc k) zero zero h h' = refl
-fits from before earlier (suc k) zero (suc link) h h' = absurd (omega (arith, h'))
-fits from before earlier (suc k) (suc k') zero h h' = refl
-fits from before earlier (suc k) (suc k') (suc link) h h' =
-    ap (λ (r : List ℕ). get_or from link 0 ∷ r)
-    (fits from before earlier k k' (get_or before link 0) (omega (arith, h, earlier link)) (omega (arith, h', earlier link)))
+times_other : (b q : ℕ) → b ≢ q → times (b ∷ []) q ≡ 0
+times_other b q other =
+    let differ : eqb b q ≡ false = elim (eqb_tells b q) [ inl same ↦ absurd (other same.1) | inr differ ↦ differ.0 ] in
+    times_one b q ∙ ap (λ (t : Bool). cond t 1 nought) differ
 
--- a new link changes no chain
-stays : (from before : List ℕ) (x y : ℕ) → length before ≡ length from → AreEarlier before → (k link : ℕ) → link ≤ length from
-    → chain (from ++ x ∷ []) (before ++ y ∷ []) k link ≡ chain from before k link
-stays from before x y as_many earlier zero link h = refl
-stays from before x y as_many earlier (suc k) zero h = refl
-stays from before x y as_many earlier (suc k) (suc link) h =
-    ap (λ (p : ℕ). p ∷ chain (from ++ x ∷ []) (before ++ y ∷ []) k (get_or (before ++ y ∷ []) link 0)) (get_or_append_left from (x ∷ []) 0 link (omega (arith, h)))
-    ∙ ap (λ (l : ℕ). get_or from link 0 ∷ chain (from ++ x ∷ []) (before ++ y ∷ []) k l) (get_or_append_left before (y ∷ []) 0 link (omega (arith, h, as_many)))
-    ∙ ap (λ (r : List ℕ). get_or from link 0 ∷ r) (stays from before x y as_many earlier k (get_or before link 0) (omega (arith, h, earlier link)))
+times_append : (xs ys : List ℕ) (q : ℕ) → times (xs ++ ys) q ≡ times xs q + times ys q
+times_append xs ys q = sum_by-append (λ k. cond (eqb k q) 1 0) xs ys
 
--- the last link of a chain, and those before it
-pub chain_step : (from before : List ℕ) → AreEarlier before → (link : ℕ)
-    → chain from before (suc link) (suc link) ≡ get_or from link 0 ∷ chain from before (get_or before link 0) (get_or before link 0)
-chain_step from before earlier link =
-    ap (λ (r : List ℕ). get_or from link 0 ∷ r) (fits from before earlier link (get_or before link 0) (get_or before link 0) (earlier link) (omega arith))
+times_more : (listed : List ℕ) (i q : ℕ) → i < length listed → times (take (i + 1) listed) q ≡ times (take i listed) q + times (get_or listed i 0 ∷ []) q
+times_more listed i q h = ap (λ (l : List ℕ). times l q) (take_more listed i 0 h) ∙ times_append (take i listed) (get_or listed i 0 ∷ []) q
 
-earlier_more : (before : List ℕ) (y : ℕ) → AreEarlier before → y ≤ length before → AreEarlier (before ++ y ∷ [])
-earlier_more before y earlier h link = elim (cases_lt link (length before)) [
-  | inl below ↦ omega (arith, get_or_append_left before (y ∷ []) 0 link below, earlier link)
-  | inr above ↦ elim (cases_eq link (length before)) [
-    | inl same ↦ omega (arith, same, h, get_or_push before y 0 link (sym same))
-    | inr other ↦ omega (arith, get_or_past (before ++ y ∷ []) link 0 (omega (arith, above, other, length-push before y)))
-  ]
+times_part : (listed : List ℕ) (i q : ℕ) → times (take i listed) q ≤ times listed q
+times_part listed i q = sum_by-take-le (λ k. cond (eqb k q) 1 0) listed i
+
+pub times_within : (listed : List ℕ) (q : ℕ) → times listed q ≤ length listed
+times_within [] q = omega arith
+times_within (b ∷ listed) q = elim (cases_eq b q) [
+  | inl same ↦ omega (arith, times_append (b ∷ []) listed q, times_within listed q, (let P : ℕ → Type 0 = λ k. times (b ∷ []) k ≡ 1 in subst P same (times_same b)))
+  | inr other ↦ omega (arith, times_append (b ∷ []) listed q, times_within listed q, times_other b q other)
 ]
 
-new_chain : (from before : List ℕ) (x y : ℕ) → length before ≡ length from → AreEarlier before → y ≤ length from
-    → chain (from ++ x ∷ []) (before ++ y ∷ []) (length (from ++ x ∷ [])) (length (from ++ x ∷ [])) ≡ x ∷ chain from before y y
-new_chain from before x y as_many earlier h =
-    let F = from ++ x ∷ [] in
-    let B = before ++ y ∷ [] in
-    let n = length from in
-    ap (λ (k : ℕ). chain F B k k) (length-push from x)
-    ∙ chain_step F B (earlier_more before y earlier (omega (arith, h, as_many))) n
-    ∙ ap (λ (p : ℕ). p ∷ chain F B (get_or B n 0) (get_or B n 0)) (get_or_push from x 0 n refl)
-    ∙ ap (λ (l : ℕ). x ∷ chain F B l l) (get_or_push before y 0 n as_many)
-    ∙ ap (λ (r : List ℕ). x ∷ r) (stays from before x y as_many earlier y y h)
+pub times_all : (lists : List (List ℕ)) (q : ℕ) → times (concat lists) q ≡ times_in lists q
+times_all [] q = refl
+times_all (listed ∷ lists) q =
+    times_append listed (concat lists) q ∙ ap (λ (k : ℕ). times listed q + k) (times_all lists q) ∙ sym (sum_by-cons (λ l. times l q) listed lists)
 
--- the row that a chain has given, and what it will give
-pub chain_taken : (from before row row' all : List ℕ) (link k x m : ℕ) → AreEarlier before → link ≡ suc k → row ++ chain from before link link ≡ all → row' ≡ row ++ x ∷ []
-    → x ≡ get_or from k 0 → m ≡ get_or before k 0 → row' ++ chain from before m m ≡ all
-chain_taken from before row row' all link k x m earlier is so_far row_is x_is m_is =
-    ap (λ (r : List ℕ). r ++ chain from before m m) row_is
-    ∙ append_assoc row (x ∷ []) (chain from before m m)
-    ∙ ap (λ (p : ℕ). row ++ p ∷ chain from before m m) x_is
-    ∙ ap (λ (l : ℕ). row ++ get_or from k 0 ∷ chain from before l l) m_is
-    ∙ ap (λ (r : List ℕ). row ++ r) (sym (chain_step from before earlier k))
-    ∙ ap (λ (l : ℕ). row ++ chain from before l l) (sym is)
-    ∙ so_far
+-- ---- rows that are filled from their ends
 
-abbrev rows_in : List ℕ → List ℕ → List ℕ → List (List ℕ)
-rows_in last from before = map (λ link. chain from before link link) last
+length_filled : (left : List ℕ) (rows : List (List ℕ)) → length left ≡ length rows → length (filled left rows) ≡ length left
+length_filled [] rows e = refl
+length_filled (places ∷ left) [] e = absurd (omega (arith, e))
+length_filled (places ∷ left) (own ∷ rows) e = ap suc (length_filled left rows (omega (arith, e)))
 
-row_in : (last from before : List ℕ) (q : ℕ) → row (rows_in last from before) q ≡ chain from before (get_or last q 0) (get_or last q 0)
-row_in last from before q = get_or-map (λ (link : ℕ). chain from before link link) last q 0
+row_filled : (left : List ℕ) (rows : List (List ℕ)) (q : ℕ) → length left ≡ length rows → row (filled left rows) q ≡ drop (get_or left q 0) (row rows q)
+row_filled [] [] q e = refl
+row_filled [] (own ∷ rows) q e = absurd (omega (arith, e))
+row_filled (places ∷ left) [] q e = absurd (omega (arith, e))
+row_filled (places ∷ left) (own ∷ rows) zero e = refl
+row_filled (places ∷ left) (own ∷ rows) (suc q) e = row_filled left rows q (omega (arith, e))
 
--- the rows after a link from x to b
-link_in : (last from before : List ℕ) (x b : ℕ) → length before ≡ length from → AreEarlier before → ((q : ℕ) → get_or last q 0 ≤ length from) → b < length last
-    → RowAdded (b ∷ []) x (rows_in last from before) (rows_in (set last b (length (from ++ x ∷ []))) (from ++ x ∷ []) (before ++ get_or last b 0 ∷ []))
-link_in last from before x b as_many earlier within h = record {
-  len = length-map L (λ (link : ℕ). chain F B link link) ∙ length-set last b (length F) ∙ sym (length-map last (λ (link : ℕ). chain from before link link));
-  keeps = λ q p inside. elim (cases_eq q b) [
-    | inl same ↦ (let P : List ℕ → Type 0 = λ l. Contains l p in
-        let Q : ℕ → Type 0 = λ k. Contains (row (rows_in last from before) k) p in
-        let R : ℕ → Type 0 = λ k. Contains (row (rows_in L F B) k) p in
-        subst R (sym same) (subst P (sym own) (Contains-append_right (x ∷ []) (row (rows_in last from before) b) p (subst Q same inside))))
-    | inr other ↦ (let P : List ℕ → Type 0 = λ l. Contains l p in subst P (sym (another q other)) inside)
-  ];
-  added = λ q inside below.
-      let same : q ≡ b = sym (in_one b q inside) in
-      let P : List ℕ → Type 0 = λ l. Contains l x in
-      let R : ℕ → Type 0 = λ k. Contains (row (rows_in L F B) k) x in
-      subst R (sym same) (subst P (sym own) (Contains-append_left (x ∷ []) (row (rows_in last from before) b) x (Contains-push [] x)));
-  only = λ q p inside. elim (cases_eq q b) [
-    | inl same ↦ (let P : List ℕ → Type 0 = λ l. Contains l p in
-        let Q : ℕ → Type 0 = λ k. Contains (row (rows_in last from before) k) p in
-        let R : ℕ → Type 0 = λ k. Contains (row (rows_in L F B) k) p in
-        elim (Contains-append_cases (x ∷ []) (row (rows_in last from before) b) p (subst P own (subst R same inside))) [
-          | inl first ↦ inr (record {
-            is = in_one x p first;
-            within = (let many = length-map last (λ (link : ℕ). chain from before link link) in omega (arith, h, same, many));
-            inside = (let S : ℕ → Type 0 = λ k. Contains (b ∷ []) k in subst S (sym same) (Contains-push [] b));
-          })
-          | inr later ↦ inl (subst Q (sym same) later)
-        ])
-    | inr other ↦ (let P : List ℕ → Type 0 = λ l. Contains l p in inl (subst P (another q other) inside))
-  ];
-} where
-  F : List ℕ
-  F = from ++ x ∷ []
+-- where no place is left, the rows are filled
+filled_all : (left : List ℕ) (rows : List (List ℕ)) → length left ≡ length rows → ((q : ℕ) → q < length left → get_or left q 0 ≡ 0) → filled left rows ≡ rows
+filled_all [] [] e none = refl
+filled_all [] (own ∷ rows) e none = absurd (omega (arith, e))
+filled_all (places ∷ left) [] e none = absurd (omega (arith, e))
+filled_all (places ∷ left) (own ∷ rows) e none =
+    ap (λ (k : ℕ). drop k own ∷ filled left rows) (none 0 (omega arith))
+    ∙ ap (λ (r : List (List ℕ)). own ∷ r) (filled_all left rows (omega (arith, e)) (λ q h. none (suc q) (omega (arith, h))))
 
-  B : List ℕ
-  B = before ++ get_or last b 0 ∷ []
+abbrev put_at : List (List ℕ) → ℕ → ℕ → ℕ → List (List ℕ)
+put_at rows b k x = set rows b (set (row rows b) k x)
 
-  L : List ℕ
-  L = set last b (length F)
+-- the places that are left, and the rows, after x was put at the last place left of b
+module _ (left : List ℕ) (rows : List (List ℕ)) (b k x : ℕ) (places : HavePlaces left rows) (h : b < length left) (at : k + 1 ≡ get_or left b 0) where
+  abbrev L : List ℕ
+  L = set left b k
 
-  own : row (rows_in L F B) b ≡ x ∷ row (rows_in last from before) b
-  own = row_in L F B b ∙ ap (λ (k : ℕ). chain F B k k) (get_or-set_same last b (length F) 0 h) ∙ new_chain from before x (get_or last b 0) as_many earlier (within b)
-      ∙ ap (λ (r : List ℕ). x ∷ r) (sym (row_in last from before b))
+  abbrev R : List (List ℕ)
+  R = put_at rows b k x
 
-  another : (q : ℕ) → q ≢ b → row (rows_in L F B) q ≡ row (rows_in last from before) q
-  another q other = row_in L F B q ∙ ap (λ (k : ℕ). chain F B k k) (get_or-set_other last b q (length F) 0 other)
-      ∙ stays from before x (get_or last b 0) as_many earlier (get_or last q 0) (get_or last q 0) (within q) ∙ sym (row_in last from before q)
+  as_many : length L ≡ length R
+  as_many = length-set left b k ∙ places.as_many ∙ sym (length-set rows b (set (row rows b) k x))
 
-pub chained_none : (lists : List (List ℕ)) (chains : Chains) → ((q p : ℕ) → Contains (row (chains_of chains) q) p → ⊥) → AreTurnedBelow lists (length chains.last.items) 0 (chains_of chains)
-chained_none lists chains none = record {
-  len = length-map chains.last.items (λ (link : ℕ). chain chains.from.items chains.before.items link link);
-  turned = λ p q h link. absurd (omega (arith, h));
-  only = λ p q inside. absurd (none q p inside);
-}
+  inside : b < length rows
+  inside = omega (arith, h, places.as_many)
 
-abbrev pub nought : ℕ
-nought = 0
+  room_put : k < length (row rows b)
+  room_put = omega (arith, at, places.within b)
 
--- where no node has a link, no row has an entry
-pub no_links : (chains : Chains) (n : ℕ) → chains.last.items ≡ replicate n nought → (q p : ℕ) → Contains (row (chains_of chains) q) p → ⊥
-no_links chains n is q p inside =
-    let P : List ℕ → Type 0 = λ l. Contains l p in
-    let none : get_or chains.last.items q nought ≡ nought = ap (λ (l : List ℕ). get_or l q nought) is ∙ zeros n q in
-    let empty : row (chains_of chains) q ≡ [] =
-    row_in chains.last.items chains.from.items chains.before.items q ∙ ap (λ (k : ℕ). chain chains.from.items chains.before.items k k) none in
-    let nothing : Contains [] p = subst P empty inside in
-    omega (arith, nothing.1)
-  where
-    zeros : (m k : ℕ) → get_or (replicate m nought) k nought ≡ nought
-    zeros m k = elim (cases_lt k m) [
-      | inl below ↦ get_or-replicate m k nought nought below
-      | inr past ↦ get_or_past (replicate m nought) k nought (omega (arith, past, length-replicate m nought))
-    ]
+  own_row : row R b ≡ set (row rows b) k x
+  own_row = get_or-set_same rows b (set (row rows b) k x) [] inside
 
-module _ (old new : Chains) (b x : ℕ) (chained : AreChained old) (h : b < length old.last.items) (from_is : new.from.items ≡ old.from.items ++ x ∷ [])
-    (before_is : new.before.items ≡ old.before.items ++ get_or old.last.items b 0 ∷ []) (last_is : new.last.items ≡ set old.last.items b (length new.from.items)) where
-  pub link_chained : AreChained new
-  link_chained = record {
-    as_many = ap length before_is ∙ length-push old.before.items (get_or old.last.items b 0) ∙ ap suc chained.as_many ∙ sym (ap length from_is ∙ length-push old.from.items x);
-    earlier = λ link. (let P : List ℕ → Type 0 = λ l. get_or l link 0 ≤ link in
-        subst P (sym before_is) (earlier_more old.before.items (get_or old.last.items b 0) chained.earlier (omega (arith, chained.within b, chained.as_many)) link));
-    within = λ p. (let P : List ℕ → Type 0 = λ l. get_or l p 0 ≤ length new.from.items in subst P (sym last_is) (elim (cases_eq p b) [
-      | inl same ↦ (let Q : ℕ → Type 0 = λ k. get_or (set old.last.items b (length new.from.items)) k 0 ≤ length new.from.items in
-          subst Q (sym same) (omega (arith, get_or-set_same old.last.items b (length new.from.items) 0 h)))
-      | inr other ↦ omega (arith, get_or-set_other old.last.items b p (length new.from.items) 0 other, chained.within p, ap length from_is, length-push old.from.items x)
-    ]));
+  own : row (filled L R) b ≡ x ∷ row (filled left rows) b
+  own = row_filled L R b as_many
+      ∙ ap (λ (i : ℕ). drop i (row R b)) (get_or-set_same left b k 0 h)
+      ∙ ap (λ (l : List ℕ). drop k l) own_row
+      ∙ drop-set (row rows b) k x room_put
+      ∙ ap (λ (i : ℕ). x ∷ drop i (row rows b)) at
+      ∙ ap (λ (r : List ℕ). x ∷ r) (sym (row_filled left rows b places.as_many))
+
+  another : (q : ℕ) → q ≢ b → row (filled L R) q ≡ row (filled left rows) q
+  another q other = row_filled L R q as_many
+      ∙ ap (λ (i : ℕ). drop i (row R q)) (get_or-set_other left b q k 0 other)
+      ∙ ap (λ (l : List ℕ). drop (get_or left q 0) l) (get_or-set_other rows b q (set (row rows b) k x) [] other)
+      ∙ sym (row_filled left rows q places.as_many)
+
+  pub added_put : RowAdded (b ∷ []) x (filled left rows) (filled L R)
+  added_put = record {
+    len = length_filled L R as_many ∙ length-set left b k ∙ sym (length_filled left rows places.as_many);
+    keeps = λ q p has. elim (cases_eq q b) [
+      | inl same ↦ (let P : List ℕ → Type 0 = λ l. Contains l p in
+          let Q : ℕ → Type 0 = λ i. Contains (row (filled left rows) i) p in
+          let S : ℕ → Type 0 = λ i. Contains (row (filled L R) i) p in
+          subst S (sym same) (subst P (sym own) (Contains-append_right (x ∷ []) (row (filled left rows) b) p (subst Q same has))))
+      | inr other ↦ (let P : List ℕ → Type 0 = λ l. Contains l p in subst P (sym (another q other)) has)
+    ];
+    added = λ q has below.
+        let same : q ≡ b = sym (in_one b q has) in
+        let P : List ℕ → Type 0 = λ l. Contains l x in
+        let S : ℕ → Type 0 = λ i. Contains (row (filled L R) i) x in
+        subst S (sym same) (subst P (sym own) (Contains-append_left (x ∷ []) (row (filled left rows) b) x (Contains-push [] x)));
+    only = λ q p has. elim (cases_eq q b) [
+      | inl same ↦ (let P : List ℕ → Type 0 = λ l. Contains l p in
+          let Q : ℕ → Type 0 = λ i. Contains (row (filled left rows) i) p in
+          let S : ℕ → Type 0 = λ i. Contains (row (filled L R) i) p in
+          elim (Contains-append_cases (x ∷ []) (row (filled left rows) b) p (subst P own (subst S same has))) [
+            | inl first ↦ inr (record {
+              is = in_one x p first;
+              within = omega (arith, h, same, length_filled left rows places.as_many);
+              inside = (let T : ℕ → Type 0 = λ i. Contains (b ∷ []) i in subst T (sym same) (Contains-push [] b));
+            })
+            | inr later ↦ inl (subst Q (sym same) later)
+          ])
+      | inr other ↦ (let P : List ℕ → Type 0 = λ l. Contains l p in inl (subst P (another q other) has))
+    ];
   }
 
-  pub link_added : RowAdded (b ∷ []) x (chains_of old) (chains_of new)
-  link_added =
-      let F = old.from.items ++ x ∷ [] in
-      let B = old.before.items ++ get_or old.last.items b 0 ∷ [] in
-      let P : List (List ℕ) → Type 0 = λ rows. RowAdded (b ∷ []) x (chains_of old) rows in
-      subst P
-      (sym (ap (λ (f : List ℕ). rows_in new.last.items f new.before.items) from_is
-      ∙ ap (λ (l : List ℕ). rows_in new.last.items F l) before_is
-      ∙ ap (λ (l : List ℕ). rows_in l F B) last_is
-      ∙ ap (λ (f : List ℕ). rows_in (set old.last.items b (length f)) F B) from_is))
-      (link_in old.last.items old.from.items old.before.items x b chained.as_many chained.earlier chained.within h)
+-- what is past the last row changes nothing
+module _ (left : List ℕ) (rows : List (List ℕ)) (b x : ℕ) (places : HavePlaces left rows) (past : length left ≤ b) where
+  pub added_past : RowAdded (b ∷ []) x (filled left rows) (filled left rows)
+  added_past = record {
+    len = refl;
+    keeps = λ q p has. has;
+    added = λ q has below. absurd (omega (arith, in_one b q has, below, past, length_filled left rows places.as_many));
+    only = λ q p has. inl has;
+  }
+
+-- ---- rows in which nothing is put yet
+
+length_blank : (left : List ℕ) → length (blank_rows left) ≡ length left
+length_blank left = length-map left (λ (count : ℕ). replicate count 0)
+
+row_blank : (left : List ℕ) (q : ℕ) → row (blank_rows left) q ≡ replicate (get_or left q 0) 0
+row_blank left q = get_or-map (λ (count : ℕ). replicate count 0) left q 0
+
+-- rows with as many places left as they have show no node
+pub none_blank : (left : List ℕ) (q p : ℕ) → Contains (row (filled left (blank_rows left)) q) p → ⊥
+none_blank left q p has =
+    let n = get_or left q 0 in
+    let no_more : n - n ≡ 0 = omega arith in
+    let empty : row (filled left (blank_rows left)) q ≡ [] =
+    row_filled left (blank_rows left) q (sym (length_blank left))
+    ∙ ap (λ (l : List ℕ). drop n l) (row_blank left q)
+    ∙ drop-replicate n n nought
+    ∙ ap (λ (k : ℕ). replicate k nought) no_more in
+    let P : List ℕ → Type 0 = λ l. Contains l p in
+    let nothing : Contains [] p = subst P empty has in
+    omega (arith, nothing.1)
+
+pub turned_none : (lists rows : List (List ℕ)) (left : List ℕ) → HavePlaces left rows → ((q p : ℕ) → Contains (row (filled left rows) q) p → ⊥) → AreTurnedBelow lists (length left) 0 (filled left rows)
+turned_none lists rows left places none = record {
+  len = length_filled left rows places.as_many;
+  turned = λ p q h link. absurd (omega (arith, h));
+  only = λ p q has. absurd (none q p has);
+}
+
+-- ---- places that are taken
+
+pub taken_none : (left : List ℕ) → AreTaken [] left left
+taken_none left = record { len = refl; taken = λ q h. omega arith }
+
+pub taken_more : (listed : List ℕ) (i : ℕ) (old mid new : List ℕ) → i < length listed → AreTaken (take i listed) old mid → AreTaken (get_or listed i 0 ∷ []) mid new
+    → AreTaken (take (i + 1) listed) old new
+taken_more listed i old mid new h a b = record {
+  len = b.len ∙ a.len;
+  taken = λ q below. omega (arith, b.taken q (omega (arith, below, a.len)), a.taken q below, times_more listed i q h);
+}
+
+pub taken_all : (listed : List ℕ) (i : ℕ) (old new : List ℕ) → length listed ≤ i → AreTaken (take i listed) old new → AreTaken listed old new
+taken_all listed i old new h a = let P : List ℕ → Type 0 = λ l. AreTaken l old new in subst P (take_all i listed h) a
+
+pub room_next : (listed : List ℕ) (i : ℕ) (old mid : List ℕ) → i < length listed → ((q : ℕ) → q < length old → times listed q ≤ get_or old q 0)
+    → AreTaken (take i listed) old mid → (q : ℕ) → q < length mid → times (get_or listed i 0 ∷ []) q ≤ get_or mid q 0
+room_next listed i old mid h room a q below =
+    let inside : q < length old = omega (arith, below, a.len) in
+    omega (arith, a.taken q inside, times_more listed i q h, times_part listed (i + 1) q, room q inside)
+
+-- so many places are left as there are links to come
+abbrev pub AreToCome : List (List ℕ) → List ℕ → Type 0
+AreToCome lists left = (q : ℕ) → q < length left → get_or left q 0 ≡ times_in lists q
+
+next_row : (lists : List (List ℕ)) (i : ℕ) (own : List ℕ) (q : ℕ) → i < length lists → own ≡ row lists i → times_in (drop i lists) q ≡ times own q + times_in (drop (i + 1) lists) q
+next_row lists i shown q h same =
+    sum_by-drop_more (λ listed. times listed q) lists i [] h ∙ ap (λ (l : List ℕ). times l q + times_in (drop (i + 1) lists) q) (sym same)
+
+pub room_row : (lists : List (List ℕ)) (i : ℕ) (own left : List ℕ) → i < length lists → own ≡ row lists i → AreToCome (drop i lists) left
+    → (q : ℕ) → q < length left → times own q ≤ get_or left q 0
+room_row lists i own left h same come q below = omega (arith, come q below, next_row lists i own q h same)
+
+pub come_next : (lists : List (List ℕ)) (i : ℕ) (own old new : List ℕ) → i < length lists → own ≡ row lists i → AreToCome (drop i lists) old → AreTaken own old new → AreToCome (drop (i + 1) lists) new
+come_next lists i own old new h same come a q below =
+    let inside : q < length old = omega (arith, below, a.len) in
+    omega (arith, come q inside, a.taken q inside, next_row lists i own q h same)
+
+pub reversed_all : (lists : List (List ℕ)) (n i : ℕ) (left : List ℕ) (rows : List (List ℕ)) → length lists ≤ i → HavePlaces left rows → AreToCome (drop i lists) left
+    → AreTurnedBelow lists n i (filled left rows) → AreReversed lists n rows
+reversed_all lists n i left rows end places come a =
+    let P : List (List ℕ) → Type 0 = λ r. AreReversed lists n r in
+    subst P (filled_all left rows places.as_many (λ q below. come q below ∙ ap (λ (l : List (List ℕ)). times_in l q) (drop_all i lists end)))
+    (turned_all lists n i (filled left rows) end a)

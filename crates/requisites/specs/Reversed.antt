@@ -1,7 +1,6 @@
--- No part of what is promised: private contracts cite it. Links the other way round, while they are gathered.
-use Rattle.std.specs.Prelude.{◌≡◌, ◌<◌, ◌≤◌, ◌⊎◌, ℕ, zero, suc, List, [], ◌∷◌, length, map, slice_index, Contains}
+-- No part of what is promised: private contracts cite it. Links the other way round, while rows are filled with them.
+use Rattle.std.specs.Prelude.{◌≡◌, ◌<◌, ◌≤◌, ◌⊎◌, ◌+◌, ℕ, List, [], ◌∷◌, cond, drop, eqb, length, slice_index, sum_by, Contains}
 use Rattle.requisites.specs.Nodes.{row}
-use Rattle.requisites.specs.declared.reversed.Chains.{Chains}
 
 -- a node that the row of a listed one has got
 pub record IsAdded (listed : List ℕ) (node n q p : ℕ) : Type 0 where
@@ -16,18 +15,26 @@ pub record RowAdded (listed : List ℕ) (node : ℕ) (old new : List (List ℕ))
   pub added : (q : ℕ) → Contains listed q → q < length old → Contains (row new q) node
   pub only : (q p : ℕ) → Contains (row new q) p → Contains (row old q) p ⊎ IsAdded listed node (length old) q p
 
--- whence a link comes, and those before it that lead to the same node, at most so many
-abbrev pub chain : List ℕ → List ℕ → ℕ → ℕ → List ℕ
-chain from before zero link = []
-chain from before (suc most) zero = []
-chain from before (suc most) (suc link) = slice_index from link ∷ chain from before most (slice_index before link)
+-- how often a node is listed
+abbrev pub times : List ℕ → ℕ → ℕ
+times listed q = sum_by (λ b. cond (eqb b q) 1 0) listed
 
--- for each node those from which links lead to it
-abbrev pub chains_of : Chains → List (List ℕ)
-chains_of chains = map (λ link. chain chains.from.items chains.before.items link link) chains.last.items
+-- how often it is in all rows
+abbrev pub times_in : List (List ℕ) → ℕ → ℕ
+times_in lists q = sum_by (λ listed. times listed q) lists
 
--- each link has one before it, or none, and no node has a link that isn't there
-pub record AreChained (chains : Chains) : Type 0 where
-  pub as_many : length chains.before.items ≡ length chains.from.items
-  pub earlier : (link : ℕ) → slice_index chains.before.items link ≤ link
-  pub within : (p : ℕ) → slice_index chains.last.items p ≤ length chains.from.items
+-- what the rows have after the places that are left in them
+abbrev pub filled : List ℕ → List (List ℕ) → List (List ℕ)
+filled [] rows = []
+filled (places ∷ left) [] = []
+filled (places ∷ left) (row ∷ rows) = drop places row ∷ filled left rows
+
+-- for each row it is said how many places are left in it, and it has as many
+pub record HavePlaces (left : List ℕ) (rows : List (List ℕ)) : Type 0 where
+  pub as_many : length left ≡ length rows
+  pub within : (q : ℕ) → slice_index left q ≤ length (row rows q)
+
+-- each that is listed has taken a place
+pub record AreTaken (listed old new : List ℕ) : Type 0 where
+  pub len : length new ≡ length old
+  pub taken : (q : ℕ) → q < length old → slice_index new q + times listed q ≡ slice_index old q

@@ -1,5 +1,5 @@
 -- No part of what is promised: private contracts cite it. Rows in one list.
-use Rattle.std.specs.Prelude.{◌≡◌, ◌≤◌, ℕ, zero, suc, List, [], ◌∷◌, slice_index}
+use Rattle.std.specs.Prelude.{◌≡◌, ◌≤◌, ℕ, zero, suc, List, [], ◌∷◌, map, replicate, slice_index}
 use Rattle.std.specs.List.{slice_range}
 
 -- the rows of a list of entries: the first has what stands from a start to the first end, where the next one starts
@@ -16,3 +16,7 @@ AreEnds start (end ∷ ends) len = (start ≤ end) × AreEnds end ends len
 abbrev pub start_at : ℕ → List ℕ → ℕ → ℕ
 start_at start ends zero = start
 start_at start ends (suc node) = slice_index ends node
+
+-- for each count a row of so many nodes 0
+abbrev pub blank_rows : List ℕ → List (List ℕ)
+blank_rows counts = map (λ count. replicate count 0) counts

@@ -1,8 +1,8 @@
 //! `Rows`.
-ghost use Rattle.std.specs.Prelude.{◌≡◌, ◌≤◌, ◌<◌, ◌++◌, [], ◌∷◌, length, slice_index, IfOk, OnErr, OnOk};
-ghost use Rattle.std.specs.List.{slice_range};
+ghost use Rattle.std.specs.Prelude.{◌≡◌, ◌≤◌, ◌<◌, ◌++◌, [], ◌∷◌, length, replicate, slice_index, slice_set, IfOk, OnErr, OnOk};
+ghost use Rattle.std.specs.List.{concat, slice_range};
 ghost use Rattle.requisites.specs.Nodes.{row};
-ghost use Rattle.requisites.specs.Rows.{start_at};
+ghost use Rattle.requisites.specs.Rows.{blank_rows, start_at};
 
 use crate::NoMemory;
 use std::alloc::Global;
@@ -74,6 +74,36 @@ impl Rows {
         }
     }
 
+    /// The entries of all rows, one row after the other.
+    pub(crate) fn all(&self) -> &[usize]
+        ensures { result.now ≡ concat self.now }
+    {
+        &self.entries
+    }
+
+    /// For each count a row of so many nodes 0, to be filled by `put`. It takes just the room that they need.
+    pub(crate) fn blank(alloc: Global, counts: &[usize]) -> Result<Self, NoMemory>
+        ensures { IfOk result (λ rows. rows ≡ blank_rows counts.now) }
+    {
+        let mut entries = Vec::with_capacity(alloc, total(counts))?;
+        let mut ends = Vec::with_capacity(alloc, counts.len())?;
+        for count in counts {
+            push_blanks(&mut entries, *count)?;
+            ends.push(entries.len())?;
+        }
+        Ok(Rows { entries, ends })
+    }
+
+    /// Puts an entry at a place of a node's row, in place of the one that stood there.
+    pub(crate) fn put(&mut self, node: usize, at: usize, entry: usize)
+        requires node { node < length self.old }
+        requires at { at < length (row self.old node) }
+        ensures { self.new ≡ slice_set self.old node (slice_set (row self.old node) at entry) }
+    {
+        let start = start_of(&self.ends, node);
+        self.entries[start + at] = entry;
+    }
+
     /// The same rows once more.
     ///
     /// # Errors
@@ -87,6 +117,25 @@ impl Rows {
             ends: self.ends.clone()?,
         })
     }
+}
+
+// How much room rows of these lengths need.
+fn total(counts: &[usize]) -> usize {
+    let mut total = 0usize;
+    for count in counts {
+        total = total.saturating_add(*count);
+    }
+    total
+}
+
+// Puts so many nodes 0 after the others.
+fn push_blanks(entries: &mut Vec<usize>, count: usize) -> Result<(), NoMemory>
+    ensures { OnOk result (entries.new.items ≡ entries.old.items ++ replicate count 0) }
+{
+    for _ in 0..count {
+        entries.push(0)?;
+    }
+    Ok(())
 }
 
 // Where the row of a node starts.
