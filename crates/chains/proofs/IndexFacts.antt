@@ -20,7 +20,7 @@ use Rattle.requisites.specs.Leads.{Leads}
 use Rattle.requisites.specs.Nodes.{Links}
 use Rattle.requisites.specs.Sources.{AreLeastSources, HasSource, source_of}
 use Rattle.requisites.proofs.SourceFacts.{marked_inside}
-use Rattle.chains.specs.Indices.{AreSeen, AreIndicesOf, AreThere, InstalledAt, IsAt, IsSupSeen, IsThereAt, MarksAre, RowsAre, SeenAs}
+use Rattle.chains.specs.Indices.{AreSeen, AreIndicesOf, AreThere, InstalledAt, IsAt, IsThereAt, MarksAre, RowsAre, SeenAs}
 use Rattle.chains.specs.Sights.{IsSeen, Sight, all_needs, needs_seen}
 use Rattle.chains.proofs.OrderFacts.{not_above_itself, not_below_itself}
 
@@ -190,12 +190,6 @@ seen_more rows f ids members i sight old_marks new_marks old_needs new_needs mar
   needs_are = rows_more (λ p indices. SeenAs f ids (id_at members p) (λ s. AreIndicesOf members (needs_seen rows s) indices)) i old_needs new_needs needs are.needs_are
       (record { sight = sight; seen = seen; so = needs_are }) needs_now;
 }
-
--- what one member more supersedes
-pub sup_more : (f : List ℕ → Sight) (ids members : List (List ℕ)) (i : ℕ) (sight : Sight) (old new : List (List ℕ)) (supersedes : List ℕ)
-    → IsSeen f ids (id_at members i) sight → AreIndicesOf members sight.superseded supersedes → IsSupSeen f ids members i old → new ≡ old ++ supersedes ∷ [] → IsSupSeen f ids members (i + 1) new
-sup_more f ids members i sight old new supersedes seen are was now =
-    rows_more (λ p indices. SeenAs f ids (id_at members p) (λ s. AreIndicesOf members s.superseded indices)) i old new supersedes was (record { sight = sight; seen = seen; so = are }) now
 
 -- ---- what is there
 

@@ -13,6 +13,7 @@ pub mod PlaceFacts
 pub mod SupFacts
 pub mod WayFacts
 pub mod MadeCutFacts
+pub mod MemberRowFacts
 pub mod NodeVerdictFacts
 pub mod UnitedFacts
 pub mod FrameFacts

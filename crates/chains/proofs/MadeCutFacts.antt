@@ -56,7 +56,7 @@ module _ (content : Content) (rows : List ZoneRow) (members : List (List ℕ)) (
       let view = seen.candidates_are.each p below in
       elim (is_listed_id (id_at members p)) [
         | inl listed ↦ sym (ap (λ (s : Sight). list_any (λ fmid. is_installed rows fmid) s.fmids) (view.seen.listed listed)) ∙ sym view.so ∙ marked.is
-        | inr outside ↦ (let off : mark_of nodes.candidates.items p ≡ false = view.so ∙ ap (λ (s : Sight). list_any (λ fmid. is_installed rows fmid) s.fmids) (view.seen.unlisted outside) in let on = marked.is in absurd (cc))
+        | inr outside ↦ (let off : mark_of nodes.candidates.items p ≡ false = view.so ∙ ap (list_any (λ fmid. is_installed rows fmid)) (view.seen.unlisted outside).fmids in let on = marked.is in absurd (cc))
       ]
 
   candidate_down : (p : ℕ) → p < length members → is_candidate content rows (id_at members p) ≡ true → IsMarked nodes.candidates.items p
@@ -101,7 +101,7 @@ module _ (content : Content) (rows : List ZoneRow) (members : List (List ℕ)) (
       let inside = view.so.listed q linked in
       elim (is_listed_id (id_at members p)) [
         | inl listed ↦ (let P : Sight → Type 0 = λ s. Contains s.superseded (id_at members q) in superseded_by (record_of content (id_at members p)) (subst P (view.seen.listed listed) inside))
-        | inr outside ↦ (let P : Sight → Type 0 = λ s. Contains s.superseded (id_at members q) in absurd (none_inside (id_at members q) (subst P (view.seen.unlisted outside) inside)))
+        | inr outside ↦ (let P : List (List ℕ) → Type 0 = λ l. Contains l (id_at members q) in absurd (none_inside (id_at members q) (subst P (view.seen.unlisted outside).superseded inside)))
       ]
     where
       superseded_by : (o : Option Sysmod) → Contains (sup_of o) (id_at members q) → IsSomeAnd o (λ sysmod. Contains sysmod.sup (id_at members q))

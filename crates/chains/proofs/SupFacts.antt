@@ -33,7 +33,7 @@ module _ (f : List ℕ → Sight) (ids members superseded below above : List (Li
   }
   sup_moved id None nowhere = record {
     sight = unseen;
-    seen = record { listed = λ inside. absurd (nowhere inside); unlisted = λ outside. refl };
+    seen = record { listed = λ inside. absurd (nowhere inside); unlisted = λ outside. record { fmids = refl; superseded = refl } };
     so = indices_none members;
   }
 

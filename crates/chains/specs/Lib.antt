@@ -8,6 +8,7 @@ pub mod Marks
 pub mod Superseders
 pub mod Indices
 pub mod Places
+pub mod MemberRows
 pub mod Whole
 pub mod Surveys
 pub mod Frames

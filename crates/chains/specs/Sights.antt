@@ -56,7 +56,12 @@ pub record IsListing (content : Content) (listing : ListingLists) : Type 0 where
   pub ids : listing.ids ≡ ids_of content
   pub sights : listing.sights ≡ map (sight_of content) listing.ids
 
--- what is seen of an id in a list: what f says, or nothing where the list doesn't have it
+-- it is for no function and supersedes nothing; then nobody asks what it needs
+pub record IsBare (sight : Sight) : Type 0 where
+  pub fmids : sight.fmids ≡ []
+  pub superseded : sight.superseded ≡ []
+
+-- what is seen of an id in a list: what f says, or nothing that counts where the list doesn't have it
 pub record IsSeen (f : List ℕ → Sight) (ids : List (List ℕ)) (id : List ℕ) (sight : Sight) : Type 0 where
   pub listed : Contains ids id → sight ≡ f id
-  pub unlisted : (Contains ids id → ⊥) → sight ≡ unseen
+  pub unlisted : (Contains ids id → ⊥) → IsBare sight

@@ -2,21 +2,21 @@
 ghost use Rattle.std.specs.Prelude.{◌≡◌, ◌↔◌, ◌⊎◌, ℕ, List, true, Contains, IfOk, length, map};
 ghost use Rattle.std.specs.Global.{Vec};
 ghost use Rattle.zone_lists.specs.Installed.{is_installed, is_listed};
-ghost use Rattle.catalogue.specs.Content.{Content, ids_of};
+ghost use Rattle.catalogue.specs.Content.{Content};
 ghost use Rattle.catalogue.specs.Ids.{Ascend};
 ghost use Rattle.requisites.specs.Nodes.{world};
 ghost use Rattle.requisites.specs.Sources.{HasSource, source_of};
 ghost use Rattle.chains.specs.Cuts.{IsCut, id_at};
 ghost use Rattle.chains.specs.Indices.{AreNodesWithin, AreSeen, AreThere, IsThereAt, MarksAre};
 ghost use Rattle.chains.specs.Places.{ArePlaces};
-ghost use Rattle.chains.specs.Sights.{IsListing, Sight, sight_of};
+ghost use Rattle.chains.specs.Sights.{IsListing, Sight};
 ghost use Rattle.chains.specs.Worlds.{world_of};
 
-use crate::conditional::push_indices_where;
-use crate::indices::{members_of, put_indices};
+use crate::indices::members_of;
 use crate::listing::{Entry, Listing};
+use crate::member_rows::put_needs;
 use crate::places::places;
-use crate::supersedes::{entry_at, moved_supersedes, supersedes_of};
+use crate::supersedes::{entry_at, moved_supersedes};
 use mcs_reader::{Id, NoMemory};
 use requisites::{Nodes, Rows, least_sources};
 use std::alloc::Global;
@@ -30,31 +30,8 @@ pub(crate) struct Cut {
 }
 
 impl Cut {
-    /// All that is catalogued, and all that it needs, whatever the zone. `entries` are those of the ids, in their
-    /// order.
-    pub(crate) fn of(
-        alloc: Global,
-        zone: &Zone,
-        ids: &[Id],
-        entries: &[Entry],
-    ) -> Result<Cut, NoMemory>
-        requires ascend { Ascend ids.now }
-        ensures ascend { IfOk result (λ cut. Ascend cut.members.items) }
-        ensures cut { IfOk result (λ cut. (content : Content) → ids.now ≡ ids_of content
-            → entries.now ≡ map (sight_of content) ids.now
-            → IsCut (world_of content zone.now) cut.members.items (world cut.nodes)) }
-        ensures within { IfOk result (λ cut. AreNodesWithin cut.members.items cut.nodes) }
-        ensures ids { IfOk result
-            (λ cut. (id : List ℕ) → Contains ids.now id → Contains cut.members.items id) }
-    {
-        let members = members_of(alloc, ids, entries)?;
-        let listed = places(alloc, &members, ids)?;
-        let supersedes = supersedes_of(alloc, &members, &listed, entries)?;
-        let nodes = nodes_of(alloc, zone, &members, &listed, entries, supersedes)?;
-        Ok(Cut { members, nodes })
-    }
-
-    /// The same by a listing, which has where all that is superseded stands.
+    /// All that is catalogued, and all that it needs, whatever the zone, by a listing, which has where all that is
+    /// superseded stands.
     pub(crate) fn of_listing(alloc: Global, zone: &Zone, listing: &Listing) -> Result<Cut, NoMemory>
         ensures ascend { IfOk result (λ cut. Ascend cut.members.items) }
         ensures cut { IfOk result (λ cut. (content : Content) → IsListing content listing.now
@@ -98,8 +75,7 @@ fn nodes_of(
     for (index, place) in listed.iter().enumerate() {
         let entry = entry_at(entries, &unseen, *place);
         candidates.push(entry.is_candidate(zone))?;
-        put_indices(&mut indices, members, index + 1, entry.needs())?;
-        push_indices_where(&mut indices, members, zone, entry.conds())?;
+        put_needs(&mut indices, members, index + 1, zone, entry)?;
         needs.push_row(&indices)?;
     }
     let there = there_marks(alloc, zone, members, &supersedes)?;

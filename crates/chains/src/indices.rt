@@ -30,11 +30,19 @@ fn listed_with_needs(alloc: Global, ids: &[Id], entries: &[Entry]) -> Result<Vec
     ensures { IfOk result (λ all. all.items ≡ ids.now ++ flat_map all_needs entries.now) }
 {
     let mut all = Vec::from_slice(alloc, ids)?;
+    push_needs(&mut all, entries)?;
+    Ok(all)
+}
+
+/// Adds all that is named as a need, whatever the zone.
+pub(crate) fn push_needs(all: &mut Vec<Id>, entries: &[Entry]) -> Result<(), NoMemory>
+    ensures { OnOk result (all.new.items ≡ all.old.items ++ flat_map all_needs entries.now) }
+{
     for entry in entries {
         all.extend_from_slice(entry.needs())?;
-        push_each_need(&mut all, entry.conds())?;
+        push_each_need(all, entry.conds())?;
     }
-    Ok(all)
+    Ok(())
 }
 
 /// Puts ids in ascending order, each once. Those that ascend already are not sorted again.

@@ -8,7 +8,6 @@ ghost use Rattle.chains.specs.Sights as Sights;
 ghost use Rattle.chains.specs.Sights.{IsSeen, Sight};
 ghost use Rattle.chains.specs.Superseders.{AreSuperseders};
 
-use crate::indices::put_indices;
 use crate::listing::Entry;
 use crate::places::{places, put_moved};
 use crate::superseders::Superseders;
@@ -16,31 +15,8 @@ use mcs_reader::{Id, NoMemory};
 use requisites::Rows;
 use std::alloc::Global;
 
-/// By what is read of each: what it names is looked for among the members. `listed` has where each member stands
-/// among the ids.
-pub(crate) fn supersedes_of(
-    alloc: Global,
-    members: &[Id],
-    listed: &[Option<usize>],
-    entries: &[Entry],
-) -> Result<Rows, NoMemory>
-    requires { Ascend members.now }
-    ensures { IfOk result (λ rows. (f : List ℕ → Sight) (ids : List (List ℕ)) → entries.now ≡ map f ids
-        → ArePlaces members.now ids (length members.now) listed.now
-        → IsSupSeen f ids members.now (length members.now) rows) }
-{
-    let unseen = Entry::unseen(alloc);
-    let mut rows = Rows::new(alloc);
-    let mut indices = Vec::new(alloc);
-    for (index, place) in listed.iter().enumerate() {
-        let entry = entry_at(entries, &unseen, *place);
-        put_indices(&mut indices, members, index + 1, entry.superseded())?;
-        rows.push_row(&indices)?;
-    }
-    Ok(rows)
-}
-
-/// By the SUP of a listing, which is known by indices already: these are those of members now.
+/// By the SUP of a listing, which is known by indices already: these are those of members now. `listed` has where each
+/// member stands among the ids.
 pub(crate) fn moved_supersedes(
     alloc: Global,
     members: &[Id],

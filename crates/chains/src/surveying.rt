@@ -14,7 +14,8 @@ ghost use Rattle.zone_lists.specs.declared.zones.ZoneRow.{ZoneRow};
 
 use crate::cut::Cut;
 use crate::indices::{by_ids, ids_at, index_of, put_indices};
-use crate::listing::{Listing, entries_of};
+use crate::listing::Listing;
+use crate::reading::cut_of;
 use crate::{Status, Verdict};
 use catalogue::{Published, SourceFault};
 use mcs_reader::{Id, NoMemory};
@@ -23,8 +24,8 @@ use std::alloc::Global;
 use std::marker::Model;
 use supersede::Zone;
 
-/// What can be installed in one zone of all that is catalogued, found in one pass over the catalogue. Each verdict
-/// of the zone can be read from it for as long as what is published and the zone stay.
+/// What can be installed in one zone of all that is catalogued. Each verdict of the zone can be read from it for as
+/// long as what is published and the zone stay.
 #[derive(Debug, Drop)]
 pub struct Survey {
     cut: Cut,
@@ -146,7 +147,7 @@ fn status_by(good: bool, candidate: bool) -> Status
     Status::Lack
 }
 
-/// The survey of a zone: all that is catalogued is read, once. What was read goes before the zone is looked over.
+/// The survey of a zone: all that is catalogued is read, in runs, and what was read of a run goes before the next.
 ///
 /// # Errors
 ///
@@ -162,18 +163,4 @@ pub fn survey_of<P: Published>(
 {
     let cut = cut_of(alloc, source, zone)?;
     Ok(Survey::resolved(alloc, cut)?)
-}
-
-// The nodes of a zone. What is read for them goes.
-fn cut_of<P: Published>(alloc: Global, source: &mut P, zone: &Zone) -> Result<Cut, SourceFault>
-    ensures asks { MayAsk P.content_view Device source.old source.new result }
-    ensures ascend { IfOk result (λ cut. Ascend cut.members.items) }
-    ensures within { IfOk result (λ cut. AreNodesWithin cut.members.items cut.nodes) }
-    ensures survey { IfOk result (λ cut. Tells P.content_view source.old source.new
-        (λ content. IsSurvey content zone.now
-        (record { members = cut.members.items; nodes = cut.nodes }))) }
-{
-    let ids = source.ids()?;
-    let entries = entries_of(alloc, source, &ids)?;
-    Ok(Cut::of(alloc, zone, &ids, &entries)?)
 }

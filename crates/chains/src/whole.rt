@@ -9,7 +9,7 @@ use mcs_reader::Id;
 use std::alloc::Global;
 use supersede::Zone;
 
-/// Judges over the whole catalogue: each call reads all that is catalogued, once. It keeps nothing, so it
+/// Judges over the whole catalogue: each call reads all that is catalogued anew. It keeps nothing, so it
 /// is right for every content.
 #[derive(Clone, Copy, Debug)]
 pub struct Whole;

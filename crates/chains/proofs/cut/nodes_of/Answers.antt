@@ -1,9 +1,7 @@
 use Rattle.std.proofs.Common.{◌∙◌, ◌++◌, ◌∷◌, [], ◌+◌, ◌<◌, ◌≡◌, List, ap, length, subst, arith, ℕ}
 use Rattle.std.specs.List.{Contains}
-use Rattle.catalogue.specs.declared.conditional.CondNeed.{CondNeed}
-use Rattle.supersede.specs.Giving.{needs_where}
 use Rattle.chains.specs.Cuts.{id_at}
-use Rattle.chains.specs.Indices.{AreIndicesOf, AreSeen, RowsAre}
+use Rattle.chains.specs.Indices.{AreSeen, RowsAre}
 use Rattle.chains.proofs.IndexFacts.{length-push, rows_more, seen_more}
 use Rattle.chains.proofs.cut.nodes_of.Goals as goal
 
@@ -11,23 +9,21 @@ pub loop-index-preserved : goal.loop-index-preserved
 loop-index-preserved c =
     let members = c.args.members.now in
     let index = c.loop-index.index in
-    let needs = c.push_indices_where.new.indices.items in
+    let needs = c.put_needs.new.indices.items in
     let needs_pushed = c.in_ok-push_row.ensures.rows ∙ ap (λ (row : List ℕ). c.loop-index.needs ++ row ∷ []) c.deref.ensures.value in
     record {
       seen = λ f ids are stand.
           let as_many = stand.len in
           let test = c.loop-index-test.true in
           let here : index < length members = omega (arith, as_many, test) in
-          let P : List (List ℕ) → Type 0 = λ l. AreIndicesOf members l c.put_indices.new.indices.items in
-          let Q : List CondNeed → Type 0 = λ conds. AreIndicesOf members (c.entry_at-entry.result.now.needs ++ needs_where c.args.zone.now conds) needs in
           seen_more c.args.zone.now f ids members index c.entry_at-entry.result.now
           c.loop-index.candidates.items _ c.loop-index.needs _ c.is_candidate.result needs
           (c.entry_at-entry.ensures f ids (id_at members index) are (stand.each index here))
-          c.is_candidate.ensures (subst Q c.conds.ensures (c.in_ok-push_indices_where.ensures c.entry_at-entry.result.now.needs (subst P c.needs-in-loop-index.ensures c.in_ok-put_indices.ensures)))
+          c.is_candidate.ensures c.in_ok-put_needs.ensures
           (c.loop-index.invariant.seen f ids are stand) c.in_ok-push.ensures.items needs_pushed;
       len = ap length c.in_ok-push.ensures.items ∙ length-push c.loop-index.candidates.items c.is_candidate.result ∙ ap (λ k. k + 1) c.loop-index.invariant.len;
       within = rows_more (λ p indices. (q : ℕ) → Contains indices q → q < length members) index c.loop-index.needs _ needs
-          c.loop-index.invariant.within (c.in_ok-push_indices_where.ensures _ c.in_ok-put_indices.ensures).within needs_pushed;
+          c.loop-index.invariant.within c.in_ok-put_needs.ensures.within needs_pushed;
     }
 
 pub returns-clause-within : goal.returns-clause-within

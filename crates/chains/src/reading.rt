@@ -1,0 +1,89 @@
+//! The nodes of a zone from a source. What is read for them goes, run by run.
+ghost use Rattle.std.specs.Prelude.{◌≡◌, IfOk, map};
+ghost use Rattle.catalogue.specs.Ids.{Ascend};
+ghost use Rattle.catalogue.specs.View.{MayAsk, Tells};
+ghost use Rattle.catalogue.specs.declared.fault.SourceFault.TheVariants.{Device};
+ghost use Rattle.chains.specs.Indices.{AreNodesWithin};
+ghost use Rattle.chains.specs.MemberRows.{AreRowsOf, AreRowsWithin, members_of};
+ghost use Rattle.chains.specs.Sights.{sight_of};
+ghost use Rattle.chains.specs.Surveys.{IsSurvey};
+
+use crate::cut::{Cut, there_marks};
+use crate::indices::{push_needs, sort_each_once};
+use crate::listing::entries_of;
+use crate::member_rows::MemberRows;
+use catalogue::{Published, SourceFault};
+use mcs_reader::Id;
+use requisites::Nodes;
+use std::alloc::Global;
+use supersede::Zone;
+
+// How many SYSMODs are read at once. What is read of a run is kept as long as the run, and a source that is a list has
+// nothing to win by longer ones.
+const RUN: usize = 512;
+
+/// All that is catalogued, and all that it needs, whatever the zone, as nodes. The source is gone through twice: for
+/// the members, and for what each of them has.
+pub(crate) fn cut_of<P: Published>(
+    alloc: Global,
+    source: &mut P,
+    zone: &Zone,
+) -> Result<Cut, SourceFault>
+    ensures asks { MayAsk P.content_view Device source.old source.new result }
+    ensures ascend { IfOk result (λ cut. Ascend cut.members.items) }
+    ensures within { IfOk result (λ cut. AreNodesWithin cut.members.items cut.nodes) }
+    ensures survey { IfOk result (λ cut. Tells P.content_view source.old source.new
+        (λ content. IsSurvey content zone.now
+        (record { members = cut.members.items; nodes = cut.nodes }))) }
+{
+    let members = read_members(alloc, source)?;
+    let rows = read_rows(alloc, source, zone, &members)?;
+    let there = there_marks(alloc, zone, &members, &rows.supersedes)?;
+    let nodes = Nodes {
+        candidates: rows.candidates,
+        there,
+        needs: rows.needs,
+        supersedes: rows.supersedes,
+    };
+    Ok(Cut { members, nodes })
+}
+
+// All that is catalogued, and all that it needs, ascending, each once.
+fn read_members<P: Published>(alloc: Global, source: &mut P) -> Result<Vec<Id>, SourceFault>
+    ensures asks { MayAsk P.content_view Device source.old source.new result }
+    ensures ascend { IfOk result (λ members. Ascend members.items) }
+    ensures members { IfOk result (λ members. Tells P.content_view source.old source.new
+        (λ content. members.items ≡ members_of content)) }
+{
+    let ids = source.ids()?;
+    let mut members = Vec::from_slice(alloc, &ids)?;
+    for run in ids.chunks(RUN) {
+        let entries = entries_of(alloc, source, run)?;
+        push_needs(&mut members, &entries)?;
+    }
+    sort_each_once(&mut members)?;
+    members.shrink_to_fit();
+    Ok(members)
+}
+
+// What each member has.
+fn read_rows<P: Published>(
+    alloc: Global,
+    source: &mut P,
+    zone: &Zone,
+    members: &[Id],
+) -> Result<MemberRows, SourceFault>
+    requires { Ascend members.now }
+    ensures asks { MayAsk P.content_view Device source.old source.new result }
+    ensures within { IfOk result (λ rows. AreRowsWithin members.now rows.candidates.items rows.needs) }
+    ensures rows { IfOk result (λ rows. Tells P.content_view source.old source.new
+        (λ content. AreRowsOf zone.now members.now (map (sight_of content) members.now)
+        rows.candidates.items rows.needs rows.supersedes)) }
+{
+    let mut rows = MemberRows::new(alloc);
+    for run in members.chunks(RUN) {
+        let entries = entries_of(alloc, source, run)?;
+        rows.push_all(zone, members, &entries)?;
+    }
+    Ok(rows)
+}
