@@ -1,3 +1,4 @@
 pub mod GatherFacts
 pub mod HeadFacts
 pub mod LinkFacts
+pub mod OrderFacts

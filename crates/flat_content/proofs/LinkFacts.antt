@@ -6,17 +6,21 @@ use Rattle.std.specs.List.Sorted.{IsPartitionPoint, IsPartitionedBy, IsStableByK
 use Rattle.std.specs.Ordering.{is_eq, is_le, is_lt, ordering_index, ordering_reverse}
 use Rattle.std.specs.declared.cmp.Ordering.{Ordering}
 use Rattle.std.specs.declared.cmp.Ordering.TheVariants.{Less, Equal, Greater}
-use Rattle.std.proofs.lemmas.List.{append-nil, append_assoc, get_or-drop, get_or-take, length-drop, length-take, map-append, take-append-drop}
-use Rattle.std.proofs.lemmas.List.Elements.{filter-append, filter_agree, recursion_from_All}
+use Rattle.std.proofs.lemmas.List.{append-nil, append_assoc, drop_all, drop_more, get_or-drop, get_or-map, get_or-take, length-drop, length-map, length-take, map-append, take-append-drop}
+use Rattle.std.proofs.lemmas.List.Elements.{All-from_recursion, filter-append, filter_agree, recursion_from_All}
 use Rattle.std.proofs.lemmas.List.Folds.{drop_split}
 use Rattle.std.proofs.lemmas.List.Sorted.{searchable_from_sorted}
 use borrow.Author.Tests.{ltb-false, ltb-true}
+use Rattle.catalogue.specs.declared.conditional.CondNeed.{CondNeed}
 use Rattle.catalogue.specs.declared.sysmod.Sysmod.{Sysmod}
 use Rattle.catalogue.specs.Content.{ids_in, sup_names}
 use Rattle.catalogue.specs.Ids.{Ascend, id_cmp, same_id}
 use Rattle.catalogue.proofs.IdFacts.{apart_back, ids_total, one_id, same_back, same_is}
 use Rattle.flat_content.specs.declared.links.Link.{Link}
+use Rattle.flat_content.specs.declared.records.Head.{Head}
 use Rattle.flat_content.specs.Links.{IsSortedList, is_to, linked, links_to}
+use Rattle.flat_content.specs.Records.{AreHeads, IsHead, record_at, records_of}
+use Rattle.flat_content.specs.Spans.{part_at}
 
 pub linked-append : (id : List ℕ) (xs ys : List Link) → linked id (xs ++ ys) ≡ linked id xs ++ linked id ys
 linked-append id xs ys = ap (map (λ (l : Link). l.superseder)) (filter-append (is_to id) xs ys) ∙ map-append (λ (l : Link). l.superseder) (filter (is_to id) xs) (filter (is_to id) ys)
@@ -58,9 +62,31 @@ of_next links x xs q ascend =
     by true = refl
     by false = refl
 
+-- ---- the record at a place
+
+module _ (names : List (List ℕ)) (conds : List CondNeed) (heads : List Head) (records : List Sysmod) (is : records_of names conds heads ≡ records) where
+  as_many : length records ≡ length heads
+  as_many = ap length (sym is) ∙ length-map heads (record_at names conds)
+
+  pub next_record : (i : ℕ) (head : Head) → i < length heads → head ≡ get_or heads i head → drop i records ≡ record_at names conds head ∷ drop (i + 1) records
+  next_record i head lt at =
+      let within : i < length records = omega (arith, lt, as_many) in
+      drop_more records i (record_at names conds head) within
+      ∙ ap (λ (x : Sysmod). x ∷ drop (i + 1) records)
+      (ap (λ (xs : List Sysmod). get_or xs i (record_at names conds head)) (sym is)
+      ∙ get_or-map (record_at names conds) heads i head (record_at names conds head) lt
+      ∙ ap (record_at names conds) (sym at))
+
+  pub none_left : (i : ℕ) → length heads ≤ i → drop i records ≡ []
+  none_left i le = drop_all i records (omega (arith, le, as_many))
+
+  pub sup_ascends : (i : ℕ) (head : Head) → AreHeads names conds heads → i < length heads → head ≡ get_or heads i head → Ascend (part_at names head.sup)
+  sup_ascends i head are lt at =
+      (subst (IsHead names conds) (sym at) (All-from_recursion (IsHead names conds) heads are i head lt)).sup.1
+
 -- ---- a stable sort keeps the links to one id in their order
 
-neither : (a b : List ℕ) → (not (is_lt (id_cmp a b)) && not (is_lt (id_cmp b a))) ≡ same_id a b
+pub neither : (a b : List ℕ) → (not (is_lt (id_cmp a b)) && not (is_lt (id_cmp b a))) ≡ same_id a b
 neither a b = ap (λ o. not (is_lt (id_cmp a b)) && not (is_lt o)) (ids_total.antisymm b a) ∙ by (id_cmp a b) ∙ sym (same_is a b)
   where
     by : (o : Ordering) → (not (is_lt o) && not (is_lt (ordering_reverse o))) ≡ is_eq o

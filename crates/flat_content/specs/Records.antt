@@ -1,32 +1,44 @@
--- No part of what is promised: private contracts cite it. Records whose lists stand in one list of ids.
-use Rattle.std.specs.Prelude.{ℕ, List, map}
+-- No part of what is promised: private contracts cite it. Records whose lists stand in lists of all.
+use Rattle.std.specs.Prelude.{ℕ, Bool, List, map}
 use Rattle.std.specs.List.{AllByRecursion}
+use Rattle.std.specs.List.Sorted.{IsStrictlySortedBy}
+use Rattle.catalogue.specs.declared.conditional.CondNeed.{CondNeed}
 use Rattle.catalogue.specs.declared.sysmod.Sysmod.{Sysmod}
+use Rattle.catalogue.specs.Ids.{id_cmp, same_id}
 use Rattle.flat_content.specs.declared.records.Head.{Head}
-use Rattle.flat_content.specs.Spans.{IsIds, ids_at}
+use Rattle.flat_content.specs.Spans.{AreConds, IsIds, part_at}
 
--- the record of an id
-abbrev pub record_at : List (List ℕ) → List ℕ → Head → Sysmod
-record_at names id head = record {
-  id = id;
+-- the record of which a head is kept
+abbrev pub record_at : List (List ℕ) → List CondNeed → Head → Sysmod
+record_at names conds head = record {
+  id = head.id;
   kind = head.kind;
-  fmids = ids_at names head.fmids;
-  pre = ids_at names head.pre;
-  req = ids_at names head.req;
-  conds = head.conds;
-  sup = ids_at names head.sup;
+  fmids = part_at names head.fmids;
+  pre = part_at names head.pre;
+  req = part_at names head.req;
+  conds = part_at conds head.conds;
+  sup = part_at names head.sup;
 }
 
--- the records in the order of their ids
-abbrev pub records_of : List (List ℕ) → List (List ℕ × Head) → List Sysmod
-records_of names entries = map (λ entry. record_at names entry.0 entry.1) entries
+-- the records in the order of their heads
+abbrev pub records_of : List (List ℕ) → List CondNeed → List Head → List Sysmod
+records_of names conds heads = map (record_at names conds) heads
 
--- each list of a record stands among the ids
-pub record IsHead (names : List (List ℕ)) (head : Head) : Type 0 where
+-- each list of a record stands among all
+pub record IsHead (names : List (List ℕ)) (all : List CondNeed) (head : Head) : Type 0 where
   pub fmids : IsIds names head.fmids
   pub pre : IsIds names head.pre
   pub req : IsIds names head.req
+  pub conds : AreConds all head.conds
   pub sup : IsIds names head.sup
 
-abbrev pub AreHeads : List (List ℕ) → List (List ℕ × Head) → Type 0
-AreHeads names entries = AllByRecursion (λ entry. IsHead names entry.1) entries
+abbrev pub AreHeads : List (List ℕ) → List CondNeed → List Head → Type 0
+AreHeads names conds heads = AllByRecursion (IsHead names conds) heads
+
+-- whether a head is that of an id
+abbrev pub is_head_of : List ℕ → Head → Bool
+is_head_of id head = same_id head.id id
+
+-- heads ascend by id, each id once
+abbrev pub HeadsAscend : List Head → Type 0
+HeadsAscend heads = IsStrictlySortedBy (λ a b. id_cmp a.id b.id) heads

@@ -15,23 +15,21 @@ use std::marker::Model;
 /// What was published so far. A contract sees the content.
 #[derive(Drop)]
 pub struct Gathered {
+    // in the order in which they came, so that one more costs no search
     records: Records,
     book: HoldBook,
 }
 
 impl Model for Gathered {
     ghost use Rattle.holddata.specs.HoldBook.{IsInKeyOrder};
-    ghost use Rattle.catalogue.specs.Content.{Content, ids_in};
-    ghost use Rattle.catalogue.specs.Ids.{Ascend};
+    ghost use Rattle.catalogue.specs.Content.{Content};
+    ghost use Rattle.catalogue.specs.Publication.{catalogue_of};
 
     ghost Value = { Content };
 
-    ghost view = { λ gathered. record { sysmods = gathered.records; holds = gathered.book } };
+    ghost view = { λ gathered. record { sysmods = catalogue_of gathered.records; holds = gathered.book } };
 
-    ghost invariant = { λ gathered. record {
-      ascend : Ascend (ids_in gathered.records);
-      in_key_order : IsInKeyOrder gathered.book;
-    } };
+    ghost invariant = { λ gathered. IsInKeyOrder gathered.book };
 }
 
 impl Gathered {
@@ -90,6 +88,7 @@ impl Gathered {
         ensures in_order { IfOk result IsInOrder }
     {
         let Gathered { records, book } = self;
+        let records = records.catalogue()?;
         let links = links_of(&records)?;
         Ok(FlatContent {
             alloc: records.alloc,

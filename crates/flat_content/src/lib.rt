@@ -17,6 +17,7 @@
 
 mod content;
 mod gathered;
+mod heads;
 mod links;
 mod records;
 mod spans;

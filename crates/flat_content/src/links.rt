@@ -4,15 +4,13 @@ ghost use Rattle.std.specs.Ordering.{is_le, is_lt};
 ghost use Rattle.std.specs.List.{slice_range};
 ghost use Rattle.std.specs.List.Sorted.{IsPartitionPoint};
 ghost use Rattle.catalogue.specs.Ids.{id_cmp};
-ghost use Rattle.flat_content.specs.Records.{AreHeads, records_of};
 ghost use Rattle.flat_content.specs.Links.{AreOf, IsSortedList, linked, links_to};
 
-use crate::records::{Head, Records};
+use crate::records::Records;
 use crate::spans::ids_in;
 use catalogue::NoMemory;
 use mcs_reader::Id;
 use std::alloc::Global;
-use std::collections::BTreeMap;
 
 /// A SYSMOD whose SUP names another.
 #[derive(Clone, Copy, Debug)]
@@ -26,7 +24,7 @@ pub(crate) fn links_of(records: &Records) -> Result<Vec<Link>, NoMemory>
     ensures sorted { IfOk result (λ links. IsSortedList links.items) }
     ensures of { IfOk result (λ links. AreOf records.now links.items) }
 {
-    let mut links = links_in_turn(records.alloc, &records.heads, &records.names)?;
+    let mut links = links_in_turn(records)?;
     sort(&mut links)?;
     links.shrink_to_fit();
     Ok(links)
@@ -45,17 +43,12 @@ pub(crate) fn superseders(alloc: Global, links: &[Link], id: &Id) -> Result<Vec<
 }
 
 // The links of the records in their order.
-fn links_in_turn(
-    alloc: Global,
-    heads: &BTreeMap<Id, Head>,
-    names: &[Id],
-) -> Result<Vec<Link>, NoMemory>
-    requires { AreHeads names.now heads.now.entries }
-    ensures { IfOk result (λ links. AreOf (records_of names.now heads.now.entries) links.items) }
+fn links_in_turn(records: &Records) -> Result<Vec<Link>, NoMemory>
+    ensures { IfOk result (λ links. AreOf records.now links.items) }
 {
-    let mut links = Vec::new(alloc);
-    for (id, head) in heads.iter() {
-        push_links(&mut links, ids_in(names, head.sup), *id)?;
+    let mut links = Vec::new(records.alloc);
+    for head in &records.heads {
+        push_links(&mut links, ids_in(&records.names, head.sup), head.id)?;
     }
     Ok(links)
 }

@@ -1,52 +1,49 @@
-//! Records whose lists stand in one list of ids.
-ghost use Rattle.std.specs.Prelude.{◌≡◌, ℕ, List, [], IfOk, OnOk, Some, find, if◌then◌else◌};
-ghost use Rattle.std.specs.BTreeMap.{keys};
+//! Records whose lists stand in one list of ids and in one of requisites under conditions.
+ghost use Rattle.std.specs.Prelude.{◌≡◌, ◌++◌, ◌∷◌, List, [], IfOk, OnOk, find, map};
 ghost use Rattle.catalogue.specs.Content.{ids_in, is_of};
-ghost use Rattle.catalogue.specs.Ids.{Ascend, same_id};
+ghost use Rattle.catalogue.specs.Ids.{Ascend};
+ghost use Rattle.catalogue.specs.Publication.{catalogue_of};
 ghost use Rattle.flat_content.specs.Records.{IsHead, record_at};
 ghost use Rattle.flat_content.specs.Spans.{Keeps};
 
-use crate::spans::{Span, copied, put};
-use catalogue::{CondNeeds, NoMemory, Sysmod, SysmodKind};
+use crate::heads::{head_for, put_in_order};
+use crate::spans::{Span, conds_copied, copied, put, put_conds};
+use catalogue::{CondNeed, NoMemory, Sysmod, SysmodKind};
 use mcs_reader::Id;
 use std::alloc::Global;
-use std::collections::BTreeMap;
 use std::marker::Model;
 
-/// What is kept of a record beside its id: where its lists stand among the ids of all records.
-#[derive(Debug, Drop)]
+/// What is kept of a record: its id, and where its lists stand among those of all records.
+#[derive(Clone, Copy, Debug)]
 pub(crate) struct Head {
+    pub(crate) id: Id,
     pub(crate) kind: SysmodKind,
     pub(crate) fmids: Span,
     pub(crate) pre: Span,
     pub(crate) req: Span,
-    pub(crate) conds: CondNeeds,
+    pub(crate) conds: Span,
     pub(crate) sup: Span,
 }
 
-/// Records, one for an id. A contract sees them in the order of their ids.
+/// Records in a row. A contract sees the list of them.
 #[derive(Drop)]
 pub(crate) struct Records {
     pub(crate) alloc: Global,
-    pub(crate) heads: BTreeMap<Id, Head>,
+    pub(crate) heads: Vec<Head>,
     pub(crate) names: Vec<Id>,
+    pub(crate) conds: Vec<CondNeed>,
 }
 
 impl Model for Records {
     ghost use Rattle.std.specs.Prelude.{List};
-    ghost use Rattle.std.specs.BTreeMap.{IsOrdered};
-    ghost use Rattle.catalogue.specs.Ids.{id_cmp};
     ghost use Rattle.catalogue.specs.declared.sysmod.Sysmod.{Sysmod};
     ghost use Rattle.flat_content.specs.Records.{AreHeads, records_of};
 
     ghost Value = { List Sysmod };
 
-    ghost view = { λ records. records_of records.names.items records.heads.entries };
+    ghost view = { λ records. records_of records.names.items records.conds.items records.heads.items };
 
-    ghost invariant = { λ records. record {
-      ordered : IsOrdered id_cmp records.heads;
-      heads : AreHeads records.names.items records.heads.entries;
-    } };
+    ghost invariant = { λ records. AreHeads records.names.items records.conds.items records.heads.items };
 }
 
 impl Records {
@@ -56,29 +53,52 @@ impl Records {
     {
         Records {
             alloc,
-            heads: BTreeMap::new(alloc),
+            heads: Vec::new(alloc),
             names: Vec::new(alloc),
+            conds: Vec::new(alloc),
         }
     }
 
-    /// The records with one more, in place of one with the same id.
+    /// The records with one more after them.
     pub(crate) fn with(self, sysmod: Sysmod) -> Result<Self, NoMemory>
-        ensures found { IfOk result (λ now. (id : List ℕ) →
-            find (is_of id) now ≡ (if same_id sysmod.id id then Some sysmod else find (is_of id) self)) }
+        ensures { IfOk result (λ now. now ≡ self ++ sysmod ∷ []) }
+    {
+        let Records {
+            alloc,
+            mut heads,
+            mut names,
+            mut conds,
+        } = self;
+        let head = head_of(&mut names, &mut conds, sysmod)?;
+        heads.push(head)?;
+        Ok(Records {
+            alloc,
+            heads,
+            names,
+            conds,
+        })
+    }
+
+    /// Of each id the last record, in the order of the ids, in as little room as they take.
+    pub(crate) fn catalogue(self) -> Result<Self, NoMemory>
+        ensures value { IfOk result (λ now. now ≡ catalogue_of self) }
         ensures ascend { IfOk result (λ now. Ascend (ids_in now)) }
     {
         let Records {
             alloc,
             mut heads,
             mut names,
+            mut conds,
         } = self;
-        let id = sysmod.id;
-        let head = head_of(&mut names, sysmod)?;
-        heads.insert(id, head)?;
+        put_in_order(&mut heads)?;
+        heads.shrink_to_fit();
+        names.shrink_to_fit();
+        conds.shrink_to_fit();
         Ok(Records {
             alloc,
             heads,
             names,
+            conds,
         })
     }
 
@@ -91,34 +111,40 @@ impl Records {
 
     /// The record of an id.
     pub(crate) fn get(&self, id: &Id) -> Result<Option<Sysmod>, NoMemory>
+        requires { Ascend (ids_in self.now) }
         ensures { IfOk result (λ found. found ≡ find (is_of id.now) self.now) }
     {
-        match self.heads.get(id) {
-            Some(head) => Ok(Some(record_of(self.alloc, &self.names, *id, head)?)),
+        match head_for(&self.heads, id) {
+            Some(head) => Ok(Some(record_of(self.alloc, &self.names, &self.conds, head)?)),
             None => Ok(None),
         }
     }
 }
 
 // The ids of records.
-fn ids_listed(alloc: Global, heads: &BTreeMap<Id, Head>) -> Result<Vec<Id>, NoMemory>
-    ensures { IfOk result (λ ids. ids.items ≡ keys heads.now) }
+fn ids_listed(alloc: Global, heads: &[Head]) -> Result<Vec<Id>, NoMemory>
+    ensures { IfOk result (λ ids. ids.items ≡ map (λ head. head.id) heads.now) }
 {
     let mut ids = Vec::with_capacity(alloc, heads.len())?;
-    for id in heads.keys() {
-        ids.push(*id)?;
+    for head in heads {
+        ids.push(head.id)?;
     }
     Ok(ids)
 }
 
 // What is kept of a record. Its lists are put after all others.
-fn head_of(names: &mut Vec<Id>, sysmod: Sysmod) -> Result<Head, NoMemory>
+fn head_of(
+    names: &mut Vec<Id>,
+    all_conds: &mut Vec<CondNeed>,
+    sysmod: Sysmod,
+) -> Result<Head, NoMemory>
     ensures keeps { OnOk result (Keeps names.old.items names.new.items) }
-    ensures is_head { IfOk result (IsHead names.new.items) }
-    ensures record { IfOk result (λ head. record_at names.new.items sysmod.id head ≡ sysmod) }
+    ensures keeps_conds { OnOk result (Keeps all_conds.old.items all_conds.new.items) }
+    ensures is_head { IfOk result (IsHead names.new.items all_conds.new.items) }
+    ensures record { IfOk result (λ head. record_at names.new.items all_conds.new.items head ≡ sysmod) }
 {
     let Sysmod {
-        id: _,
+        id,
         kind,
         fmids,
         pre,
@@ -127,27 +153,33 @@ fn head_of(names: &mut Vec<Id>, sysmod: Sysmod) -> Result<Head, NoMemory>
         sup,
     } = sysmod;
     Ok(Head {
+        id,
         kind,
         fmids: put(names, &fmids)?,
         pre: put(names, &pre)?,
         req: put(names, &req)?,
-        conds,
+        conds: put_conds(all_conds, &conds)?,
         sup: put(names, &sup)?,
     })
 }
 
 // The record of which a head is kept.
-fn record_of(alloc: Global, names: &[Id], id: Id, head: &Head) -> Result<Sysmod, NoMemory>
-    requires { IsHead names.now head.now }
-    ensures { IfOk result (λ sysmod. sysmod ≡ record_at names.now id head.now) }
+fn record_of(
+    alloc: Global,
+    names: &[Id],
+    conds: &[CondNeed],
+    head: &Head,
+) -> Result<Sysmod, NoMemory>
+    requires { IsHead names.now conds.now head.now }
+    ensures { IfOk result (λ sysmod. sysmod ≡ record_at names.now conds.now head.now) }
 {
     Ok(Sysmod {
-        id,
+        id: head.id,
         kind: head.kind,
         fmids: copied(alloc, names, head.fmids)?,
         pre: copied(alloc, names, head.pre)?,
         req: copied(alloc, names, head.req)?,
-        conds: head.conds.copy()?,
+        conds: conds_copied(alloc, conds, head.conds)?,
         sup: copied(alloc, names, head.sup)?,
     })
 }

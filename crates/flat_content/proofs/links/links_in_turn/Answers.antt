@@ -1,42 +1,38 @@
-use Rattle.std.proofs.Common.{◌≡◌, ◌++◌, ℕ, List, sym, ◌∙◌, ap, subst, append-nil}
+use Rattle.std.proofs.Common.{◌≡◌, ◌<◌, ◌≤◌, ◌+◌, ◌++◌, ℕ, List, length, drop, get_or, sym, ◌∙◌, ap, subst, append-nil}
 use Rattle.std.specs.Prelude.{filter}
+use Rattle.catalogue.specs.declared.sysmod.Sysmod.{Sysmod}
 use Rattle.catalogue.specs.Content.{ids_in, sup_names}
 use Rattle.flat_content.specs.declared.links.Link.{Link}
 use Rattle.flat_content.specs.declared.records.Head.{Head}
 use Rattle.flat_content.specs.Links.{linked, links_to}
-use Rattle.flat_content.specs.Records.{AreHeads, record_at, records_of}
-use Rattle.flat_content.proofs.LinkFacts.{of_next}
+use Rattle.flat_content.specs.Records.{record_at}
+use Rattle.flat_content.specs.Spans.{part_at}
+use Rattle.flat_content.proofs.LinkFacts.{next_record, none_left, of_next, sup_ascends}
 use Rattle.flat_content.proofs.links.links_in_turn.Goals as goal
 
-pub loop-id-init : goal.loop-id-init
-loop-id-init c =
-    let given : c.into_iter-id-iterator.result ≡ c.args.heads.now.entries = c.into_iter-id-iterator.ensures.into_iter_gives ∙ c.iter-id-items.ensures.rest in
-    record {
-      heads = subst (AreHeads c.args.names.now) (sym given) c.requires;
-      of = λ q.
-          ap (λ (links : List Link). linked q links ++ ids_in (filter (sup_names q) (records_of c.args.names.now c.into_iter-id-iterator.result))) c.new-links.ensures.items
-          ∙ ap (λ (es : List (List ℕ × Head)). ids_in (filter (sup_names q) (records_of c.args.names.now es))) given;
-    }
-
-pub ids_in-requires : goal.ids_in-requires
-ids_in-requires c = (subst (AreHeads c.args.names.now) c.in-Some.ensures.steps c.loop-id.invariant.heads).0.sup.0
-
-pub loop-id-preserved : goal.loop-id-preserved
-loop-id-preserved c =
-    let names = c.args.names.now in
-    let heads = subst (AreHeads names) c.in-Some.ensures.steps c.loop-id.invariant.heads in
-    record {
-      heads = heads.1;
-      of = λ q.
-          ap (λ (links : List Link). linked q links ++ ids_in (filter (sup_names q) (records_of names c.next.new.self)))
-          (c.in_ok-push_links.ensures ∙ ap (λ (sup : List (List ℕ)). c.loop-id.links.items ++ links_to sup c.in-Some.id.now) c.ids_in.ensures)
-          ∙ of_next c.loop-id.links.items (record_at names c.in-Some.id.now c.in-Some.head.now) (records_of names c.next.new.self) q heads.0.sup.1
-          ∙ ap (λ (es : List (List ℕ × Head)). linked q c.loop-id.links.items ++ ids_in (filter (sup_names q) (records_of names es))) (sym c.in-Some.ensures.steps)
-          ∙ c.loop-id.invariant.of q;
-    }
+pub loop-head-preserved : goal.loop-head-preserved
+loop-head-preserved c = λ q.
+    let old = c.records.inside in
+    let records = c.args.records.now in
+    let i = c.loop-head.head-index in
+    let head = c.head-item.result in
+    let given = c.deref-head-items.ensures.value in
+    let within = subst (λ (heads : List Head). i < length heads) given c.loop-head-test.true in
+    let at = subst (λ (heads : List Head). head ≡ get_or heads i head) given c.head-item.is in
+    ap (λ (links : List Link). linked q links ++ ids_in (filter (sup_names q) (drop (i + 1) records)))
+    (c.in_ok-push_links.ensures
+    ∙ ap (λ (sup : List (List ℕ)). c.loop-head.links.items ++ links_to sup head.id) (c.ids_in.ensures ∙ ap (λ (names : List (List ℕ)). part_at names head.sup) c.deref.ensures.value))
+    ∙ of_next c.loop-head.links.items (record_at old.names.items old.conds.items head) (drop (i + 1) records) q
+    (sup_ascends old.names.items old.conds.items old.heads.items records c.records.view_is i head c.records.invariant within at)
+    ∙ ap (λ (xs : List Sysmod). linked q c.loop-head.links.items ++ ids_in (filter (sup_names q) xs))
+    (sym (next_record old.names.items old.conds.items old.heads.items records c.records.view_is i head within at))
+    ∙ c.loop-head.invariant q
 
 pub returns : goal.returns
 returns c = λ q.
-    sym (append-nil (linked q c.loop-id.links.items))
-    ∙ ap (λ (es : List (List ℕ × Head)). linked q c.loop-id.links.items ++ ids_in (filter (sup_names q) (records_of c.args.names.now es))) (sym c.in-None.ensures.steps.0)
-    ∙ c.loop-id.invariant.of q
+    let old = c.records.inside in
+    let ended = subst (λ (heads : List Head). length heads ≤ c.loop-head.head-index) c.deref-head-items.ensures.value c.loop-head-test.false in
+    sym (append-nil (linked q c.loop-head.links.items))
+    ∙ ap (λ (xs : List Sysmod). linked q c.loop-head.links.items ++ ids_in (filter (sup_names q) xs))
+    (sym (none_left old.names.items old.conds.items old.heads.items c.args.records.now c.records.view_is c.loop-head.head-index ended))
+    ∙ c.loop-head.invariant q

@@ -1,6 +1,5 @@
-use Rattle.std.proofs.Common.{◌≡◌, ◌++◌}
-use Rattle.std.specs.BTreeMap.{keys}
+use Rattle.std.proofs.Common.{◌≡◌, map, take}
 use Rattle.flat_content.proofs.records.ids_listed.Given as goal
 
-abbrev pub invariant-loop-id : goal.invariant-loop-id
-invariant-loop-id l = l.ids.items ++ l.id-iterator ≡ keys l.heads
+abbrev pub invariant-loop-head : goal.invariant-loop-head
+invariant-loop-head l = l.ids.items ≡ map (λ head. head.id) (take l.head-index l.heads)
