@@ -1,3 +1,4 @@
 mod DeskFacts
+mod GatheringFacts
 pub mod InputFacts
 mod ReportFacts

@@ -1,4 +1,5 @@
 pub mod Desk
+pub mod Gathering
 pub mod Inputs
 pub mod Lists
 pub mod Read

@@ -18,6 +18,7 @@
 #![tactic(auto)]
 
 mod fault;
+mod gathering;
 mod held;
 mod inputs;
 mod publications;

@@ -1,26 +1,25 @@
 //! What publications leave, one after the other.
-ghost use Rattle.std.specs.Prelude.{◌≡◌, ◌++◌, List, Ok, IfOk, IfErr, map};
+ghost use Rattle.std.specs.Prelude.{◌≡◌, List, Ok, IfOk, IfErr, map};
 ghost use Rattle.catalogue.specs.Content.{IsInOrder};
-ghost use Rattle.catalogue.specs.Publication.{content_of};
-ghost use Rattle.catalogue.specs.Reading as reading;
 ghost use Rattle.catalogue.specs.declared.change.Change.{Change};
-ghost use Rattle.catalogue.specs.declared.fault.CatFault.TheVariants.{Memory};
 ghost use Rattle.faults.specs.declared.fault.Cause.TheVariants.{Machine};
 ghost use Rattle.bureau.specs.Bodies as body;
 ghost use Rattle.bureau.specs.Faults.{IsTold};
+ghost use Rattle.file_reports.specs.Gathering.{IsWith};
 ghost use Rattle.file_reports.specs.Inputs as said;
 ghost use Rattle.file_reports.specs.Inputs.{IsFirstFault};
 ghost use Rattle.file_reports.specs.declared.fault.Input.TheVariants as input;
 
+use crate::gathering::Reading;
 use crate::{Input, InputFault};
-use catalogue::{CatFault, Change, ChangeReader, SourceFault, publication_operands};
+use catalogue::{SourceFault, publication_operands};
 use faults::AnyFault;
 use flat_content::{FlatContent, Gathered};
 use mcs_reader::Statements;
 use std::alloc::Global;
 
-/// The content that publications leave where nothing was published before. Each is dropped once it is read, and its
-/// changes are taken over before the next one is read.
+/// The content that publications leave where nothing was published before. Each is gathered while it is read, and is
+/// dropped before the next one is read.
 ///
 /// # Errors
 ///
@@ -37,32 +36,28 @@ pub(crate) fn content_in(
 {
     let mut gathered = Gathered::new(alloc);
     for (index, publication) in publications.into_iter().enumerate() {
-        let changes = changes_at(alloc, index, publication)?;
-        gathered = with(gathered, changes)?;
+        gathered = with_publication(alloc, gathered, index, publication)?;
     }
     Ok(finished_content(gathered)?)
 }
 
-// What the publication with this index publishes. The publication is dropped.
-fn changes_at(alloc: Global, index: usize, text: Vec<u8>) -> Result<Vec<Change>, InputFault>
-    ensures changes { IfOk result (λ changes.
-        said.said_in (input.Publication index) (body.changes_in text.items) ≡ Ok changes.items) }
+// What was gathered, with what the publication with this index publishes. The publication is dropped.
+fn with_publication(
+    alloc: Global,
+    gathered: Gathered,
+    index: usize,
+    text: Vec<u8>,
+) -> Result<Gathered, InputFault>
+    ensures content { IfOk result (λ now. (changes : List Change)
+        × (said.said_in (input.Publication index) (body.changes_in text.items) ≡ Ok changes)
+        × IsWith gathered changes now) }
     ensures fault { IfErr result
         (IsFirstFault (said.said_in (input.Publication index) (body.changes_in text.items))) }
 {
-    match changes_in(alloc, text.as_slice()) {
-        Ok(changes) => Ok(changes),
+    match with_text(alloc, gathered, text.as_slice()) {
+        Ok(now) => Ok(now),
         Err(fault) => Err(InputFault::of(fault, Input::Publication(index))),
     }
-}
-
-// What was published so far, with more changes.
-fn with(gathered: Gathered, changes: Vec<Change>) -> Result<Gathered, SourceFault>
-    ensures content { IfOk result (λ now. (earlier : List Change) →
-        gathered ≡ content_of earlier → now ≡ content_of (earlier ++ changes.items)) }
-    ensures fault { IfErr result (λ fault. fault ≡ SourceFault.Memory) }
-{
-    Ok(gathered.with(changes)?)
 }
 
 // The content of what was published.
@@ -74,31 +69,24 @@ fn finished_content(gathered: Gathered) -> Result<FlatContent, SourceFault>
     Ok(gathered.content()?)
 }
 
-// What the statements of a publication publish. No statement is kept. What stands after the first statement that has
-// a fault is read too, since a fault of the text comes before it.
-fn changes_in(alloc: Global, text: &[u8]) -> Result<Vec<Change>, AnyFault>
-    ensures changes { IfOk result (λ changes. body.changes_in text.now ≡ Ok changes.items) }
+// What was gathered, with what the statements of a publication publish. No statement is kept, and no list of changes.
+// What stands after the first statement that has a fault is read too, since a fault of the text comes before it.
+fn with_text(alloc: Global, gathered: Gathered, text: &[u8]) -> Result<Gathered, AnyFault>
+    ensures content { IfOk result (λ now. (changes : List Change)
+        × (body.changes_in text.now ≡ Ok changes) × IsWith gathered changes now) }
     ensures fault { IfErr result (IsTold (body.changes_in text.now)) }
     ensures memory { IfErr result (λ fault. fault.cause ≡ Machine → said.IsMemory fault) }
 {
     let mut statements = Statements::asking(alloc, text, publication_operands())?;
-    let mut reader = ChangeReader::new(alloc);
+    let mut reading = Reading::new(alloc, gathered);
     'statements: while let Some(statement) = statements.next()? {
-        match reader.take(&statement) {
-            Ok(now) => reader = now,
+        match reading.take(alloc, &statement) {
+            Ok(now) => reading = now,
             Err(fault) => {
                 statements.finish()?;
                 return Err(AnyFault::from(fault));
             }
         }
     }
-    Ok(finished(reader)?)
-}
-
-// The changes of what was read.
-fn finished(reader: ChangeReader) -> Result<Vec<Change>, CatFault>
-    ensures changes { IfOk result (λ changes. changes.items ≡ reading.changes_in reader) }
-    ensures fault { IfErr result (λ fault. fault ≡ Memory) }
-{
-    Ok(reader.finish()?)
+    Ok(reading.finish()?)
 }

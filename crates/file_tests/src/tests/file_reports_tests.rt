@@ -24,6 +24,41 @@ IBM.Function.X                                                    UA10001  AA200
 ROWS 1
 ";
 
+// The worked case, with the hold before every header.
+const HOLD_FIRST: &[u8] = b"++HOLD(UA10001) ERROR FMID(HBB7790)
+ REASON(AA20002) CLASS(PE) DATE(12045).
+++FUNCTION(HBB7790).
+++VER(Z038).
+++PTF(UA10001).
+++VER(Z038) FMID(HBB7790).
+++PTF(UA10002).
+++VER(Z038) FMID(HBB7790) PRE(UA10001) SUP(AA20002).
+";
+
+// The same with the hold between a header and its VER.
+const HOLD_BETWEEN: &[u8] = b"++FUNCTION(HBB7790).
+++VER(Z038).
+++PTF(UA10001).
+++VER(Z038) FMID(HBB7790).
+++PTF(UA10002).
+++HOLD(UA10001) ERROR FMID(HBB7790)
+ REASON(AA20002) CLASS(PE) DATE(12045).
+++VER(Z038) FMID(HBB7790) PRE(UA10001) SUP(AA20002).
+";
+
+// The second PTF once more, without SUP, and another one with it.
+const IN_ITS_PLACE: &[u8] = b"++PTF(UA10002).
+++VER(Z038) FMID(HBB7790) PRE(UA10001).
+++PTF(UA10005).
+++VER(Z038) FMID(HBB7790) PRE(UA10001) SUP(AA20002).
+";
+
+const OTHER_RESOLVER: &str = "EXCEPTION SYSMOD REPORT FOR ZONE TGT1
+FMID     SYSMOD   REASON   RESOLVER STATUS RECEIVED CLASS
+HBB7790  UA10001  AA20002  UA10005  GOOD   NO       PE
+ROWS 1
+";
+
 const NO_MISSING: &str = "MISSING FIX REPORT FOR ZONE TGT1
 CATEGORY                                                          FMID     REASON   RESOLVER STATUS RECEIVED
 ROWS 0
@@ -39,6 +74,15 @@ fn exception_sysmods(rt: HostRuntime) -> Result<(), Fail> {
         received: Some(RECEIVED),
     };
     assert_err(rt.alloc(), lists, &[BASE, LATER], ONE_RECEIVED)
+}
+
+// A hold may stand anywhere, and the last record of a SYSMOD counts.
+#[test]
+fn statements_in_another_order(rt: HostRuntime) -> Result<(), Fail> {
+    let lists = Lists::of_zone(ZONE);
+    assert_err(rt.alloc(), lists, &[HOLD_FIRST], ONE_RESOLVER)?;
+    assert_err(rt.alloc(), lists, &[HOLD_BETWEEN], ONE_RESOLVER)?;
+    assert_err(rt.alloc(), lists, &[BASE, IN_ITS_PLACE], OTHER_RESOLVER)
 }
 
 #[test]
@@ -79,7 +123,11 @@ const WITHOUT_PERIOD: &[u8] = b"++PTF(UA10006).\n++HOLD(UA10001) ERROR REASON(AA
 
 const WITHOUT_HEADER: &[u8] = b"\n++VER(Z038).\n";
 
-static CASES: [Case; 6] = [
+const BOTH: &[u8] = b"\n++VER(Z038).\n++PTF(UA10006)\n";
+
+const HOLD_WITHOUT_HEADER: &[u8] = b"++HOLD(UA10001) ERROR REASON(AA20003).\n++VER(Z038).\n";
+
+static CASES: [Case; 8] = [
     // the zone's fault comes before all others
     Case {
         lists: Lists {
@@ -134,6 +182,30 @@ static CASES: [Case; 6] = [
         },
         publications: &[BASE, LATER, WITHOUT_HEADER],
         input: Input::Publication(2),
+        number: 21,
+        place: Some(2),
+    },
+    // a fault of the text comes before one of a statement, also where it stands later
+    Case {
+        lists: Lists {
+            zone: ZONE,
+            categories: None,
+            received: None,
+        },
+        publications: &[BOTH],
+        input: Input::Publication(0),
+        number: 1,
+        place: Some(3),
+    },
+    // a hold is no header
+    Case {
+        lists: Lists {
+            zone: ZONE,
+            categories: None,
+            received: None,
+        },
+        publications: &[BASE, HOLD_WITHOUT_HEADER],
+        input: Input::Publication(1),
         number: 21,
         place: Some(2),
     },
