@@ -83,6 +83,14 @@ asked items old new text params query names parameters (Ok a) reads ok err survi
 }
 asked items old new text params query names parameters (Err e) reads ok err survives = record { keeps = λ clean inside. kept_unread old new text params e (err clean); survives = survives; done = tt }
 
+-- and leaves the database as it was
+pub asked_same : (old new : State) (text : List ℕ) (params : Row) (query : Query) (names : List (List ℕ)) (parameters : ℕ) (items : List Row)
+    → Reads bureau text query names parameters → old.now.schema ≡ bureau → Shown text params old new items → new.now ≡ old.now
+unfolding Shown
+asked_same old new text params query names parameters items reads ours it =
+    let plain : it.0.returning ≡ None = ap (λ (c : Compiled). c.returning) (same_value (sym it.1.is ∙ ap (λ s. understood s text) ours ∙ reads.statement)) in
+    (unchanged_shown old new text it.0 _ items it.0.returning plain it.2).0.now_is
+
 -- ---- why it is refused
 
 never_some : (o : Option Returning) → o ≡ None → IsSome o → ⊥

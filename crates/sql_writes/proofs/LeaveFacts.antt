@@ -119,7 +119,7 @@ taken_has (suc n) [] x h = h
 taken_has (suc n) (y ∷ ys) x (inl same) = inl same
 taken_has (suc n) (y ∷ ys) x (inr later) = inr (taken_has n ys x later)
 
-same_order : (a b : List ℕ) → a ≡ b → is_eq (id_cmp a b) ≡ true
+pub same_order : (a b : List ℕ) → a ≡ b → is_eq (id_cmp a b) ≡ true
 same_order a b same = is_eq-slice_cmp a b ∙ (bytes_eq-Decides a b).1 same
 
 pub named : (id other : List ℕ) → IsId id → is_named other (id_value id) ≡ true → id ≡ other

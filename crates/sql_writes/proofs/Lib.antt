@@ -7,8 +7,10 @@ pub mod ChangeFacts
 pub mod ComeFacts
 pub mod DefineFacts
 pub mod FindFacts
+pub mod FirstFacts
 pub mod FittingFacts
 pub mod FoundFacts
+pub mod FreeFacts
 pub mod ExcuseFacts
 pub mod GoneFacts
 pub mod KindFacts
@@ -33,4 +35,5 @@ pub mod StoredFacts
 pub mod SupFacts
 pub mod TakeFacts
 pub mod TogetherFacts
+pub mod WhereFacts
 pub mod ZoneRowFacts

@@ -10,6 +10,7 @@ use Rattle.std.proofs.lemmas.List.Sums.{fold_push, sum_by-cons}
 use Rattle.catalogue.specs.Ids.{Ascend}
 use Rattle.catalogue.specs.declared.change.Change.{Change}
 use Rattle.catalogue.specs.declared.change.Change.TheVariants.{OfHold, Whole}
+use Rattle.catalogue.specs.declared.conditional.CondNeed.{CondNeed}
 use Rattle.catalogue.specs.declared.sysmod.Sysmod.{Sysmod}
 use Rattle.holddata.specs.declared.hold.HoldChange.{HoldChange}
 use Rattle.mcs_reader.specs.Id.{IsId}
@@ -22,7 +23,7 @@ use Rattle.sql_tables.specs.Rows.{cond_row, sup_row}
 use Rattle.sql_tables.specs.Stored.{Stored, is_named, is_of, is_of_both}
 use Rattle.sql_tables.specs.Values.{id_value}
 use Rattle.sql_writes.specs.Many.{AreNew}
-use Rattle.sql_writes.specs.Records.{AreApart, AreNewMembers, AreNewRecords, Begins, IsApart, IsTogether, member_values, pairs, record_gone, record_rows, records_in, rest_count, rest_put, sups_of, values_of, with_members, with_sysmods}
+use Rattle.sql_writes.specs.Records.{AreApart, AreNewMembers, AreNewRecords, Begins, IsApart, IsTogether, NoneOf, member_values, pairs, record_gone, record_rows, records_in, rest_count, rest_put, sups_of, values_of, with_members, with_sysmods}
 use Rattle.sql_writes.specs.Room.{rows_of_change}
 use Rattle.sql_writes.specs.declared.records.SupRow.{SupRow}
 use Rattle.sql_writes.specs.declared.records.SysmodRow.{SysmodRow}
@@ -36,19 +37,14 @@ use Rattle.sql_writes.proofs.StoredFacts.{replaced_then}
 
 -- ---- the rows of one table
 
--- no row is of this record
-abbrev NoneOf : List Row → Change → Type 0
-NoneOf rows (Whole sysmod) = list_any (is_of sysmod.id) rows ≡ false
-NoneOf rows (OfHold change) = Unit {0}
-
 -- the rows of records go
-abbrev gone : List Change → List Row → List Row
+abbrev pub gone : List Change → List Row → List Row
 gone [] rows = rows
 gone (Whole sysmod ∷ changes) rows = gone changes (replaced (is_of sysmod.id) [] rows)
 gone (OfHold change ∷ changes) rows = gone changes rows
 
 -- one after the other they go, and rows come that each makes
-abbrev in_turn : (Change → List Row) → List Change → List Row → List Row
+abbrev pub in_turn : (Change → List Row) → List Change → List Row → List Row
 in_turn make [] rows = rows
 in_turn make (Whole sysmod ∷ changes) rows = in_turn make changes (replaced (is_of sysmod.id) (make (Whole sysmod)) rows)
 in_turn make (OfHold change ∷ changes) rows = in_turn make changes rows
@@ -70,7 +66,7 @@ pub record MakesOwn (make : Change → List Row) : Type 0 where
   pub own : (sysmod : Sysmod) (other : Change) → IsApart sysmod.id other → NoneOf (make (Whole sysmod)) other
   pub bare : (change : HoldChange) → make (OfHold change) ≡ []
 
-none_made : (make : Change → List Row) → MakesOwn make → (sysmod : Sysmod) (changes : List Change) → AllByRecursion (IsApart sysmod.id) changes → AllByRecursion (NoneOf (make (Whole sysmod))) changes
+pub none_made : (make : Change → List Row) → MakesOwn make → (sysmod : Sysmod) (changes : List Change) → AllByRecursion (IsApart sysmod.id) changes → AllByRecursion (NoneOf (make (Whole sysmod))) changes
 none_made make makes sysmod changes apart = all_weaker (IsApart sysmod.id) (NoneOf (make (Whole sysmod))) (makes.own sysmod) changes apart
 
 -- so it is the same to delete all rows first, and then to insert all
@@ -91,7 +87,7 @@ at_once make makes (OfHold change ∷ changes) apart rows =
 none_named : (id other : List ℕ) → IsId id → id ≢ other → is_named other (id_value id) ≡ false
 none_named id other is apart = false_from_ne_true _ (λ same. apart (named id other is same))
 
-sysmods_own : MakesOwn record_rows
+pub sysmods_own : MakesOwn record_rows
 sysmods_own = record { own = own; bare = λ change. refl }
   where
     own : (sysmod : Sysmod) (other : Change) → IsApart sysmod.id other → NoneOf (record_rows (Whole sysmod)) other
@@ -99,11 +95,11 @@ sysmods_own = record { own = own; bare = λ change. refl }
     own sysmod (OfHold change) apart = tt
 
 -- the rows of what a record supersedes
-abbrev member_rows : Change → List Row
+abbrev pub member_rows : Change → List Row
 member_rows (Whole sysmod) = map (sup_row sysmod.id) sysmod.sup
 member_rows (OfHold change) = []
 
-members_own : MakesOwn member_rows
+pub members_own : MakesOwn member_rows
 members_own = record { own = own; bare = λ change. refl }
   where
     own : (sysmod : Sysmod) (other : Change) → IsApart sysmod.id other → NoneOf (member_rows (Whole sysmod)) other
@@ -124,29 +120,40 @@ all_paired (Whole sysmod ∷ changes) =
     map-append member_values (pairs sysmod.id sysmod.sup) (flat_map sups_of changes) ∙ ap₂ ◌++◌ (paired sysmod.id sysmod.sup) (all_paired changes)
 all_paired (OfHold change ∷ changes) = all_paired changes
 
-abbrev cond_rows : Change → List Row
+abbrev pub cond_rows : Change → List Row
 cond_rows (Whole sysmod) = map (cond_row sysmod.id) sysmod.conds
 cond_rows (OfHold change) = []
 
+pub conds_own : MakesOwn cond_rows
+conds_own = record { own = own; bare = λ change. refl }
+  where
+    own : (sysmod : Sysmod) (other : Change) → IsApart sysmod.id other → NoneOf (cond_rows (Whole sysmod)) other
+    own sysmod (Whole other) apart = each sysmod.conds
+      where
+        each : (conds : List CondNeed) → list_any (is_of other.id) (map (cond_row sysmod.id) conds) ≡ false
+        each [] = refl
+        each (cond ∷ conds) = ap₂ ◌||◌ (none_named sysmod.id other.id apart.0 apart.1) (each conds)
+    own sysmod (OfHold change) apart = tt
+
 -- ---- all tables
 
-abbrev held_in_turn : List Change → List Row → List Row
+abbrev pub held_in_turn : List Change → List Row → List Row
 held_in_turn [] holds = holds
 held_in_turn (Whole sysmod ∷ changes) holds = held_in_turn changes holds
 held_in_turn (OfHold change ∷ changes) holds = held_in_turn changes (holds_changed change holds)
 
-published_in_turn : (changes : List Change) (stored : Stored) → fold published stored changes
+pub published_in_turn : (changes : List Change) (stored : Stored) → fold published stored changes
     ≡ record stored { sysmods = in_turn record_rows changes stored.sysmods; sups = in_turn member_rows changes stored.sups; conds = in_turn cond_rows changes stored.conds; holds = held_in_turn changes stored.holds }
 published_in_turn [] stored = refl
 published_in_turn (Whole sysmod ∷ changes) stored = published_in_turn changes (published stored (Whole sysmod))
 published_in_turn (OfHold change ∷ changes) stored = published_in_turn changes (published stored (OfHold change))
 
-all_gone : (changes : List Change) (stored : Stored) → fold record_gone stored changes ≡ record stored { sysmods = gone changes stored.sysmods; sups = gone changes stored.sups }
+pub all_gone : (changes : List Change) (stored : Stored) → fold record_gone stored changes ≡ record stored { sysmods = gone changes stored.sysmods; sups = gone changes stored.sups }
 all_gone [] stored = refl
 all_gone (Whole sysmod ∷ changes) stored = all_gone changes (record_gone stored (Whole sysmod))
 all_gone (OfHold change ∷ changes) stored = all_gone changes stored
 
-all_rest : (changes : List Change) (stored : Stored) → fold rest_put stored changes ≡ record stored { conds = in_turn cond_rows changes stored.conds; holds = held_in_turn changes stored.holds }
+pub all_rest : (changes : List Change) (stored : Stored) → fold rest_put stored changes ≡ record stored { conds = in_turn cond_rows changes stored.conds; holds = held_in_turn changes stored.holds }
 all_rest [] stored = refl
 all_rest (Whole sysmod ∷ changes) stored =
     all_rest changes (rest_put stored (Whole sysmod))
@@ -190,13 +197,13 @@ none_of (Whole sysmod ∷ changes) rows =
     (still_none (is_of sysmod.id) changes left (gone_now (is_of sysmod.id) (is_of sysmod.id) (λ row h. h) rows), none_of changes left)
 none_of (OfHold change ∷ changes) rows = (tt, none_of changes rows)
 
-none_in_both : (changes : List Change) (rows more : List Row) → AllByRecursion (NoneOf rows) changes → AllByRecursion (NoneOf more) changes → AllByRecursion (NoneOf (rows ++ more)) changes
+pub none_in_both : (changes : List Change) (rows more : List Row) → AllByRecursion (NoneOf rows) changes → AllByRecursion (NoneOf more) changes → AllByRecursion (NoneOf (rows ++ more)) changes
 none_in_both [] rows more none none_then = tt
 none_in_both (Whole sysmod ∷ changes) rows more none none_then =
     (list_any-append (is_of sysmod.id) rows more ∙ ap₂ ◌||◌ none.0 none_then.0, none_in_both changes rows more none.1 none_then.1)
 none_in_both (OfHold change ∷ changes) rows more none none_then = (tt, none_in_both changes rows more none.1 none_then.1)
 
-records_new : (changes : List Change) → AreApart changes → (rows : List Row) → AllByRecursion (NoneOf rows) changes → AreNewRecords changes rows
+pub records_new : (changes : List Change) → AreApart changes → (rows : List Row) → AllByRecursion (NoneOf rows) changes → AreNewRecords changes rows
 records_new [] apart rows none = tt
 records_new (Whole sysmod ∷ changes) apart rows none =
     (none.0, records_new changes apart.1 (rows ++ record_rows (Whole sysmod)) (none_in_both changes rows (record_rows (Whole sysmod)) none.1 (none_made record_rows sysmods_own sysmod changes apart.0)))
@@ -221,7 +228,7 @@ one_new id members ids up rows none =
     pairs_new id members rows (subst (AreNew (is_of_both id) (sup_row id) members) (sym (none_gone (is_of id) rows none))
     (each_new (is_of_both id) (sup_row id) members (replaced (is_of id) [] rows) (λ i member low at. next_sup id members i member ids up low at rows)))
 
-members_new : (changes : List Change) → AreApart changes → AllByRecursion IsFitChange changes → (rows : List Row) → AllByRecursion (NoneOf rows) changes → AreNewMembers (flat_map sups_of changes) rows
+pub members_new : (changes : List Change) → AreApart changes → AllByRecursion IsFitChange changes → (rows : List Row) → AllByRecursion (NoneOf rows) changes → AreNewMembers (flat_map sups_of changes) rows
 members_new [] apart fit rows none = tt
 members_new (Whole sysmod ∷ changes) apart fit rows none =
     both_new (pairs sysmod.id sysmod.sup) (flat_map sups_of changes) rows (one_new sysmod.id sysmod.sup fit.0.sup fit.0.ascend rows none.0)

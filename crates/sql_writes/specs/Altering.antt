@@ -1,8 +1,8 @@
 -- What a call says of the connection that a transaction lends, as it is before the call and after it.
-use Rattle.std.specs.Prelude.{ℕ, List, Result}
+use Rattle.std.specs.Prelude.{◌≡◌, ℕ, List, Result}
 use Rattle.sqlite.specs.Effect.{Database}
 use Rattle.sqlite.specs.Held.{Held, state}
-use Rattle.sqlite.specs.State.{HasCleanDisk}
+use Rattle.sqlite.specs.State.{HasCleanDisk, State}
 use Rattle.sqlite.specs.declared.error.Error.{Error}
 use Rattle.sqlite_trees.specs.declared.store.Store.{Ghosts}
 use Rattle.sql_texts.specs.Meaning.{Means}
@@ -16,6 +16,16 @@ use Rattle.sql_writes.specs.Making.{Leads}
 -- the rows change so
 abbrev pub Alters : {S Answer Fault : Type 0} → Ghosts S → Held S → Held S → Result Answer Fault → (Stored → Stored) → Type 0
 Alters ghosts old new result change = Changes (state ghosts old) (state ghosts new) result change
+
+-- statements change the rows in some way, which is this one where such a thing is true of the rows
+pub record ChangesWhere {Answer Fault : Type 0} (old new : State) (result : Result Answer Fault) (Fits : Stored → Type 0) (change : Stored → Stored) : Type 0 where
+  pub made : Stored → Stored
+  pub changes : Changes old new result made
+  pub same : (stored : Stored) → Fits stored → made stored ≡ change stored
+
+-- the rows change so, where such a thing is true of them
+abbrev pub AltersWhere : {S Answer Fault : Type 0} → Ghosts S → Held S → Held S → Result Answer Fault → (Stored → Type 0) → (Stored → Stored) → Type 0
+AltersWhere ghosts old new result Fits change = ChangesWhere (state ghosts old) (state ghosts new) result Fits change
 
 -- such a database becomes such a one
 abbrev pub Turns : {S Answer Fault : Type 0} → Ghosts S → Held S → Held S → Result Answer Fault → (Database → Type 0) → (Database → Type 0) → Type 0

@@ -1,11 +1,14 @@
 -- No part of what is promised: private contracts cite it. Whether rows stand in a table.
-use Rattle.std.specs.Prelude.{◌≡◌, ℕ, Bool, List, [], ◌∷◌, codes}
+use Rattle.std.specs.Prelude.{◌≡◌, ℕ, Bool, false, IsTrue, List, [], ◌∷◌, codes, pos}
 use Rattle.std.specs.List.{list_any}
 use Rattle.sqlite.specs.Held.{Held, state}
 use Rattle.sqlite.specs.Order.{Row}
 use Rattle.sqlite.specs.Query.{Query}
 use Rattle.sqlite.specs.State.{HasCleanDisk}
+use Rattle.sqlite.specs.Term.{lit}
+use Rattle.sqlite.specs.declared.types.Value.TheVariants.{Int}
 use Rattle.sqlite_trees.specs.declared.store.Store.{Ghosts}
+use Rattle.catalogue.specs.declared.change.Change.{Change}
 use Rattle.sql_texts.specs.Reads.{from_table, is_given}
 use Rattle.sql_texts.specs.Writes.{by_id}
 use Rattle.sql_texts.specs.declared.write.TableById.{TableById}
@@ -13,6 +16,7 @@ use Rattle.sql_texts.specs.declared.write.TableById.TheVariants.{LastChange, Rec
 use Rattle.sql_tables.specs.Stored.{Stored, is_of, is_of_both}
 use Rattle.sql_state.specs.Ours.{held_by}
 use Rattle.sql_state.specs.Writing.{IsKnown}
+use Rattle.sql_writes.specs.Records.{AreFree, IsBare}
 
 -- the column that has the id
 abbrev pub id_name : TableById → List ℕ
@@ -25,6 +29,10 @@ id_name ReceivedList = codes "client"
 -- of the rows of an id the id alone
 abbrev pub ids_of : TableById → Query
 ids_of table = from_table (by_id table).tree (is_given 1 0 ∷ []) (1 ∷ []) []
+
+-- of one row of a table the id, if it has any
+abbrev pub first_of : TableById → Query
+first_of table = record (from_table (by_id table).tree [] (1 ∷ []) []) { limit = lit (Int (pos 1)) }
 
 -- the rows of a table
 abbrev pub rows_in : TableById → Stored → List Row
@@ -45,3 +53,22 @@ abbrev pub FindsHead : {S : Type 0} → Ghosts S → Held S → Held S → List 
 FindsHead ghosts old new client zone found =
     HasCleanDisk (state ghosts new) → IsKnown (state ghosts old).now
     → list_any (is_of_both client zone) (held_by (state ghosts old).now).heads ≡ found
+
+-- where the answer denies that a table has rows, it has none; and the database is as it was
+abbrev pub FindsRows : {S : Type 0} → Ghosts S → Held S → Held S → TableById → Bool → Type 0
+FindsRows ghosts old new table found =
+    HasCleanDisk (state ghosts new) → IsKnown (state ghosts old).now
+    → ((state ghosts new).now ≡ (state ghosts old).now)
+    × (found ≡ false → rows_in table (held_by (state ghosts old).now) ≡ [])
+
+-- where the answer says so, no record is catalogued, and no row stands of what one supersedes or requires under a condition
+abbrev pub FindsBare : {S : Type 0} → Ghosts S → Held S → Held S → Bool → Type 0
+FindsBare ghosts old new bare =
+    IsTrue bare → HasCleanDisk (state ghosts new) → IsKnown (state ghosts old).now
+    → IsBare (held_by (state ghosts old).now)
+
+-- where the answer says so, no row stands under the ids of these records
+abbrev pub FindsFree : {S : Type 0} → Ghosts S → Held S → Held S → List Change → Bool → Type 0
+FindsFree ghosts old new changes free =
+    IsTrue free → HasCleanDisk (state ghosts new) → IsKnown (state ghosts old).now
+    → AreFree changes (held_by (state ghosts old).now)

@@ -1,5 +1,5 @@
 -- No part of what is promised: private contracts cite it. Records of the catalogue that are put together.
-use Rattle.std.specs.Prelude.{◌≡◌, ◌≢◌, ◌⊎◌, ℕ, suc, false, List, [], ◌∷◌, ◌++◌, drop, length, map, take}
+use Rattle.std.specs.Prelude.{◌≡◌, ◌≢◌, ◌⊎◌, ℕ, suc, Bool, false, IsTrue, List, [], ◌∷◌, ◌++◌, drop, length, map, take}
 use Rattle.std.specs.List.{AllByRecursion, list_any}
 use Rattle.mcs_reader.specs.Id.{IsId}
 use Rattle.catalogue.specs.declared.change.Change.{Change}
@@ -101,3 +101,35 @@ AreNewRecords [] rows = Unit {0}
 AreNewRecords (Whole sysmod ∷ changes) rows =
     (list_any (is_of sysmod.id) rows ≡ false) × AreNewRecords changes (rows ++ sysmod_row sysmod ∷ [])
 AreNewRecords (OfHold change ∷ changes) rows = AreNewRecords changes rows
+
+-- ---- where nothing stands of them
+
+-- the id of a record; what is said of a hold has none
+abbrev pub ids_in : Change → List (List ℕ)
+ids_in (Whole sysmod) = sysmod.id ∷ []
+ids_in (OfHold change) = []
+
+-- no record is catalogued, and no row stands of what one supersedes or requires under a condition
+abbrev pub IsBare : Stored → Type 0
+IsBare stored = (stored.sysmods ≡ []) × ((stored.sups ≡ []) × (stored.conds ≡ []))
+
+-- no row is of this record
+abbrev pub NoneOf : List Row → Change → Type 0
+NoneOf rows (Whole sysmod) = list_any (is_of sysmod.id) rows ≡ false
+NoneOf rows (OfHold change) = Unit {0}
+
+-- no row stands under the id of a record, and no two records are of one id
+pub record AreFree (changes : List Change) (stored : Stored) : Type 0 where
+  pub apart : AreApart changes
+  pub sysmods : AllByRecursion (NoneOf stored.sysmods) changes
+  pub sups : AllByRecursion (NoneOf stored.sups) changes
+  pub conds : AllByRecursion (NoneOf stored.conds) changes
+
+-- so it is where it was found
+abbrev pub FreeIf : Bool → List Change → Stored → Type 0
+FreeIf found changes stored = IsTrue found → AreFree changes stored
+
+-- a record that requires nothing under a condition
+abbrev pub HasNoRest : Change → Type 0
+HasNoRest (Whole sysmod) = sysmod.conds ≡ []
+HasNoRest (OfHold change) = ⊥

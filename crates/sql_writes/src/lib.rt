@@ -14,6 +14,7 @@ mod callers;
 mod change;
 mod delete;
 mod effect;
+mod free;
 mod insert;
 mod load;
 mod migration;

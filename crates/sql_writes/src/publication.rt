@@ -5,10 +5,11 @@ ghost use Rattle.mcs_reader.specs.Id.{IsId};
 ghost use Rattle.holddata.specs.declared.hold.HoldChange.TheVariants.{Put};
 ghost use Rattle.sql_tables.specs.Changes.{holds_changed, published};
 ghost use Rattle.sql_tables.specs.Fit.{IsFitChange, IsHold};
-ghost use Rattle.sql_writes.specs.Altering.{Alters, Inserts, TakesRoom};
-ghost use Rattle.sql_writes.specs.Records.{AreApart, Begins, IsApart, IsTogether, record_gone, record_rows, records_in, rest_count, rest_put, sups_of, values_of, with_members, with_sysmods};
+ghost use Rattle.sql_writes.specs.Altering.{Alters, AltersWhere, Inserts, TakesRoom};
+ghost use Rattle.sql_writes.specs.Records.{AreApart, Begins, FreeIf, HasNoRest, IsApart, IsTogether, record_gone, record_rows, records_in, rest_count, rest_put, sups_of, values_of, with_members, with_sysmods};
 ghost use Rattle.sql_writes.specs.Room.{are_short, is_short_change, rows_of_change};
 
+use crate::free::are_free;
 use crate::records::{SupRow, SysmodRow, sup_rows, sysmod_rows};
 use crate::run::prepare;
 use crate::{delete, insert, load};
@@ -52,14 +53,27 @@ fn put_rest<S: Alter>(
     }
 }
 
+/// Whether nothing is left to put of a change beside the row of a record and those of what it supersedes, where `free`
+/// says that nothing stands of the record.
+fn is_put(change: &Change, free: bool) -> bool
+    ensures free { IsTrue result → IsTrue free }
+    ensures none { IsTrue result → HasNoRest change.now }
+{
+    match change {
+        Change::Whole(sysmod) => free && sysmod.conds.as_slice().is_empty(),
+        Change::OfHold(_) => false,
+    }
+}
+
 /// The rows of records, and those of what they supersede, come in place of what stands there. `first` is the first of
-/// the changes.
+/// the changes, and `free` says that nothing stands of them.
 fn put_rows<S: Alter>(
     tx: &mut Transaction<'_, S>,
     first: &Sysmod,
     changes: &[Change],
     rows: &[SysmodRow],
     sups: &[SupRow],
+    free: bool,
 ) -> Result<(), Error>
     requires first { Begins first.now changes.now }
     requires count { (records_in changes.now ≡ 1) ⊎ (records_in changes.now ≡ 8) }
@@ -67,64 +81,72 @@ fn put_rows<S: Alter>(
     requires rows { map values_of rows.now ≡ flat_map record_rows changes.now }
     requires sups { sups.now ≡ flat_map sups_of changes.now }
     ensures same { tx.new.conn.ghost_name ≡ tx.old.conn.ghost_name }
-    ensures changes { Alters S.Store tx.old.conn.now tx.new.conn.now result
+    ensures changes { AltersWhere S.Store tx.old.conn.now tx.new.conn.now result (FreeIf free changes.now)
         (λ stored. with_members sups.now (with_sysmods rows.now (fold record_gone stored changes.now))) }
     ensures takes { AllByRecursion IsFitChange changes.now → list_all is_short_change changes.now ≡ true
         → TakesRoom S.Store tx.old.conn.now tx.new.conn.now result
-        (length rows.now + length sups.now) (λ stored. Unit {0}) }
+        (length rows.now + length sups.now) (FreeIf free changes.now) }
 {
+    if free {
+        return load::records(tx, rows, sups);
+    }
     delete::records(tx, first, &changes[1..])?;
     load::records(tx, rows, sups)
 }
 
 /// A record comes in place of what stands there, or eight of them with the holds between them. `conds` inserts into
-/// `SysmodCond`.
+/// `SysmodCond`, and `free` says that nothing stands of them.
 fn put_records<S: Alter>(
     alloc: Global,
     tx: &mut Transaction<'_, S>,
     conds: &Statement,
     first: &Sysmod,
     changes: &[Change],
+    free: bool,
 ) -> Result<(), Error>
     requires conds { Inserts S.Store tx.old.conn.now conds.now.text 9 3 }
     requires first { Begins first.now changes.now }
     requires count { (records_in changes.now ≡ 1) ⊎ (records_in changes.now ≡ 8) }
     requires apart { AreApart changes.now }
     ensures same { tx.new.conn.ghost_name ≡ tx.old.conn.ghost_name }
-    ensures changes { Alters S.Store tx.old.conn.now tx.new.conn.now result
+    ensures changes { AltersWhere S.Store tx.old.conn.now tx.new.conn.now result (FreeIf free changes.now)
         (λ stored. fold published stored changes.now) }
     ensures takes { AllByRecursion IsFitChange changes.now → list_all is_short_change changes.now ≡ true
         → TakesRoom S.Store tx.old.conn.now tx.new.conn.now result
-        (sum_by rows_of_change changes.now) (λ stored. Unit {0}) }
+        (sum_by rows_of_change changes.now) (FreeIf free changes.now) }
 {
     let rows = sysmod_rows(alloc, changes)?;
     let sups = sup_rows(alloc, changes)?;
-    put_rows(tx, first, changes, rows.as_slice(), sups.as_slice())?;
+    put_rows(tx, first, changes, rows.as_slice(), sups.as_slice(), free)?;
     for change in changes {
+        if is_put(change, free) {
+            continue;
+        }
         put_rest(tx, conds, change)?;
     }
     Ok(())
 }
 
 /// One change, or eight records at once with the holds between them: what they publish comes in place of what stands
-/// there, or a hold goes. `conds` inserts into `SysmodCond`.
+/// there, or a hold goes. `conds` inserts into `SysmodCond`, and `free` says that nothing stands of the records.
 fn put_together<S: Alter>(
     alloc: Global,
     tx: &mut Transaction<'_, S>,
     conds: &Statement,
     changes: &[Change],
+    free: bool,
 ) -> Result<(), Error>
     requires conds { Inserts S.Store tx.old.conn.now conds.now.text 9 3 }
     requires together { IsTogether changes.now }
     ensures same { tx.new.conn.ghost_name ≡ tx.old.conn.ghost_name }
-    ensures changes { Alters S.Store tx.old.conn.now tx.new.conn.now result
+    ensures changes { AltersWhere S.Store tx.old.conn.now tx.new.conn.now result (FreeIf free changes.now)
         (λ stored. fold published stored changes.now) }
     ensures takes { AllByRecursion IsFitChange changes.now → list_all is_short_change changes.now ≡ true
         → TakesRoom S.Store tx.old.conn.now tx.new.conn.now result
-        (sum_by rows_of_change changes.now) (λ stored. Unit {0}) }
+        (sum_by rows_of_change changes.now) (FreeIf free changes.now) }
 {
     match &changes[0] {
-        Change::Whole(first) => put_records(alloc, tx, conds, first, changes),
+        Change::Whole(first) => put_records(alloc, tx, conds, first, changes, free),
         Change::OfHold(_) => put_rest(tx, conds, &changes[0]),
     }
 }
@@ -237,11 +259,12 @@ pub(crate) fn put_changes<S: Alter>(
         → TakesRoom S.Store tx.old.conn.now tx.new.conn.now result
         (sum_by rows_of_change changes.now) (λ stored. Unit {0}) }
 {
+    let free = are_free(alloc, tx, changes)?;
     let conds = prepare(tx, TableById::SysmodCond.insertion())?;
     let mut at = 0;
     while at < changes.len() {
         let count = together(&changes[at..]);
-        put_together(alloc, tx, &conds, &changes[at..at + count])?;
+        put_together(alloc, tx, &conds, &changes[at..at + count], free)?;
         at += count;
     }
     Ok(())

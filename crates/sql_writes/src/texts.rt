@@ -1,10 +1,10 @@
-//! The texts that insert several rows into one table at once, and those that ask whether an id has rows.
+//! The texts that insert several rows into one table at once, and those that ask whether an id or a table has rows.
 #![tactic(auto, unfolding(sqlite::specs::Listing::understood, sqlite_tied::specs::Compute::everything))]
 
 ghost use Rattle.std.specs.Prelude.{◌≡◌, ◌⊎◌, ◌<◌, ◌≤◌, ◌+◌, ◌*◌, ◌∷◌, []};
 ghost use Rattle.sql_texts.specs.Meaning.{Reads};
 ghost use Rattle.sql_texts.specs.Schema.{bureau};
-ghost use Rattle.sql_writes.specs.Asking.{id_name, ids_of};
+ghost use Rattle.sql_writes.specs.Asking.{first_of, id_name, ids_of};
 ghost use Rattle.sql_writes.specs.Many.{MeansBy, insert_alike, parameters_to};
 
 use sql_texts::write::TableById;
@@ -109,5 +109,18 @@ pub(crate) fn ids_of(table: TableById) -> &'static str
         TableById::SysmodSup => "SELECT id FROM sysmod_sup WHERE id = ?1",
         TableById::SysmodCond => "SELECT id FROM sysmod_cond WHERE id = ?1",
         TableById::ReceivedList => "SELECT client FROM received_list WHERE client = ?1",
+    }
+}
+
+/// The id of one row, if the table has any.
+pub(crate) fn first_of(table: TableById) -> &'static str
+    ensures { Reads bureau result.now (first_of table) (id_name table ∷ []) 0 }
+{
+    match table {
+        TableById::LastChange => "SELECT caller FROM last_change LIMIT 1",
+        TableById::Sysmod => "SELECT id FROM sysmod LIMIT 1",
+        TableById::SysmodSup => "SELECT id FROM sysmod_sup LIMIT 1",
+        TableById::SysmodCond => "SELECT id FROM sysmod_cond LIMIT 1",
+        TableById::ReceivedList => "SELECT client FROM received_list LIMIT 1",
     }
 }

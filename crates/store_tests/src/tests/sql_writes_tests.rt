@@ -316,6 +316,36 @@ fn a_publication_leaves_its_rows(rt: HostRuntime) -> Result<(), Fail> {
     assert_each(rt.alloc(), &OF_PUBLISHER)
 }
 
+static OF_RECORDS: [Row; 6] = [
+    (1, Put::Publication(RECORDS), "SELECT 1 FROM sysmod", 9),
+    (
+        2,
+        Put::Publication(b""),
+        "SELECT 1 FROM sysmod_sup WHERE id = 'UA10008'",
+        2,
+    ),
+    (3, Put::Publication(b""), "SELECT 1 FROM hold_row", 2),
+    (4, Put::Publication(b""), "SELECT 1 FROM sysmod_cond", 1),
+    (5, Put::Publication(RECORDS), "SELECT 1 FROM sysmod", 9),
+    (6, Put::Publication(b""), "SELECT 1 FROM sysmod_sup", 3),
+];
+
+// Eight PTFs, which come at once with the holds between them, and one more.
+const RECORDS: &[u8] = b"++PTF(UA10001).\n++VER(Z038) FMID(HBB7790) SUP(AA20001).\n\
+ ++HOLD(UA10001) ERROR FMID(HBB7790) REASON(AA30001) DATE(12045).\n\
+ ++PTF(UA10002).\n++VER(Z038) FMID(HBB7790).\n++PTF(UA10003).\n++VER(Z038) FMID(HBB7790).\n\
+ ++PTF(UA10004).\n++VER(Z038) FMID(HBB7790).\n++IF FMID(HXX0001) REQ(UA10003).\n\
+ ++HOLD(UA10002) ERROR FMID(HBB7790) REASON(AA30002) DATE(12045).\n\
+ ++PTF(UA10005).\n++VER(Z038) FMID(HBB7790).\n++PTF(UA10006).\n++VER(Z038) FMID(HBB7790).\n\
+ ++PTF(UA10007).\n++VER(Z038) FMID(HBB7790).\n\
+ ++PTF(UA10008).\n++VER(Z038) FMID(HBB7790) SUP(AA20002,AA20003).\n\
+ ++PTF(UA10009).\n++VER(Z038) FMID(HBB7790).\n";
+
+#[test]
+fn records_of_a_publication_come_together(rt: HostRuntime) -> Result<(), Fail> {
+    assert_each(rt.alloc(), &OF_RECORDS)
+}
+
 // Makes the tables those of version 2, in a transaction of its own.
 fn migrate_in(conn: &mut Connection<MemStore>) -> Result<(), Fail> {
     if !conn.is_autocommit() {
