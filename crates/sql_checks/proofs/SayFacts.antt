@@ -1,13 +1,13 @@
 -- What rows say of a store, and what they don't.
-use Rattle.std.proofs.Common.{◌≡◌, ◌<◌, ◌∙◌, ℕ, Bool, true, false, cond, List, [], ◌∷◌, Option, None, Some, ap, ap₂, length, refl, subst, sym}
+use Rattle.std.proofs.Common.{◌≡◌, ◌<◌, ◌+◌, ◌∙◌, ℕ, Bool, true, false, cond, List, [], ◌∷◌, Option, None, Some, ap, length, refl, subst, sym}
+use Rattle.std.proofs.lemmas.List.{length-map}
+use Rattle.std.proofs.lemmas.List.Sums.{sum_by-cons}
 use Rattle.std.proofs.lemmas.Slice.Eq.{bytes_eq-Decides}
 use Rattle.std.specs.Prelude.{map, nat_lt, option_and_then, option_map, sum_by, unwrap_or}
-use Rattle.std.specs.List.{Contains}
 use Rattle.bureau_store.specs.Caller.{caller_named, is_publisher, publisher_name}
-use Rattle.bureau_store.specs.Tables.{LastChange, NamesAscend, no_change}
+use Rattle.bureau_store.specs.Tables.{LastChange, NamesAscend, ZoneTable, Zones, no_change}
 use Rattle.bureau_store.specs.declared.caller.Caller.TheVariants.{Client, Publisher}
 use Rattle.bureau_store.specs.declared.caller.CallerRow.{CallerRow}
-use Rattle.lemmas.proofs.ListFacts.{map_from, map_inside}
 use Rattle.lemmas.proofs.TestFacts.{less_number}
 use Rattle.mcs_reader.specs.Id.{IsId, text_of}
 use Rattle.sqlite.specs.Query.{IsAnswer}
@@ -16,9 +16,7 @@ use Rattle.sqlite_value.specs.Order.{Row, column}
 use Rattle.sqlite_value.specs.declared.value.Value.TheVariants.{Text}
 use Rattle.sql_reads.specs.Answering.{one_of}
 use Rattle.sql_reads.specs.ZoneCounts.{zone_counted}
-use Rattle.sql_reads.specs.declared.tally.CallerTally.{CallerTally}
 use Rattle.sql_reads.proofs.ClientFacts.{last_told}
-use Rattle.sql_reads.proofs.TallyFacts.{tallied}
 use Rattle.sql_reads.proofs.ZoneFacts.{zones_told}
 use Rattle.sql_tables.specs.InTrees.{stored_in}
 use Rattle.sql_tables.specs.Rows.{caller_found, change_found}
@@ -29,12 +27,6 @@ use Rattle.sql_texts.specs.Reads as read
 use Rattle.sql_checks.specs.Refused.{IsCountOf, SaysCallers, SaysCount, SaysLast, SaysZones, counted}
 
 -- ---- rows that say nothing
-
--- where one says nothing, not all say something
-pub one_unsaid : {A B : Type 0} (f : A → Option B) (xs : List A) (x : A) → Contains xs x → f x ≡ None → (said : List B) → map Some said ≡ map f xs → ⊥
-one_unsaid f xs x inside none said all =
-    let it = map_from Some said None (subst (λ made. Contains made None) (sym all) (subst (Contains (map f xs)) none (map_inside f xs x inside))) in
-    let is : Some it.from ≡ None = it.is in cc
 
 -- what all say is one list
 one_list : {A : Type 0} (xs ys : List A) → map Some xs ≡ map Some ys → xs ≡ ys
@@ -99,13 +91,24 @@ last_number trees name rows number is answer said =
     parts (row ∷ other ∷ rows) said = cc
 
 -- zones
+-- a zone with how many rows it has
+abbrev sized : List ℕ × ZoneTable → List ℕ × ℕ
+sized zone = (zone.0, length zone.1.rows)
+
+abbrev many : List ℕ × ℕ → ℕ
+many zone = zone.1
+
+abbrev rows_in : List ℕ × ZoneTable → ℕ
+rows_in zone = length zone.1.rows
+
+all_rows : (zones : Zones) → sum_by many (map sized zones) ≡ sum_by rows_in zones
+all_rows [] = refl
+all_rows (zone ∷ zones) =
+    sum_by-cons many (sized zone) (map sized zones) ∙ ap (λ n. length zone.1.rows + n) (all_rows zones) ∙ sym (sum_by-cons rows_in zone zones)
+
 pub zones_counted : (trees : Trees) (name : List ℕ) → IsId name → IsWhole (stored_in trees) → (rows : List Row) (counts : ℕ × ℕ) → IsAnswer read.zones trees (Text (text_of name) ∷ []) rows → SaysZones rows counts
     → (counts.0 ≡ length ((tables_of (stored_in trees)).zones name)) × (counts.1 ≡ sum_by (λ zone. length zone.1.rows) ((tables_of (stored_in trees)).zones name))
 zones_counted trees name is whole rows counts answer said =
-    let tables = tables_of (stored_in trees) in
-    let last = tables.last (caller_named name) in
-    let tally : CallerTally = record { zones = counts.0; rows = counts.1; last = last.number } in
-    let same : tally ≡ record { zones = length said.0; rows = sum_by (λ zone. zone.1) said.0; last = last.number } =
-    ap₂ (λ (zones rows : ℕ). record { zones = zones; rows = rows; last = last.number }) said.2.many said.2.total in
-    let told = tallied tables name last.number last.reply said.0 tally refl (zones_told trees name is whole rows said.0 said.2.ascend answer said.1) same in
-    (ap (λ (tally : CallerTally). tally.zones) told, ap (λ (tally : CallerTally). tally.rows) told)
+    let zones = (tables_of (stored_in trees)).zones name in
+    let are : said.0 ≡ map sized zones = zones_told trees name is whole rows said.0 said.2.ascend answer said.1 in
+    (said.2.many ∙ ap length are ∙ length-map zones sized, said.2.total ∙ ap (sum_by many) are ∙ all_rows zones)

@@ -10,16 +10,15 @@ use Rattle.sqlite.specs.Effect.{Database}
 use Rattle.sqlite.specs.State.{HasCleanDisk, State}
 use Rattle.sql_reads.specs.declared.fault.ReadFault.{ReadFault}
 use Rattle.sql_reads.specs.declared.fault.ReadFault.TheVariants.{Device}
-use Rattle.sql_reads.specs.Tally.{tally_of}
-use Rattle.sql_reads.specs.declared.tally.CallerTally.{CallerTally}
 use Rattle.sql_state.proofs.StopFacts.{no_read, read_on}
 use Rattle.sql_state.specs.Ours.{IsOurs, held_by}
 use Rattle.sql_state.specs.Reading.{Finds, OnlyReads}
 use Rattle.sql_tables.specs.Stored.{Stored, tables_of}
 use Rattle.sql_checks.specs.Checked.{Looks}
 use Rattle.sql_checks.specs.Refused.{AreUntallied, IsCausedBy, IsUncounted}
-use Rattle.sql_checks.specs.Tally.{HasTallied, IsTallyOf, line_of}
+use Rattle.sql_checks.specs.Tally.{HasTallied, IsTallyOf, line_of, tally_of}
 use Rattle.sql_checks.specs.declared.tallies.CallerLine.{CallerLine}
+use Rattle.sql_checks.specs.declared.tallies.CallerTally.{CallerTally}
 use Rattle.sql_checks.specs.declared.tallies.StoreTally.{StoreTally}
 use Rattle.sql_checks.proofs.CauseFacts.{later_caused}
 use Rattle.sql_checks.proofs.ScanFacts.{look_on, look_so}

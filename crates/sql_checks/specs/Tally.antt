@@ -1,17 +1,26 @@
 -- How much a store has, and the text that tells it.
-use Rattle.std.specs.Prelude.{◌≡◌, ◌++◌, ℕ, List, [], ◌∷◌, Some, codes, decimal, length, map}
+use Rattle.std.specs.Prelude.{◌≡◌, ◌++◌, ℕ, List, [], ◌∷◌, Some, codes, decimal, length, map, sum_by}
 use Rattle.columns.specs.Columns.{text_of as text_in}
 use Rattle.mcs_reader.specs.Id.{text_of}
+use Rattle.bureau_store.specs.Caller.{caller_named}
 use Rattle.bureau_store.specs.Tables.{Tables}
 use Rattle.bureau_store.specs.declared.caller.CallerRow.{CallerRow}
 use Rattle.sqlite.specs.Effect.{Database}
-use Rattle.sql_reads.specs.Tally.{tally_of}
 use Rattle.sql_state.specs.Ours.{IsOurs, held_by}
 use Rattle.sql_tables.specs.Stored.{tables_of}
 use Rattle.sql_checks.specs.declared.tallies.CallerLine.{CallerLine}
+use Rattle.sql_checks.specs.declared.tallies.CallerTally.{CallerTally}
 use Rattle.sql_checks.specs.declared.tallies.StoreTally.{StoreTally}
 
--- how much a caller has
+-- the zones under a name, all their rows, and the number of the last change
+abbrev pub tally_of : Tables → List ℕ → CallerTally
+tally_of tables name = record {
+  zones = length (tables.zones name);
+  rows = sum_by (λ zone. length zone.1.rows) (tables.zones name);
+  last = (tables.last (caller_named name)).number;
+}
+
+-- a caller, and how much it has
 abbrev pub line_of : Tables → CallerRow → CallerLine
 line_of tables caller = record { name = caller.name; has = tally_of tables caller.name }
 

@@ -8,15 +8,15 @@ ghost use Rattle.sqlite.specs.Held.{state};
 ghost use Rattle.sqlite.specs.State.{HasCleanDisk};
 ghost use Rattle.sqlite_value.specs.Value.{owned};
 ghost use Rattle.sqlite_value.specs.declared.value.Value.TheVariants.{Text};
-ghost use Rattle.sql_reads.specs.Tally.{tally_of};
+ghost use Rattle.sql_checks.specs.Tally.{tally_of};
 ghost use Rattle.sql_state.specs.Reading.{Finds};
 ghost use Rattle.sql_tables.specs.Stored.{tables_of};
 ghost use Rattle.sql_checks.specs.Refused.{AreUncounted, IsCausedBy, IsUncounted, IsUnsaid, SaysCallers, SaysCount, SaysLast, SaysZones, of_callers, of_holds, of_last, of_sysmods, of_zones};
 
-use crate::said;
+use crate::{CallerTally, said};
 use bureau_store::CallerRow;
 use mcs_reader::Id;
-use sql_reads::{CallerTally, ReadFault, rows_of};
+use sql_reads::{ReadFault, rows_of};
 use sql_texts::read;
 use sqlite::types::ValueRef;
 use sqlite::{Alter, Connection};

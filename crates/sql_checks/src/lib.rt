@@ -2,8 +2,8 @@
 //!
 //! - [`check`]: looks a connection's database through; [`Finding`]: what is found
 //! - [`every_caller`]: the callers of a store
-//! - [`store_tally`]: how much a store and some callers have; [`StoreTally`], [`CallerLine`]; [`tally_text`]: the
-//!   text that tells it
+//! - [`store_tally`]: how much a store and some callers have; [`StoreTally`], [`CallerLine`], [`CallerTally`];
+//!   [`tally_text`]: the text that tells it
 //! - [`StoreTable`]: a table whose rows are looked through
 //! - [`is_store_schema`]: whether tables and indexes are those of version 2, made as the bureau makes them
 //! - [`law`]: what a connection keeps to by itself
@@ -31,5 +31,5 @@ pub use asked::every_caller;
 pub use checking::{Finding, check};
 pub use schema::is_store_schema;
 pub use table::StoreTable;
-pub use tallies::{CallerLine, StoreTally, store_tally};
+pub use tallies::{CallerLine, CallerTally, StoreTally, store_tally};
 pub use text::tally_text;

@@ -2,19 +2,15 @@
 ghost use Rattle.std.specs.Prelude.{◌≡◌, ◌<◌, ◌↔◌, ℕ, List, None, Some, map, sum_by, IfOk, IfSome, IsErrOf, IsTrue};
 ghost use Rattle.bureau_store.specs.Tables.{NamesAscend};
 ghost use Rattle.bureau_store.specs.declared.caller.CallerRow.{CallerRow as SomeCallerRow};
-ghost use Rattle.sqlite_value.specs.Order as order;
-ghost use Rattle.sql_reads.specs.ZoneCounts.{zone_counted};
 ghost use Rattle.sql_tables.specs.Rows.{caller_found};
-ghost use Rattle.sql_tables.specs.Values as value;
 ghost use Rattle.sql_checks.specs.Refused as refused;
 ghost use Rattle.sql_checks.specs.Refused.{IsCountOf, SaysCallers, SaysCount, SaysLast, SaysZones};
 
 use bureau_store::CallerRow;
 use mcs_reader::Id;
-use sql_reads::ReadFault;
-use sql_tables::{NoMemory, caller_in, change_in, count_in, id_row_in};
+use sql_reads::{ReadFault, each_zone, names_ascend};
+use sql_tables::{NoMemory, caller_in, change_in, count_in};
 use sqlite::Row;
-use sqlite::types::ValueRef;
 use std::alloc::Global;
 
 // As much as the database can count.
@@ -95,48 +91,6 @@ fn both_counts(zones: &[(Id, u64)]) -> Option<(u64, u64)>
         Some(rows) => Some((zones.len() as u64, rows)),
         None => None,
     }
-}
-
-// The zone of each row, with how many rows it has.
-fn each_zone(alloc: Global, rows: &[Row]) -> Result<Vec<(Id, u64)>, ReadFault>
-    ensures said { IfOk result (λ zones. map Some zones.items ≡ map zone_counted rows.now) }
-    ensures unsaid { IsErrOf result ReadFault.Device → (zones : List (List ℕ × ℕ))
-        → map Some zones ≡ map zone_counted rows.now → ⊥ }
-{
-    let mut zones = Vec::with_capacity(alloc, rows.len())?;
-    for row in rows {
-        let Some(zone) = zone_in(row) else {
-            return Err(ReadFault::Device);
-        };
-        zones.push(zone)?;
-    }
-    Ok(zones)
-}
-
-// The zone of a row, with how many rows it has.
-fn zone_in(row: &Row) -> Option<(Id, u64)>
-    ensures { result ≡ zone_counted row.now }
-{
-    let name = id_row_in(row)?;
-    let count = counted(second_number(row)?)?;
-    Some((name, count))
-}
-
-// The number in the second column.
-fn second_number(row: &Row) -> Option<u64>
-    ensures { result ≡ value.number_in (order.column row.now 1) }
-{
-    match row.get_ref(1).unwrap_or(ValueRef::Null) {
-        ValueRef::Int(number) => u64::try_from(number).ok(),
-        _ => None,
-    }
-}
-
-// Whether the names of zones ascend, each once.
-fn names_ascend(zones: &[(Id, u64)]) -> bool
-    ensures { IsTrue result ↔ NamesAscend (map (λ zone. zone.0) zones.now) }
-{
-    zones.is_sorted_by(|zone, next| zone.0.cmp(&next.0).is_lt())
 }
 
 // How many rows all zones have, unless that is beyond the greatest number.

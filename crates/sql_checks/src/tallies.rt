@@ -11,11 +11,22 @@ ghost use Rattle.sql_tables.specs.Stored.{tables_of};
 use crate::asked::{caller_tally, counts};
 use bureau_store::CallerRow;
 use mcs_reader::Id;
-use sql_reads::{CallerTally, ReadFault};
+use sql_reads::ReadFault;
 use sqlite::{Alter, Connection};
 use std::alloc::Global;
 
 /// How much a caller has.
+#[derive(Clone, Copy, Debug, PartialEq, Eq)]
+pub struct CallerTally {
+    /// How many zones.
+    pub zones: u64,
+    /// How many rows all of them have.
+    pub rows: u64,
+    /// The number of the last change, 0 before the first.
+    pub last: u64,
+}
+
+/// A caller, and how much it has.
 #[derive(Clone, Copy, Debug, PartialEq, Eq)]
 pub struct CallerLine {
     pub name: Id,

@@ -14,6 +14,6 @@ mod QuietFacts
 mod ScanFacts
 mod SeenFacts
 pub mod TableFacts
-pub mod TallyFacts
+pub mod UnsaidFacts
 pub mod VersionFacts
 pub mod ZoneFacts

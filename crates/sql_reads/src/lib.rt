@@ -8,7 +8,7 @@
 //!   client has; [`held_in`]: the holds on it
 //! - [`ids`], [`sysmod`], [`superseders`], [`holds_on`], [`counts`]: what is published
 //! - [`seen`], [`is_run`]: the records and holds of many SYSMODs at once
-//! - [`caller_tally`]: how much a caller has
+//! - [`each_zone`], [`names_ascend`]: what the rows of a client's zones say
 //! - [`rows_of`]: what any text that reads the tables finds
 //! - [`ReadFault`]: why a read is refused
 //!
@@ -25,7 +25,6 @@ mod published;
 mod rows;
 mod scan;
 mod tables_version;
-mod tally;
 mod texts;
 mod values;
 mod zone_counts;
@@ -37,5 +36,4 @@ pub use many::{is_run, seen};
 pub use published::{counts, holds_on, ids, superseders, sysmod};
 pub use rows::rows_of;
 pub use tables_version::version;
-pub use tally::{CallerTally, caller_tally};
-pub use zone_counts::zones;
+pub use zone_counts::{each_zone, names_ascend, zones};

@@ -1,5 +1,5 @@
 //! The read of a client's zones, each with how many rows it has.
-ghost use Rattle.std.specs.Prelude.{◌≡◌, ◌↔◌, false, length, map, Some, IfOk, IsTrue};
+ghost use Rattle.std.specs.Prelude.{◌≡◌, ◌↔◌, ℕ, List, false, length, map, Some, IfOk, IsErrOf, IsTrue};
 ghost use Rattle.bureau_store.specs.Tables.{NamesAscend};
 ghost use Rattle.sqlite.specs.Held.{state};
 ghost use Rattle.sqlite_value.specs.Order as order;
@@ -53,12 +53,22 @@ fn ascending_zones(alloc: Global, rows: &[Row]) -> Result<Vec<(Id, u64)>, ReadFa
     Ok(zones)
 }
 
-fn each_zone(alloc: Global, rows: &[Row]) -> Result<Vec<(Id, u64)>, ReadFault>
-    ensures { IfOk result (λ zones. map Some zones.items ≡ map zone_counted rows.now) }
+/// The zone of each row, with how many rows it has.
+///
+/// # Errors
+///
+/// `Device` where a row says no zone; `Memory` where memory ran out.
+pub fn each_zone(alloc: Global, rows: &[Row]) -> Result<Vec<(Id, u64)>, ReadFault>
+    ensures said { IfOk result (λ zones. map Some zones.items ≡ map zone_counted rows.now) }
+    ensures unsaid { IsErrOf result ReadFault.Device → (zones : List (List ℕ × ℕ))
+        → map Some zones ≡ map zone_counted rows.now → ⊥ }
 {
     let mut zones = Vec::with_capacity(alloc, rows.len())?;
     for row in rows {
-        zones.push(zone_in(row).ok_or(ReadFault::Device)?)?;
+        let Some(zone) = zone_in(row) else {
+            return Err(ReadFault::Device);
+        };
+        zones.push(zone)?;
     }
     Ok(zones)
 }
@@ -85,8 +95,8 @@ fn second_number(row: &Row) -> Option<u64>
     }
 }
 
-// Whether the names of zones ascend, each once.
-fn names_ascend(zones: &[(Id, u64)]) -> bool
+/// Whether the names of zones ascend, each once.
+pub fn names_ascend(zones: &[(Id, u64)]) -> bool
     ensures { IsTrue result ↔ NamesAscend (map (λ zone. zone.0) zones.now) }
 {
     zones.is_sorted_by(|zone, next| zone.0.cmp(&next.0).is_lt())

@@ -2,8 +2,8 @@ use Rattle.std.proofs.Common.{◌≡◌, None, rules, subst, sym}
 use Rattle.std.proofs.lemmas.List.Elements.{Contains-get_or}
 use Rattle.std.specs.List.{Contains}
 use Rattle.sql_reads.specs.ZoneCounts.{zone_counted}
-use Rattle.sql_checks.proofs.SayFacts.{one_unsaid}
-use Rattle.sql_checks.proofs.said.each_zone.Goals as goal
+use Rattle.sql_reads.proofs.UnsaidFacts.{one_unsaid}
+use Rattle.sql_reads.proofs.zone_counts.each_zone.Goals as goal
 
 pub returns-in_default-clause-unsaid : goal.returns-in_default-clause-unsaid
 returns-in_default-clause-unsaid c device zones all =
