@@ -321,7 +321,7 @@ impl<P: Published> Judge<P> for ChainCache {
             Some(statuses) => Ok(statuses),
             None => {
                 let statuses = self.statuses_by_survey(alloc, source, zone, ids)?;
-                self.put_wide();
+                self.put_wide(ids.len());
                 Ok(statuses)
             }
         }
@@ -367,14 +367,14 @@ impl<P: Published> Judge<P> for ChainCache {
             Some(found) => Ok(found),
             None => {
                 let found = self.united_by_survey(alloc, source, zone, ids)?;
-                self.put_wide();
+                self.put_wide(ids.len());
                 Ok(found)
             }
         }
     }
 
-    // From what is kept of the catalogue. Where many are asked for, it is read first: the statuses that follow need it
-    // anyway.
+    // From what is kept of the catalogue. Where many are asked for, it is read first: the statuses that follow mostly
+    // need it.
     fn candidates(
         &mut self,
         alloc: Global,

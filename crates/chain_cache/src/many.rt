@@ -24,16 +24,16 @@ const NODES_EACH: usize = 8;
 const FEW: usize = 256;
 
 impl ChainCache {
-    /// Whether SYSMODs are judged by a survey at once: there are many of them, or frames were too large before.
+    /// Whether SYSMODs are judged by a survey at once: there are many of them, or frames were too large for no more.
     pub(crate) fn is_for_survey(&self, ids: &[Id]) -> bool {
-        ids.len() > FEW || self.surveys.is_wide()
+        ids.len() > FEW || self.surveys.is_wide(ids.len())
     }
 
-    /// Remembers that frames were too large.
-    pub(crate) fn put_wide(&mut self)
+    /// Remembers that frames were too large for so many SYSMODs.
+    pub(crate) fn put_wide(&mut self, count: usize)
         ensures { self.new ≡ self.old }
     {
-        self.surveys.put_wide();
+        self.surveys.put_wide(count);
     }
 
     /// Reads what is catalogued, where it isn't kept as it is, if many SYSMODs are asked for.

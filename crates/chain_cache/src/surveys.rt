@@ -59,8 +59,9 @@ pub(crate) struct Surveys {
     // What was touched since it was read. Room for it is taken with the listing.
     marks: Vec<Id>,
     kept: Vec<Surveyed>,
-    // Whether frames were too large since it was read. It says only what is tried first.
-    wide: bool,
+    // For how many SYSMODs frames were too large since the last publication, at least; if they were. It says only what
+    // is tried first.
+    wide_from: Option<usize>,
 }
 
 impl Model for Surveys {
@@ -84,7 +85,7 @@ impl Surveys {
             listing: None,
             marks: Vec::new(alloc),
             kept: Vec::new(alloc),
-            wide: false,
+            wide_from: None,
         }
     }
 
@@ -101,16 +102,22 @@ impl Surveys {
         None
     }
 
-    /// Whether what is catalogued is kept, and frames were too large since it was read.
-    pub(crate) fn is_wide(&self) -> bool {
-        self.wide && self.listing.is_some()
+    /// Whether what is catalogued is kept, and frames were too large for no more SYSMODs than these.
+    pub(crate) fn is_wide(&self, count: usize) -> bool {
+        match self.wide_from {
+            Some(least) => least <= count && self.listing.is_some(),
+            None => false,
+        }
     }
 
-    /// Remembers that frames were too large.
-    pub(crate) fn put_wide(&mut self)
+    /// Remembers that frames were too large for so many SYSMODs.
+    pub(crate) fn put_wide(&mut self, count: usize)
         ensures { self.new ≡ self.old }
     {
-        self.wide = true;
+        self.wide_from = match self.wide_from {
+            Some(least) => Some(least.min(count)),
+            None => Some(count),
+        };
     }
 
     /// For each of some SYSMODs the candidates that give it, as [`candidates_for`] finds them: in what is kept of the
@@ -187,7 +194,6 @@ impl Surveys {
     {
         self.listing = Some(listing);
         self.marks = marks;
-        self.wide = false;
     }
 
     // Reads what is marked, and puts it in.
@@ -281,6 +287,7 @@ impl Surveys {
             self.marks.clear();
         }
         self.kept.clear();
+        self.wide_from = None;
     }
 
     // Adds marks, where there is room. Whether it did.
