@@ -131,11 +131,11 @@ fn reads_of(alloc: Global, asked: &Asked, which: Call) -> Result<u64, Fail> {
 static READS: [(Call, u64); 7] = [
     (Call::Touched, 3),
     (Call::Givers, 3),
-    (Call::Verdict, 7),
-    (Call::Statuses, 7),
-    (Call::ErrRows, 11),
-    (Call::MissingRows, 11),
-    (Call::PlanJson, 8),
+    (Call::Verdict, 15),
+    (Call::Statuses, 15),
+    (Call::ErrRows, 19),
+    (Call::MissingRows, 19),
+    (Call::PlanJson, 16),
 ];
 
 #[test]
