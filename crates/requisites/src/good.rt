@@ -51,16 +51,22 @@ pub fn resolve(alloc: Global, nodes: &Nodes) -> Result<Resolution, NoMemory>
     Ok(Resolution { good, givers })
 }
 
-// Takes the marks from what isn't good, and finds what gives what among the rest. Where nothing falls,
-// what leads to each node isn't asked for.
+// How often all nodes are looked at before what leads to each is asked for. Most needs that nothing gives are a few
+// steps away from what falls with them, so that mostly nothing falls any more after two or three rounds.
+const ROUNDS: usize = 8;
+
+// Takes the marks from what isn't good, and finds what gives what among the rest. Where nothing falls after a few
+// rounds, what leads to each node isn't asked for, and takes no room.
 fn fall(alloc: Global, nodes: &Nodes, marks: &mut [bool]) -> Result<Vec<Option<usize>>, NoMemory>
     requires { marks.old ≡ nodes.now.candidates.items }
     ensures good { IfOk result (λ givers. AreGood nodes.now marks.new givers.items) }
     ensures len { IfOk result (λ givers. length givers.items ≡ length marks.old) }
 {
-    let givers = least_sources(alloc, &nodes.supersedes, marks)?;
-    if !sweep(nodes, &givers, marks) {
-        return Ok(givers);
+    'rounds: for _ in 0..ROUNDS {
+        let givers = least_sources(alloc, &nodes.supersedes, marks)?;
+        if !sweep(nodes, &givers, marks) {
+            return Ok(givers);
+        }
     }
     fall_on(alloc, nodes, marks)
 }
