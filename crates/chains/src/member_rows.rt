@@ -58,6 +58,14 @@ impl MemberRows {
         Ok(())
     }
 
+    /// Gives back the room that they don't need.
+    pub(crate) fn shrink_to_fit(&mut self)
+        ensures { self.new ≡ self.old }
+    {
+        self.needs.shrink_to_fit();
+        self.supersedes.shrink_to_fit();
+    }
+
     fn push(&mut self, zone: &Zone, members: &[Id], entry: &Entry) -> Result<(), NoMemory>
         requires { Ascend members.now }
         ensures { OnOk result ((before : List Sight)

@@ -85,5 +85,6 @@ fn read_rows<P: Published>(
         let entries = entries_of(alloc, source, run)?;
         rows.push_all(zone, members, &entries)?;
     }
+    rows.shrink_to_fit();
     Ok(rows)
 }

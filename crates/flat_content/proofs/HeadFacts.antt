@@ -15,13 +15,23 @@ use Rattle.catalogue.specs.Publication.{catalogue_of}
 use Rattle.catalogue.proofs.RecordFacts.{catalogue_only}
 use Rattle.flat_content.specs.declared.records.Head.{Head}
 use Rattle.flat_content.specs.declared.spans.Span.{Span}
-use Rattle.flat_content.specs.Records.{AreHeads, HeadsAscend, IsHead, is_head_of, record_at, records_of}
-use Rattle.flat_content.specs.Spans.{AreConds, IsIds, Keeps}
+use Rattle.flat_content.specs.Records.{AreHeads, HeadsAscend, IsHead, fmids_of, is_head_of, pre_of, record_at, records_of, req_of, sup_of}
+use Rattle.flat_content.specs.Spans.{AreConds, IsIds, Keeps, part_at}
 
 -- ---- what is put after all others leaves them
 
 keeps_ids : (old new : List (List ℕ)) (span : Span) → Keeps old new → IsIds old span → IsIds new span
 keeps_ids old new span keeps is = let now = keeps span is.0 in (now.0, subst Ascend (sym now.1) is.1)
+
+-- a list stands where the one before it ends
+pub moved : (old new : List (List ℕ)) (span : Span) (start : ℕ) → Keeps old new → start ≡ span.start → IsIds old span
+    → IsIds new (record { start = start; end = span.end }) × (part_at new (record { start = start; end = span.end }) ≡ part_at old span)
+moved old new span start keeps at is =
+    subst (λ (s : ℕ). IsIds new (record { start = s; end = span.end }) × (part_at new (record { start = s; end = span.end }) ≡ part_at old span)) (sym at)
+    (keeps_ids old new span keeps is, (keeps span is.0).1)
+
+pub keeps_on : (first second third : List (List ℕ)) → Keeps first second → Keeps second third → Keeps first third
+keeps_on first second third one two = λ span within. let was = one span within in let now = two span was.0 in (now.0, now.1 ∙ was.1)
 
 keeps_conds : (old new : List CondNeed) (span : Span) → Keeps old new → AreConds old span → AreConds new span
 keeps_conds old new span keeps is = let now = keeps span is.0 in (now.0, subst CondsAscend (sym now.1) is.1)
@@ -29,20 +39,20 @@ keeps_conds old new span keeps is = let now = keeps span is.0 in (now.0, subst C
 module _ (old new : List (List ℕ)) (was now : List CondNeed) (keeps : Keeps old new) (kept : Keeps was now) where
   keeps_head : (head : Head) → IsHead old was head → IsHead new now head
   keeps_head head is = record {
-    fmids = keeps_ids old new head.fmids keeps is.fmids;
-    pre = keeps_ids old new head.pre keeps is.pre;
-    req = keeps_ids old new head.req keeps is.req;
+    fmids = keeps_ids old new (fmids_of head) keeps is.fmids;
+    pre = keeps_ids old new (pre_of head) keeps is.pre;
+    req = keeps_ids old new (req_of head) keeps is.req;
     conds = keeps_conds was now head.conds kept is.conds;
-    sup = keeps_ids old new head.sup keeps is.sup;
+    sup = keeps_ids old new (sup_of head) keeps is.sup;
   }
 
   keeps_record : (head : Head) → IsHead old was head → record_at new now head ≡ record_at old was head
   keeps_record head is =
-      let fmids = (keeps head.fmids is.fmids.0).1 in
-      let pre = (keeps head.pre is.pre.0).1 in
-      let req = (keeps head.req is.req.0).1 in
+      let fmids = (keeps (fmids_of head) is.fmids.0).1 in
+      let pre = (keeps (pre_of head) is.pre.0).1 in
+      let req = (keeps (req_of head) is.req.0).1 in
       let conds = (kept head.conds is.conds.0).1 in
-      let sup = (keeps head.sup is.sup.0).1 in
+      let sup = (keeps (sup_of head) is.sup.0).1 in
       cc
 
   pub keeps_records : (heads : List Head) → AreHeads old was heads → records_of new now heads ≡ records_of old was heads

@@ -19,7 +19,7 @@ use Rattle.catalogue.proofs.IdFacts.{apart_back, ids_total, one_id, same_back, s
 use Rattle.flat_content.specs.declared.links.Link.{Link}
 use Rattle.flat_content.specs.declared.records.Head.{Head}
 use Rattle.flat_content.specs.Links.{IsSortedList, is_to, linked, links_to}
-use Rattle.flat_content.specs.Records.{AreHeads, IsHead, record_at, records_of}
+use Rattle.flat_content.specs.Records.{AreHeads, IsHead, record_at, records_of, sup_of}
 use Rattle.flat_content.specs.Spans.{part_at}
 
 pub linked-append : (id : List ℕ) (xs ys : List Link) → linked id (xs ++ ys) ≡ linked id xs ++ linked id ys
@@ -80,7 +80,7 @@ module _ (names : List (List ℕ)) (conds : List CondNeed) (heads : List Head) (
   pub none_left : (i : ℕ) → length heads ≤ i → drop i records ≡ []
   none_left i le = drop_all i records (omega (arith, le, as_many))
 
-  pub sup_ascends : (i : ℕ) (head : Head) → AreHeads names conds heads → i < length heads → head ≡ get_or heads i head → Ascend (part_at names head.sup)
+  pub sup_ascends : (i : ℕ) (head : Head) → AreHeads names conds heads → i < length heads → head ≡ get_or heads i head → Ascend (part_at names (sup_of head))
   sup_ascends i head are lt at =
       (subst (IsHead names conds) (sym at) (All-from_recursion (IsHead names conds) heads are i head lt)).sup.1
 

@@ -36,7 +36,7 @@ find_first test (h ∷ hs) = by (find_first test hs) (test h)
 pub sorted_first : (old new : List Head) → IsStableByKey (λ head. head.id) id_cmp old new → (id : List ℕ) → find (is_head_of id) new ≡ find (is_head_of id) old
 sorted_first old new stable id =
     let none : Span = record { start = 0; end = 0 } in
-    let one : Head = record { id = id; kind = Func; fmids = none; pre = none; req = none; conds = none; sup = none } in
+    let one : Head = record { id = id; kind = Func; start = 0; fmids = 0; pre = 0; req = 0; sup = 0; conds = none } in
     let tie : (h : Head) → ties (λ (x y : Head). is_lt (id_cmp x.id y.id)) one h ≡ is_head_of id h = λ h. neither id h.id ∙ same_back id h.id in
     find_first (is_head_of id) new
     ∙ ap first

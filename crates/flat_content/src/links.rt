@@ -6,7 +6,7 @@ ghost use Rattle.std.specs.List.Sorted.{IsPartitionPoint};
 ghost use Rattle.catalogue.specs.Ids.{id_cmp};
 ghost use Rattle.flat_content.specs.Links.{AreOf, IsSortedList, linked, links_to};
 
-use crate::records::Records;
+use crate::records::{Head, Records};
 use crate::spans::ids_in;
 use catalogue::NoMemory;
 use mcs_reader::Id;
@@ -26,7 +26,6 @@ pub(crate) fn links_of(records: &Records) -> Result<Vec<Link>, NoMemory>
 {
     let mut links = links_in_turn(records)?;
     sort(&mut links)?;
-    links.shrink_to_fit();
     Ok(links)
 }
 
@@ -46,11 +45,20 @@ pub(crate) fn superseders(alloc: Global, links: &[Link], id: &Id) -> Result<Vec<
 fn links_in_turn(records: &Records) -> Result<Vec<Link>, NoMemory>
     ensures { IfOk result (λ links. AreOf records.now links.items) }
 {
-    let mut links = Vec::new(records.alloc);
+    let mut links = Vec::with_capacity(records.alloc, count(&records.heads))?;
     for head in &records.heads {
-        push_links(&mut links, ids_in(&records.names, head.sup), head.id)?;
+        push_links(&mut links, ids_in(&records.names, head.sup()), head.id)?;
     }
     Ok(links)
+}
+
+// How many links records have. It decides only how much room is taken at once.
+fn count(heads: &[Head]) -> usize {
+    let mut count = 0usize;
+    for head in heads {
+        count = count.saturating_add(head.sup().len());
+    }
+    count
 }
 
 // Adds the links of one record.

@@ -3,7 +3,7 @@ ghost use Rattle.std.specs.Prelude.{◌≡◌, ◌++◌, ◌∷◌, List, [], If
 ghost use Rattle.catalogue.specs.Content.{ids_in, is_of};
 ghost use Rattle.catalogue.specs.Ids.{Ascend};
 ghost use Rattle.catalogue.specs.Publication.{catalogue_of};
-ghost use Rattle.flat_content.specs.Records.{IsHead, record_at};
+ghost use Rattle.flat_content.specs.Records.{IsHead, fmids_of, pre_of, record_at, req_of, sup_of};
 ghost use Rattle.flat_content.specs.Spans.{Keeps};
 
 use crate::heads::{head_for, put_in_order};
@@ -13,16 +13,57 @@ use mcs_reader::Id;
 use std::alloc::Global;
 use std::marker::Model;
 
-/// What is kept of a record: its id, and where its lists stand among those of all records.
+/// What is kept of a record: its id, and where its lists stand among those of all records. Its lists of ids follow one
+/// another, so where they start and where each ends is enough.
 #[derive(Clone, Copy, Debug)]
 pub(crate) struct Head {
     pub(crate) id: Id,
     pub(crate) kind: SysmodKind,
-    pub(crate) fmids: Span,
-    pub(crate) pre: Span,
-    pub(crate) req: Span,
-    pub(crate) conds: Span,
-    pub(crate) sup: Span,
+    start: u32,
+    fmids: u32,
+    pre: u32,
+    req: u32,
+    sup: u32,
+    conds: Span,
+}
+
+impl Head {
+    fn fmids(&self) -> Span
+        ensures { result ≡ fmids_of self.now }
+    {
+        Span {
+            start: self.start,
+            end: self.fmids,
+        }
+    }
+
+    fn pre(&self) -> Span
+        ensures { result ≡ pre_of self.now }
+    {
+        Span {
+            start: self.fmids,
+            end: self.pre,
+        }
+    }
+
+    fn req(&self) -> Span
+        ensures { result ≡ req_of self.now }
+    {
+        Span {
+            start: self.pre,
+            end: self.req,
+        }
+    }
+
+    /// Where what the record supersedes stands.
+    pub(crate) fn sup(&self) -> Span
+        ensures { result ≡ sup_of self.now }
+    {
+        Span {
+            start: self.req,
+            end: self.sup,
+        }
+    }
 }
 
 /// Records in a row. A contract sees the list of them.
@@ -143,23 +184,20 @@ fn head_of(
     ensures is_head { IfOk result (IsHead names.new.items all_conds.new.items) }
     ensures record { IfOk result (λ head. record_at names.new.items all_conds.new.items head ≡ sysmod) }
 {
-    let Sysmod {
-        id,
-        kind,
-        fmids,
-        pre,
-        req,
-        conds,
-        sup,
-    } = sysmod;
+    let fmids = put(names, &sysmod.fmids)?;
+    let pre = put(names, &sysmod.pre)?;
+    let req = put(names, &sysmod.req)?;
+    let sup = put(names, &sysmod.sup)?;
+    let conds = put_conds(all_conds, &sysmod.conds)?;
     Ok(Head {
-        id,
-        kind,
-        fmids: put(names, &fmids)?,
-        pre: put(names, &pre)?,
-        req: put(names, &req)?,
-        conds: put_conds(all_conds, &conds)?,
-        sup: put(names, &sup)?,
+        id: sysmod.id,
+        kind: sysmod.kind,
+        start: fmids.start,
+        fmids: fmids.end,
+        pre: pre.end,
+        req: req.end,
+        sup: sup.end,
+        conds,
     })
 }
 
@@ -176,10 +214,10 @@ fn record_of(
     Ok(Sysmod {
         id: head.id,
         kind: head.kind,
-        fmids: copied(alloc, names, head.fmids)?,
-        pre: copied(alloc, names, head.pre)?,
-        req: copied(alloc, names, head.req)?,
+        fmids: copied(alloc, names, head.fmids())?,
+        pre: copied(alloc, names, head.pre())?,
+        req: copied(alloc, names, head.req())?,
         conds: conds_copied(alloc, conds, head.conds)?,
-        sup: copied(alloc, names, head.sup)?,
+        sup: copied(alloc, names, head.sup())?,
     })
 }

@@ -1,5 +1,5 @@
 //! Lists of ids, one after the other in one list, and so lists of requisites under conditions.
-ghost use Rattle.std.specs.Prelude.{◌≡◌, IfOk, OnOk};
+ghost use Rattle.std.specs.Prelude.{◌≡◌, ◌-◌, IfOk, OnOk, length};
 ghost use Rattle.flat_content.specs.Spans.{AreConds, IsIds, IsWithin, Keeps, part_at};
 
 use catalogue::{CondNeed, CondNeeds, Ids, NoMemory};
@@ -9,8 +9,17 @@ use std::alloc::Global;
 /// Where a list stands in the list of all.
 #[derive(Clone, Copy, Debug)]
 pub(crate) struct Span {
-    start: u32,
-    end: u32,
+    pub(crate) start: u32,
+    pub(crate) end: u32,
+}
+
+impl Span {
+    /// How many entries stand there.
+    pub(crate) fn len(self) -> usize
+        ensures { result ≡ self.end - self.start }
+    {
+        self.end.saturating_sub(self.start) as usize
+    }
 }
 
 /// Puts a list after all others.
@@ -22,6 +31,8 @@ pub(crate) fn put(names: &mut Vec<Id>, ids: &Ids) -> Result<Span, NoMemory>
     ensures keeps { OnOk result (Keeps names.old.items names.new.items) }
     ensures ids { IfOk result (λ span. part_at names.new.items span ≡ ids.now) }
     ensures is_ids { IfOk result (IsIds names.new.items) }
+    ensures start { IfOk result (λ span. span.start ≡ length names.old.items) }
+    ensures end { IfOk result (λ span. span.end ≡ length names.new.items) }
 {
     let start = place(names.len())?;
     names.extend_from_slice(ids.as_slice())?;

@@ -104,6 +104,14 @@ impl Rows {
         self.entries[start + at] = entry;
     }
 
+    /// Gives back the room that the rows don't need.
+    pub fn shrink_to_fit(&mut self)
+        ensures { self.new ≡ self.old }
+    {
+        self.entries.shrink_to_fit();
+        self.ends.shrink_to_fit();
+    }
+
     /// The same rows once more.
     ///
     /// # Errors

@@ -3,6 +3,7 @@ use Rattle.std.proofs.lemmas.List.{append-nil, length-append, map-append, nil_fr
 use Rattle.std.specs.Slice.Iter.{chunks_rest}
 use Rattle.catalogue.proofs.SourceFacts.{no_fault, told_so}
 use Rattle.catalogue.proofs.TellingFacts.{tells_on}
+use Rattle.chains.specs.declared.member_rows.MemberRows.{MemberRows}
 use Rattle.chains.specs.MemberRows.{AreRowsOf}
 use Rattle.chains.specs.Sights.{Sight, sight_of}
 use Rattle.chains.proofs.MemberRowFacts.{no_rows, rows_within}
@@ -46,16 +47,18 @@ returns-clause-within g c =
     let was = c.loop-run.invariant in
     let done = was.0 in
     let all : c.args.members.now ≡ done = was.2 ∙ ap (λ l. done ++ l) (nil_from_length (chunks_rest c.loop-run.run-iterator) c.in-None.ensures.steps.1.0) ∙ append-nil done in
-    rows_within c.args.zone.now c.args.members.now was.1 _ _ _ (was.3 ∙ sym (ap length all)) was.4
+    rows_within c.args.zone.now c.args.members.now was.1 _ _ _ (was.3 ∙ sym (ap length all))
+    (subst (λ (rows : MemberRows). AreRowsOf c.args.zone.now c.args.members.now was.1 rows.candidates.items rows.needs rows.supersedes) (sym c.shrink_to_fit.ensures) was.4)
 
 pub returns-clause-rows : goal.returns-clause-rows
 returns-clause-rows g c =
     let was = c.loop-run.invariant in
     let done = was.0 in
-    let rows = c.loop-run.rows in
     let all : c.args.members.now ≡ done = was.2 ∙ ap (λ l. done ++ l) (nil_from_length (chunks_rest c.loop-run.run-iterator) c.in-None.ensures.steps.1.0) ∙ append-nil done in
-    let P : List Sight → Type 0 = λ l. AreRowsOf c.args.zone.now c.args.members.now l rows.candidates.items rows.needs rows.supersedes in
-    told_so was.5.told (λ content so_far. subst P (so_far ∙ ap (map (sight_of content)) (sym all)) was.4)
+    let P : MemberRows → List Sight → Type 0 = λ rows l. AreRowsOf c.args.zone.now c.args.members.now l rows.candidates.items rows.needs rows.supersedes in
+    told_so was.5.told (λ content so_far.
+    subst (λ (rows : MemberRows). P rows (map (sight_of content) c.args.members.now)) (sym c.shrink_to_fit.ensures)
+    (subst (P c.loop-run.rows) (so_far ∙ ap (map (sight_of content)) (sym all)) was.4))
 
 pub returns-in_err-entries-clause-asks : goal.returns-in_err-entries-clause-asks
 returns-in_err-entries-clause-asks g c = search rules

@@ -21,7 +21,7 @@ loop-head-preserved c = λ q.
     let at = subst (λ (heads : List Head). head ≡ get_or heads i head) given c.head-item.is in
     ap (λ (links : List Link). linked q links ++ ids_in (filter (sup_names q) (drop (i + 1) records)))
     (c.in_ok-push_links.ensures
-    ∙ ap (λ (sup : List (List ℕ)). c.loop-head.links.items ++ links_to sup head.id) (c.ids_in.ensures ∙ ap (λ (names : List (List ℕ)). part_at names head.sup) c.deref.ensures.value))
+    ∙ ap (λ (sup : List (List ℕ)). c.loop-head.links.items ++ links_to sup head.id) (c.ids_in.ensures ∙ ap (λ (names : List (List ℕ)). part_at names c.sup.result) c.deref-in-loop-head.ensures.value ∙ ap (part_at old.names.items) c.sup.ensures))
     ∙ of_next c.loop-head.links.items (record_at old.names.items old.conds.items head) (drop (i + 1) records) q
     (sup_ascends old.names.items old.conds.items old.heads.items records c.records.view_is i head c.records.invariant within at)
     ∙ ap (λ (xs : List Sysmod). linked q c.loop-head.links.items ++ ids_in (filter (sup_names q) xs))
