@@ -1,5 +1,5 @@
 //! `Rows`.
-ghost use Rattle.std.specs.Prelude.{◌≡◌, ◌≤◌, ◌<◌, ◌++◌, [], ◌∷◌, length, replicate, slice_index, slice_set, IfOk, OnErr, OnOk};
+ghost use Rattle.std.specs.Prelude.{◌≡◌, ◌≤◌, ◌<◌, ◌+◌, ◌++◌, [], ◌∷◌, length, replicate, slice_index, slice_set, IfOk, OnErr, OnOk};
 ghost use Rattle.std.specs.List.{concat, slice_range};
 ghost use Rattle.requisites.specs.Nodes.{row};
 ghost use Rattle.requisites.specs.Rows.{blank_rows, start_at};
@@ -13,7 +13,7 @@ use std::marker::Model;
 pub struct Rows {
     // The entries of all rows, and where each row ends among them: there the next one starts.
     entries: Vec<usize>,
-    ends: Vec<usize>,
+    ends: Vec<u32>,
 }
 
 impl Model for Rows {
@@ -61,14 +61,15 @@ impl Rows {
     ///
     /// # Errors
     ///
-    /// `NoMemory` where memory ran out: the rows are as they were.
+    /// `NoMemory` where memory ran out, or all rows would have over 4,294,967,295 entries: the rows are as they were.
     pub fn push_row(&mut self, row: &[usize]) -> Result<(), NoMemory>
         ensures rows { OnOk result (self.new ≡ self.old ++ row.now ∷ []) }
         ensures err { OnErr result (self.new ≡ self.old) }
     {
+        let end = end_with(&self.entries, row)?;
         self.ends.reserve(1)?;
         self.entries.extend_from_slice(row)?;
-        match self.ends.push(self.entries.len()) {
+        match self.ends.push(end) {
             Ok(()) => Ok(()),
             Err(_) => unreachable!(),
         }
@@ -89,7 +90,8 @@ impl Rows {
         let mut ends = Vec::with_capacity(alloc, counts.len())?;
         for count in counts {
             push_blanks(&mut entries, *count)?;
-            ends.push(entries.len())?;
+            let end = end_with(&entries, &[])?;
+            ends.push(end)?;
         }
         Ok(Rows { entries, ends })
     }
@@ -146,23 +148,36 @@ fn push_blanks(entries: &mut Vec<usize>, count: usize) -> Result<(), NoMemory>
     Ok(())
 }
 
+// Where a row ends that is put after these entries.
+fn end_with(entries: &[usize], row: &[usize]) -> Result<u32, NoMemory>
+    ensures { IfOk result (λ end. end ≡ length entries.now + length row.now) }
+{
+    let Some(end) = entries.len().checked_add(row.len()) else {
+        return Err(NoMemory);
+    };
+    match u32::try_from(end) {
+        Ok(end) => Ok(end),
+        Err(_) => Err(NoMemory),
+    }
+}
+
 // Where the row of a node starts.
-fn start_of(ends: &[usize], node: usize) -> usize
+fn start_of(ends: &[u32], node: usize) -> usize
     requires { node < length ends.now }
     ensures { result ≡ start_at 0 ends.now node }
 {
     if node == 0 {
         return 0;
     }
-    ends[node - 1]
+    ends[node - 1] as usize
 }
 
 // Where it ends.
-fn end_of(ends: &[usize], node: usize) -> usize
+fn end_of(ends: &[u32], node: usize) -> usize
     requires { node < length ends.now }
     ensures { result ≡ slice_index ends.now node }
 {
-    ends[node]
+    ends[node] as usize
 }
 
 fn between(entries: &[usize], start: usize, end: usize) -> &[usize]
