@@ -1,5 +1,5 @@
 //! What a zone and the catalogue say of members by their indices, one member after the other.
-ghost use Rattle.std.specs.Prelude.{◌≡◌, ◌++◌, ◌∷◌, [], List, OnOk};
+ghost use Rattle.std.specs.Prelude.{◌≡◌, ◌++◌, ◌∷◌, [], List, IfOk, OnOk};
 ghost use Rattle.catalogue.specs.Ids.{Ascend};
 ghost use Rattle.chains.specs.Indices.{AreIndicesOf};
 ghost use Rattle.chains.specs.MemberRows.{AreRowsOf};
@@ -23,19 +23,47 @@ pub(crate) struct MemberRows {
     indices: Vec<usize>,
 }
 
-impl MemberRows {
-    /// Of no member. It takes no memory.
-    pub(crate) fn new(alloc: Global) -> Self
-        ensures candidates { result.candidates.items ≡ [] }
-        ensures needs { result.needs ≡ [] }
-        ensures supersedes { result.supersedes ≡ [] }
-    {
-        MemberRows {
-            candidates: Vec::new(alloc),
-            needs: Rows::new(alloc),
-            supersedes: Rows::new(alloc),
-            indices: Vec::new(alloc),
+/// How many entries the rows of members have at most. It decides only how much room is taken at once, so no contract
+/// speaks of it.
+#[derive(Clone, Copy, Debug)]
+pub(crate) struct Room {
+    needs: usize,
+    supersedes: usize,
+}
+
+impl Room {
+    /// That of no member.
+    pub(crate) fn none() -> Room {
+        Room {
+            needs: 0,
+            supersedes: 0,
         }
+    }
+
+    /// That with more members, by what was read of each.
+    pub(crate) fn with(self, entries: &[Entry]) -> Room {
+        let mut room = self;
+        for entry in entries {
+            room.needs = room.needs.saturating_add(entry.needs().len());
+            room.supersedes = room.supersedes.saturating_add(entry.superseded().len());
+        }
+        room
+    }
+}
+
+impl MemberRows {
+    /// Of no member, with room for those of so many.
+    pub(crate) fn with_room(alloc: Global, members: usize, room: Room) -> Result<Self, NoMemory>
+        ensures candidates { IfOk result (λ rows. rows.candidates.items ≡ []) }
+        ensures needs { IfOk result (λ rows. rows.needs ≡ []) }
+        ensures supersedes { IfOk result (λ rows. rows.supersedes ≡ []) }
+    {
+        Ok(MemberRows {
+            candidates: Vec::with_capacity(alloc, members)?,
+            needs: Rows::with_room(alloc, members, room.needs)?,
+            supersedes: Rows::with_room(alloc, members, room.supersedes)?,
+            indices: Vec::new(alloc),
+        })
     }
 
     /// The same of the next members, by what was read of each.

@@ -11,7 +11,7 @@ ghost use Rattle.chains.specs.Surveys.{IsSurvey};
 use crate::cut::{Cut, there_marks};
 use crate::indices::{push_needs, sort_each_once};
 use crate::listing::entries_of;
-use crate::member_rows::MemberRows;
+use crate::member_rows::{MemberRows, Room};
 use catalogue::{Published, SourceFault};
 use mcs_reader::Id;
 use requisites::Nodes;
@@ -36,34 +36,46 @@ pub(crate) fn cut_of<P: Published>(
         (λ content. IsSurvey content zone.now
         (record { members = cut.members.items; nodes = cut.nodes }))) }
 {
-    let members = read_members(alloc, source)?;
-    let rows = read_rows(alloc, source, zone, &members)?;
-    let there = there_marks(alloc, zone, &members, &rows.supersedes)?;
+    let read = read_members(alloc, source)?;
+    let rows = read_rows(alloc, source, zone, &read.members, read.room)?;
+    let there = there_marks(alloc, zone, &read.members, &rows.supersedes)?;
     let nodes = Nodes {
         candidates: rows.candidates,
         there,
         needs: rows.needs,
         supersedes: rows.supersedes,
     };
-    Ok(Cut { members, nodes })
+    Ok(Cut {
+        members: read.members,
+        nodes,
+    })
+}
+
+// All members, and how much room their rows take.
+#[derive(Drop)]
+struct ReadMembers {
+    members: Vec<Id>,
+    room: Room,
 }
 
 // All that is catalogued, and all that it needs, ascending, each once.
-fn read_members<P: Published>(alloc: Global, source: &mut P) -> Result<Vec<Id>, SourceFault>
+fn read_members<P: Published>(alloc: Global, source: &mut P) -> Result<ReadMembers, SourceFault>
     ensures asks { MayAsk P.content_view Device source.old source.new result }
-    ensures ascend { IfOk result (λ members. Ascend members.items) }
-    ensures members { IfOk result (λ members. Tells P.content_view source.old source.new
-        (λ content. members.items ≡ members_of content)) }
+    ensures ascend { IfOk result (λ read. Ascend read.members.items) }
+    ensures members { IfOk result (λ read. Tells P.content_view source.old source.new
+        (λ content. read.members.items ≡ members_of content)) }
 {
     let ids = source.ids()?;
     let mut members = Vec::from_slice(alloc, &ids)?;
+    let mut room = Room::none();
     for run in ids.chunks(RUN) {
         let entries = entries_of(alloc, source, run)?;
         push_needs(&mut members, &entries)?;
+        room = room.with(&entries);
     }
     sort_each_once(&mut members)?;
     members.shrink_to_fit();
-    Ok(members)
+    Ok(ReadMembers { members, room })
 }
 
 // What each member has.
@@ -72,6 +84,7 @@ fn read_rows<P: Published>(
     source: &mut P,
     zone: &Zone,
     members: &[Id],
+    room: Room,
 ) -> Result<MemberRows, SourceFault>
     requires { Ascend members.now }
     ensures asks { MayAsk P.content_view Device source.old source.new result }
@@ -80,7 +93,7 @@ fn read_rows<P: Published>(
         (λ content. AreRowsOf zone.now members.now (map (sight_of content) members.now)
         rows.candidates.items rows.needs rows.supersedes)) }
 {
-    let mut rows = MemberRows::new(alloc);
+    let mut rows = MemberRows::with_room(alloc, members.len(), room)?;
     for run in members.chunks(RUN) {
         let entries = entries_of(alloc, source, run)?;
         rows.push_all(zone, members, &entries)?;

@@ -38,6 +38,20 @@ impl Rows {
         }
     }
 
+    /// No rows, with room for so many rows and so many entries in all.
+    ///
+    /// # Errors
+    ///
+    /// `NoMemory` where memory ran out.
+    pub fn with_room(alloc: Global, rows: usize, entries: usize) -> Result<Self, NoMemory>
+        ensures { IfOk result (λ none. none ≡ []) }
+    {
+        Ok(Rows {
+            entries: Vec::with_capacity(alloc, entries)?,
+            ends: Vec::with_capacity(alloc, rows)?,
+        })
+    }
+
     /// How many rows there are.
     pub fn len(&self) -> usize
         ensures { result ≡ length self.now }

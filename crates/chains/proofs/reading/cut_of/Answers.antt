@@ -17,8 +17,8 @@ pub returns-clause-survey : goal.returns-clause-survey
 returns-clause-survey g c =
     let law = g.met.P.Published.lawful in
     let rows = c.in_ok-rows.rows in
-    let members = c.in_ok-members.members.items in
-    told_by_two (law.keeps _ _ c.in_ok-members.ensures.asks.keeps) (law.keeps _ _ c.in_ok-rows.ensures.asks.keeps) c.in_ok-members.ensures.members c.in_ok-rows.ensures.rows (λ content is are.
+    let members = c.in_ok-read.read.members.items in
+    told_by_two (law.keeps _ _ c.in_ok-read.ensures.asks.keeps) (law.keeps _ _ c.in_ok-rows.ensures.asks.keeps) c.in_ok-read.ensures.members c.in_ok-rows.ensures.rows (λ content is are.
     let R : List (List ℕ) → Type 0 = λ l. AreRowsOf c.args.zone.now l (map (sight_of content) l) rows.candidates.items rows.needs rows.supersedes in
     let T : List (List ℕ) → Type 0 = λ l. AreThere c.args.zone.now l rows.supersedes c.in_ok-there.there.items in
-    survey_made content c.args.zone.now members _ is (subst R c.deref.ensures.value are) c.in_ok-members.ensures.ascend (subst T c.deref-2.ensures.value c.in_ok-there.ensures))
+    survey_made content c.args.zone.now members _ is (subst R c.deref.ensures.value are) c.in_ok-read.ensures.ascend (subst T c.deref-2.ensures.value c.in_ok-there.ensures))

@@ -15,7 +15,7 @@ loop-run-init g c = (
   [],
   sym (ap chunks_rest c.into_iter-run-iterator.ensures.into_iter_gives ∙ c.chunks-run-items.ensures.rest),
   refl,
-  no_rows c.args.zone.now c.args.members.now _ _ _ c.new-rows.ensures.candidates c.new-rows.ensures.needs c.new-rows.ensures.supersedes,
+  no_rows c.args.zone.now c.args.members.now _ _ _ c.in_ok-rows.ensures.candidates c.in_ok-rows.ensures.needs c.in_ok-rows.ensures.supersedes,
   record {
     keeps = g.met.P.Published.lawful.itself c.args.source.now;
     still_open = λ standing. standing;
