@@ -170,61 +170,38 @@ row_says row path ascii (inl it) m = plain_says row path it m
 row_says row path ascii (inr (inl it)) m = zone_says row path ascii it m
 row_says row path ascii (inr (inr it)) m = both_says row path ascii it m
 
+plain : (row : Row) → list_all is_byte row.0 ≡ true → row.1.names ≡ [] → zone_in row.0 ≡ None → sysmod_in row.0 ≡ None → IsFine row
+plain row literal names zone sysmod = inl (record { literal = literal; names = names; zone = zone; sysmod = sysmod })
+
+zone : (row : Row) (rest : List ℕ) → row.0 ≡ front ++ param_token ∷ rest → row.1.pattern ≡ row.0 → part_of row.1.text 8 12 ≡ codes "zone"
+    → row.1.names ≡ (8, 12) ∷ [] → list_all is_byte rest ≡ true → GoesOn rest → NamesNone rest → IsFine row
+zone row rest pattern same name names literal goes none =
+    inr (inl (record { rest = rest; pattern = pattern; same = same; name = name; names = names; literal = literal; goes = goes; none = none }))
+
+-- the rows of the router from one on, which stand in the order of their patterns
+abbrev AreFine : ℕ → Type 0
+AreFine n = AllByRecursion IsFine (drop n routes)
+
 all_fine : AllByRecursion IsFine routes
 unfolding routes table with_route matchit_on_literals percent_encoding_on_literals
 all_fine =
-    let plain : (row : Row) → list_all is_byte row.0 ≡ true → row.1.names ≡ [] → zone_in row.0 ≡ None → sysmod_in row.0 ≡ None → IsFine row =
-    λ row literal names zone sysmod. inl (record { literal = literal; names = names; zone = zone; sysmod = sysmod }) in
-    let zone : (row : Row) (rest : List ℕ) → row.0 ≡ front ++ param_token ∷ rest → row.1.pattern ≡ row.0 → part_of row.1.text 8 12 ≡ codes "zone" → row.1.names ≡ (8, 12) ∷ [] → list_all is_byte rest ≡ true → GoesOn rest → NamesNone rest → IsFine row =
-    λ row rest pattern same name names literal goes none. inr (inl (record { rest = rest; pattern = pattern; same = same; name = name; names = names; literal = literal; goes = goes; none = none })) in (
-      plain _ refl refl refl refl,
-      (
-        plain _ refl refl refl refl,
-        (
-          plain _ refl refl refl refl,
-          (
-            plain _ refl refl refl refl,
-            (
-              plain _ refl refl refl refl,
-              (
-                zone _ _ refl refl refl refl refl refl refl,
-                (
-                  inr (inr (record { pattern = refl; same = refl; zone_name = refl; sysmod_name = refl; names = refl })),
-                  (
-                    zone _ _ refl refl refl refl refl refl refl,
-                    (
-                      zone _ _ refl refl refl refl refl refl refl,
-                      (
-                        zone _ _ refl refl refl refl refl refl refl,
-                        (
-                          zone _ _ refl refl refl refl refl refl refl,
-                          (
-                            zone _ _ refl refl refl refl refl refl refl,
-                            (
-                              zone _ _ refl refl refl refl refl refl refl,
-                              (
-                                zone _ _ refl refl refl refl refl refl refl,
-                                (
-                                  zone _ _ refl refl refl refl refl refl refl,
-                                  (
-                                    zone _ [] refl refl refl refl refl tt refl,
-                                    (plain _ refl refl refl refl, tt),
-                                  ),
-                                ),
-                              ),
-                            ),
-                          ),
-                        ),
-                      ),
-                    ),
-                  ),
-                ),
-              ),
-            ),
-          ),
-        ),
-      ),
-    )
+    let zones : AreFine 16 = (plain _ refl refl refl refl, tt) in
+    let one_zone : AreFine 15 = (zone _ [] refl refl refl refl refl tt refl, zones) in
+    let missingfix : AreFine 14 = (zone _ _ refl refl refl refl refl refl refl, one_zone) in
+    let missing_plan : AreFine 13 = (zone _ _ refl refl refl refl refl refl refl, missingfix) in
+    let missing_plan_json : AreFine 12 = (zone _ _ refl refl refl refl refl refl refl, missing_plan) in
+    let missingfix_json : AreFine 11 = (zone _ _ refl refl refl refl refl refl refl, missing_plan_json) in
+    let errsysmods : AreFine 10 = (zone _ _ refl refl refl refl refl refl refl, missingfix_json) in
+    let err_plan : AreFine 9 = (zone _ _ refl refl refl refl refl refl refl, errsysmods) in
+    let err_plan_json : AreFine 8 = (zone _ _ refl refl refl refl refl refl refl, err_plan) in
+    let errsysmods_json : AreFine 7 = (zone _ _ refl refl refl refl refl refl refl, err_plan_json) in
+    let chains : AreFine 6 = (inr (inr (record { pattern = refl; same = refl; zone_name = refl; sysmod_name = refl; names = refl })), errsysmods_json) in
+    let categories : AreFine 5 = (zone _ _ refl refl refl refl refl refl refl, chains) in
+    let zones_json : AreFine 4 = (plain _ refl refl refl refl, categories) in
+    let received : AreFine 3 = (plain _ refl refl refl refl, zones_json) in
+    let publish : AreFine 2 = (plain _ refl refl refl refl, received) in
+    let published : AreFine 1 = (plain _ refl refl refl refl, publish) in
+    (plain _ refl refl refl refl, published)
 
 -- what the parameters of the route of a path take are texts, and the ids that the path names
 pub ids_taken : (path : List ℕ) (params : Params) (resource : Resource) → IsAscii path
