@@ -11,8 +11,8 @@ use Rattle.lemmas.proofs.TestFacts.{less_number, same_number}
 abbrev pub taken_len : List ℕ → List ℕ → ℕ
 taken_len t path = length (segment path) - length (segment t)
 
--- a path matches a pattern: byte by byte; or a parameter takes what leaves the rest of its segment, or all of the path
--- where that has no other segment; or by a catch-all
+-- a path matches a pattern: byte by byte; or a parameter takes what leaves the rest of its segment, or all of the
+-- path where that has no other segment; or by a catch-all
 abbrev pub Matches : List ℕ → List ℕ → Type 0
 Matches [] [] = Unit {0}
 Matches [] (b ∷ path) = ⊥

@@ -1,5 +1,5 @@
--- No part of what is promised: private contracts cite it. What the parameters of a route take of a path, as `matchit`
--- hands it out.
+-- No part of what is promised: private contracts cite it. What the parameters of a route take of a path, as
+-- `matchit` hands it out.
 use Rattle.std.specs.Prelude.{ℕ, List, Option}
 use Rattle.std.specs.Option.{option_and_then}
 use Rattle.matchit.specs.Params.{named, walk}
