@@ -2,6 +2,7 @@
 use Rattle.std.specs.Prelude.{◌≢◌, ℕ, Bool, true, false, List, map, find, codes, Option, Contains, if◌then◌else◌}
 use Rattle.std.specs.Option.{option_map}
 use Rattle.std.specs.Str.{bytes_eq}
+use Rattle.mcs_reader.specs.Id.{text_of}
 use Rattle.bureau_store.specs.declared.caller.Caller.{Caller}
 use Rattle.bureau_store.specs.declared.caller.Caller.TheVariants.{Publisher, Client}
 use Rattle.bureau_store.specs.declared.caller.CallerRow.{CallerRow}
@@ -16,6 +17,11 @@ is_caller (Client name) (Client other) = bytes_eq name other
 -- the name that stands for the publisher
 abbrev pub publisher_name : List ℕ
 publisher_name = codes "PUBLISH"
+
+-- the name of a caller, without the blanks after it
+abbrev pub name_text : Caller → List ℕ
+name_text Publisher = publisher_name
+name_text (Client name) = text_of name
 
 -- whether a name is the publisher's
 abbrev pub is_publisher : List ℕ → Bool

@@ -1,5 +1,6 @@
 //! Who calls.
 ghost use Rattle.std.specs.Prelude.{◌≡◌, IfOk};
+ghost use Rattle.bureau_store.specs.Caller.{name_text};
 
 use faults::NoMemory;
 use mcs_reader::Id;
@@ -12,6 +13,18 @@ pub enum Caller {
     Publisher,
     /// A client, by its name, which isn't `PUBLISH`.
     Client(Id),
+}
+
+impl Caller {
+    /// The name, which is `PUBLISH` of the publisher.
+    pub fn name(&self) -> &[u8]
+        ensures { result.now ≡ name_text self.now }
+    {
+        match self {
+            Caller::Publisher => b"PUBLISH",
+            Caller::Client(name) => name.as_bytes(),
+        }
+    }
 }
 
 /// The token by which a caller is known. A contract sees its bytes.

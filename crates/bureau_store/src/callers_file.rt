@@ -15,7 +15,7 @@ ghost use Rattle.bureau_store.specs.Caller.{is_publisher};
 ghost use Rattle.bureau_store.specs.Callers as Callers;
 ghost use Rattle.bureau_store.specs.Gathered.{has_token, row_of};
 
-use crate::caller::{CallerRow, Token};
+use crate::caller::{Caller, CallerRow, Token};
 use crate::fault::CallerFault;
 use csv::ByteRecord;
 use faults::NoMemory;
@@ -72,7 +72,7 @@ fn has_publisher(rows: &[CallerRow]) -> bool
 pub(crate) fn is_publisher(name: &Id) -> bool
     ensures { result ≡ is_publisher name.now }
 {
-    match Id::new(b"PUBLISH") {
+    match Id::new(Caller::Publisher.name()) {
         Some(publisher) => *name == publisher,
         None => false,
     }

@@ -4,10 +4,13 @@ mod HeadEndFacts
 mod HeadFacts
 mod HeaderFacts
 mod IdFacts
+mod MatchFacts
 mod OrderFacts
+mod PlaceFacts
 mod RequestFacts
 mod RouteFacts
 mod SearchFacts
+mod TakenFacts
 mod TextFacts
 mod NextRequestFacts
 mod ReadingFacts

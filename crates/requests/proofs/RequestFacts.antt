@@ -117,7 +117,7 @@ few_digits text is few =
 byte_ascii : (b : ℕ) → nat_lt b 128 ≡ true → b < 128
 byte_ascii b h = grind (arith, nat_tests)
 
-all_ascii : (text : List ℕ) → list_all (λ b. nat_lt b 128) text ≡ true → IsAscii text
+pub all_ascii : (text : List ℕ) → list_all (λ b. nat_lt b 128) text ≡ true → IsAscii text
 all_ascii [] h = IsAscii-nil
 all_ascii (b ∷ text) h =
     let parts = and_parts (nat_lt b 128) (list_all (λ b. nat_lt b 128) text) h in

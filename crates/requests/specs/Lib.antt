@@ -2,6 +2,7 @@ pub mod Head
 pub mod HeadEnd
 pub mod Headers
 pub mod Order
+pub mod Places
 pub mod Refusal
 pub mod Reply
 pub mod Request

@@ -1,13 +1,9 @@
 //! What a request asks the bureau for.
-ghost use Rattle.std.specs.Prelude.{◌≡◌};
+ghost use Rattle.std.specs.Prelude.{◌≡◌, ℕ, List};
 ghost use Rattle.requests.specs.Request as Spec;
-ghost use Rattle.requests.specs.Text as Text;
 
 use crate::resource::Operation;
-use crate::text::cut;
-use arrayvec::ArrayVec;
 use mcs_reader::Id;
-use percent_encoding::percent_decode;
 
 /// What a request asks the bureau for.
 #[derive(Clone, Copy, Debug, PartialEq, Eq)]
@@ -50,9 +46,14 @@ pub enum Action {
     Chain(Id, Id),
 }
 
-// An operation with the ids in the path, where these are ids.
-pub(crate) fn action_at(operation: Operation, path: &[u8]) -> Option<Action>
-    ensures { result ≡ Spec.action_at operation path.now }
+// What an operation asks for at a path with these ids, where it has those that the operation needs.
+pub(crate) fn action_at(
+    operation: Operation,
+    zone: Option<Id>,
+    sysmod: Option<Id>,
+) -> Option<Action>
+    ensures { (path : List ℕ) → zone ≡ Spec.zone_in path → sysmod ≡ Spec.sysmod_in path →
+        result ≡ Spec.action_at operation path }
 {
     match operation {
         Operation::Publish => Some(Action::Publish),
@@ -61,61 +62,17 @@ pub(crate) fn action_at(operation: Operation, path: &[u8]) -> Option<Action>
         Operation::ListZones => Some(Action::ListZones),
         Operation::ListZonesJson => Some(Action::ListZonesJson),
         Operation::PutReceived => Some(Action::PutReceived),
-        Operation::PutZone => Some(Action::PutZone(zone_in(path)?)),
-        Operation::DropZone => Some(Action::DropZone(zone_in(path)?)),
-        Operation::PutPatterns => Some(Action::PutPatterns(zone_in(path)?)),
-        Operation::ErrSysmods => Some(Action::ErrSysmods(zone_in(path)?)),
-        Operation::ErrSysmodsJson => Some(Action::ErrSysmodsJson(zone_in(path)?)),
-        Operation::MissingFix => Some(Action::MissingFix(zone_in(path)?)),
-        Operation::MissingFixJson => Some(Action::MissingFixJson(zone_in(path)?)),
-        Operation::ErrPlan => Some(Action::ErrPlan(zone_in(path)?)),
-        Operation::ErrPlanJson => Some(Action::ErrPlanJson(zone_in(path)?)),
-        Operation::MissingPlan => Some(Action::MissingPlan(zone_in(path)?)),
-        Operation::MissingPlanJson => Some(Action::MissingPlanJson(zone_in(path)?)),
-        Operation::Chain => Some(Action::Chain(zone_in(path)?, sysmod_in(path)?)),
+        Operation::PutZone => Some(Action::PutZone(zone?)),
+        Operation::DropZone => Some(Action::DropZone(zone?)),
+        Operation::PutPatterns => Some(Action::PutPatterns(zone?)),
+        Operation::ErrSysmods => Some(Action::ErrSysmods(zone?)),
+        Operation::ErrSysmodsJson => Some(Action::ErrSysmodsJson(zone?)),
+        Operation::MissingFix => Some(Action::MissingFix(zone?)),
+        Operation::MissingFixJson => Some(Action::MissingFixJson(zone?)),
+        Operation::ErrPlan => Some(Action::ErrPlan(zone?)),
+        Operation::ErrPlanJson => Some(Action::ErrPlanJson(zone?)),
+        Operation::MissingPlan => Some(Action::MissingPlan(zone?)),
+        Operation::MissingPlanJson => Some(Action::MissingPlanJson(zone?)),
+        Operation::Chain => Some(Action::Chain(zone?, sysmod?)),
     }
-}
-
-// The zone that a path names.
-fn zone_in(path: &[u8]) -> Option<Id>
-    ensures { result ≡ Spec.zone_in path.now }
-{
-    id_in(first(after(after(path))))
-}
-
-// The SYSMOD that a path names.
-fn sysmod_in(path: &[u8]) -> Option<Id>
-    ensures { result ≡ Spec.sysmod_in path.now }
-{
-    id_in(first(after(after(after(after(path))))))
-}
-
-// What stands before the first slash.
-fn first(path: &[u8]) -> &[u8]
-    ensures { result.now ≡ Text.before 47 path.now }
-{
-    let (segment, _) = cut(path, b'/');
-    segment
-}
-
-// What stands after the first slash.
-fn after(path: &[u8]) -> &[u8]
-    ensures { result.now ≡ Text.after 47 path.now }
-{
-    let (_, rest) = cut(path, b'/');
-    rest
-}
-
-// The id that a part of a path stands for, its escapes decoded.
-fn id_in(part: &[u8]) -> Option<Id>
-    ensures { result ≡ Spec.id_in part.now }
-{
-    let mut text = ArrayVec::<u8, 7>::new();
-    for byte in percent_decode(part) {
-        if text.is_full() {
-            return None;
-        }
-        text.push(byte);
-    }
-    Id::new(&text)
 }

@@ -37,6 +37,7 @@ mod headers;
 mod law;
 mod next_request;
 mod order;
+mod place;
 mod progress;
 mod refusal;
 mod reply;

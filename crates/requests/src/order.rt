@@ -1,10 +1,12 @@
 //! What a whole head decides, in the order of the checks.
-ghost use Rattle.std.specs.Prelude.{◌≡◌, ◌≤◌, true, length, IfOk};
-ghost use Rattle.httparse.specs.Spans.{IsWithin, span_bytes};
-ghost use Rattle.requests.specs.Head.{LiesIn, parts_at};
+ghost use Rattle.std.specs.Prelude.{◌≡◌, ◌<◌, ◌≤◌, true, length, IfNone, IfOk, IfSome};
+ghost use Rattle.httparse.specs.Spans.{IsRequestOf, IsRequestWithin, IsWithin, span_bytes};
+ghost use Rattle.requests.specs.Head.{IsNoHead, LiesIn, parts_at};
+ghost use Rattle.requests.specs.HeadEnd as HeadEnd;
 ghost use Rattle.requests.specs.Headers.{AreWithin, pairs_at};
 ghost use Rattle.requests.specs.Order.{IsDecided, by_parts, decision_of};
 ghost use Rattle.requests.specs.Request.{is_path, parts_by};
+ghost use Rattle.requests.specs.declared.refusal.Refusal.TheVariants as refusal;
 
 use crate::head::Head;
 use crate::head_end::lines_between;
@@ -38,22 +40,41 @@ pub fn decide(bytes: &[u8]) -> Result<(Head, u64), Refused>
     ensures bound { IfOk result (λ ready. ready.1 ≤ 67108864) }
     ensures path { IfOk result (λ ready. is_path (parts_at bytes.now ready.0).target ≡ true) }
 {
-    if lines_between(bytes) > 64 {
+    let mut fields = [EMPTY_HEADER_SPAN; MOST_FIELDS];
+    let Some(spans) = whole_head(bytes, &mut fields) else {
         return Err(Refused {
-            refusal: Refusal::HeadTooLarge,
+            refusal: unread(bytes),
             is_bare: false,
         });
+    };
+    let (fields, _) = fields.split_at(spans.headers);
+    decide_by(bytes, &spans, fields)
+}
+
+// Where the parts are of a head that is as long as its bytes. `None` where they are no head, or one with more than 64
+// fields.
+fn whole_head(bytes: &[u8], fields: &mut [HeaderSpan]) -> Option<RequestSpans>
+    requires { length fields.old ≡ 64 }
+    ensures read { IfSome result (IsRequestOf bytes.now fields.new) }
+    ensures whole { IfSome result (λ spans. spans.len ≡ length bytes.now) }
+    ensures within { IfSome result (IsRequestWithin bytes.now fields.new) }
+    ensures none { IfNone result (HeadEnd.lines_between bytes.now ≤ 64 → IsNoHead bytes.now) }
+{
+    match parse_request(bytes, fields) {
+        Ok(Status::Complete(spans)) if spans.len == bytes.len() => Some(spans),
+        _ => None,
     }
-    let mut fields = [EMPTY_HEADER_SPAN; MOST_FIELDS];
-    match parse_request(bytes, &mut fields) {
-        Ok(Status::Complete(spans)) if spans.len == bytes.len() => {
-            let (fields, _) = fields.split_at(spans.headers);
-            decide_by(bytes, &spans, fields)
-        }
-        _ => Err(Refused {
-            refusal: Refusal::BadRequest,
-            is_bare: false,
-        }),
+}
+
+// Why a head is refused that isn't read. One that is read has a line for each field, so its lines are not counted.
+fn unread(bytes: &[u8]) -> Refusal
+    ensures many { 64 < HeadEnd.lines_between bytes.now → result ≡ refusal.HeadTooLarge }
+    ensures few { HeadEnd.lines_between bytes.now ≤ 64 → result ≡ refusal.BadRequest }
+{
+    if lines_between(bytes) > 64 {
+        Refusal::HeadTooLarge
+    } else {
+        Refusal::BadRequest
     }
 }
 

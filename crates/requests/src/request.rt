@@ -1,5 +1,5 @@
 //! What a head asks for: how long its body is, its number, and the action at its path.
-ghost use Rattle.std.specs.Prelude.{◌≡◌, ◌≤◌, true, IfErr, IfOk, nat_lt, codes};
+ghost use Rattle.std.specs.Prelude.{◌≡◌, ◌≤◌, true, IfErr, IfOk, IsAscii, nat_lt, codes};
 ghost use Rattle.std.specs.List.{list_all};
 ghost use Rattle.requests.specs.Headers.{AreWithin, pairs_at, values};
 ghost use Rattle.requests.specs.Refusal.{IsOfTarget};
@@ -105,14 +105,15 @@ pub(crate) fn change_number(text: &[u8]) -> Option<u64>
 
 // What a method asks for at a path.
 pub(crate) fn action_by(routes: &Routes, method: &[u8], path: &str) -> Result<Action, Refusal>
+    requires { IsAscii path.now }
     ensures action { result ≡ Spec.asked method.now path.now }
     ensures refused { IfErr result IsOfTarget }
 {
-    let Some(resource) = routes.resource(path) else {
+    let Some(place) = routes.place(path) else {
         return Err(Refusal::NotFound);
     };
-    let Some(operation) = resource.operation(method) else {
-        return Err(Refusal::MethodNotAllowed(resource));
+    let Some(operation) = place.resource.operation(method) else {
+        return Err(Refusal::MethodNotAllowed(place.resource));
     };
-    action_at(operation, path.as_bytes()).ok_or(Refusal::NotFound)
+    action_at(operation, place.zone, place.sysmod).ok_or(Refusal::NotFound)
 }

@@ -1,7 +1,9 @@
 //! The paths of the bureau.
-ghost use Rattle.std.specs.Prelude.{◌≡◌, OnOk};
+ghost use Rattle.std.specs.Prelude.{◌≡◌, option_map, IfSome, IsAscii, OnOk};
+ghost use Rattle.requests.specs.Request.{sysmod_in, zone_in};
 ghost use Rattle.requests.specs.Routes as Spec;
 
+use crate::place::{Place, id_taken};
 use crate::resource::Resource;
 use faults::NoMemory;
 use matchit::Router;
@@ -54,6 +56,23 @@ impl Routes {
     {
         match self.router.at(path) {
             Ok(found) => Some(*found.value),
+            Err(_) => None,
+        }
+    }
+
+    // The same of a path in ASCII, with the ids in it.
+    pub(crate) fn place(&self, path: &str) -> Option<Place>
+        requires { IsAscii path.now }
+        ensures resource { option_map (λ place. place.resource) result ≡ Spec.resource_at path.now }
+        ensures zone { IfSome result (λ place. place.zone ≡ zone_in path.now) }
+        ensures sysmod { IfSome result (λ place. place.sysmod ≡ sysmod_in path.now) }
+    {
+        match self.router.at(path) {
+            Ok(found) => Some(Place {
+                resource: *found.value,
+                zone: id_taken(&found.params, "zone"),
+                sysmod: id_taken(&found.params, "sysmod"),
+            }),
             Err(_) => None,
         }
     }

@@ -85,7 +85,7 @@ fn name(caller: &Caller) -> ValueRef<'_>
     ensures { IsNameOf caller.now (owned result) }
 {
     match caller {
-        Caller::Publisher => ValueRef::Text(b"PUBLISH"),
+        Caller::Publisher => ValueRef::Text(caller.name()),
         Caller::Client(name) => id_of(name),
     }
 }

@@ -66,7 +66,7 @@ pub(crate) fn named(name: Id) -> Caller
 fn is_publisher(name: &Id) -> bool
     ensures { result ≡ is_publisher name.now }
 {
-    match Id::new(b"PUBLISH") {
+    match Id::new(Caller::Publisher.name()) {
         Some(publisher) => *name == publisher,
         None => false,
     }

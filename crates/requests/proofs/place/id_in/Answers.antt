@@ -1,7 +1,7 @@
 use Rattle.std.proofs.Common.{◌≡◌, ◌++◌, sym, ap, ◌∙◌, arith, ℕ, Bool, true, ◌==◌}
 use Rattle.std.proofs.lemmas.Bool.Decides.{nat_tests}
 use Rattle.requests.proofs.IdFacts.{too_long}
-use Rattle.requests.proofs.action.id_in.Goals as goal
+use Rattle.requests.proofs.place.id_in.Goals as goal
 
 full : {n : ℕ} {t : Bool} → t ≡ (n == 7) → t ≡ true → n ≡ 7
 full {n} {t} is true_ = grind (arith, nat_tests)

@@ -2,7 +2,7 @@
 use Rattle.std.proofs.Common.{◌≡◌, ◌++◌}
 use Rattle.percent_encoding.specs.Iter.{decoded_bytes}
 use Rattle.percent_encoding.specs.Percent.{percent_decode}
-use Rattle.requests.proofs.action.id_in.Given as goal
+use Rattle.requests.proofs.place.id_in.Given as goal
 
 abbrev pub invariant-loop-byte : goal.invariant-loop-byte
 invariant-loop-byte l = record { whole : percent_decode l.part ≡ l.text.items ++ decoded_bytes l.byte-iterator }

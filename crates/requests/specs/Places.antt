@@ -1,0 +1,15 @@
+-- No part of what is promised: private contracts cite it. What the parameters of a route take of a path, as
+-- `matchit` hands it out.
+use Rattle.std.specs.Prelude.{ℕ, List, Option}
+use Rattle.std.specs.Option.{option_and_then}
+use Rattle.matchit.specs.Params.{named, walk}
+use Rattle.matchit.specs.declared.params.Params.{Params}
+use Rattle.requests.specs.Request.{id_in}
+
+-- each parameter's name with what it takes
+abbrev pub taken : Params → List (List ℕ × List ℕ)
+taken params = walk params.pattern.now params.text.now params.path.now params.names.now 0 0
+
+-- the id that the parameter with this name takes
+abbrev pub id_taken : List ℕ → Params → Option (List ℕ)
+id_taken name params = option_and_then id_in (named name (taken params))
