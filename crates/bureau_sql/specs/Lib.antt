@@ -1,5 +1,4 @@
 pub mod Committed
-pub mod Effects
 pub mod Failing
 pub mod Files
 pub mod Founded

@@ -1,16 +1,17 @@
 //! A change of a connection, in a transaction of its own that keeps the number and the reply too.
 ghost use Rattle.std.specs.Prelude.{◌≡◌, ◌≤◌, ℕ, false};
 ghost use Rattle.sqlite.specs.Held.{state};
+ghost use Rattle.bureau_store.specs.Caller.{IsProper};
+ghost use Rattle.bureau_store.specs.Effects.{effect_as, maker_of};
 ghost use Rattle.bureau_store.specs.Store.{greatest_number};
 ghost use Rattle.sql_tables.specs.Fit.{IsFit};
-ghost use Rattle.sql_writes.specs.Effects.{effect_as, stored_by};
+ghost use Rattle.sql_writes.specs.Effects.{stored_by};
 ghost use Rattle.sql_writes.specs.Room.{HasRoom, IsRoomy};
 ghost use Rattle.bureau_sql.specs.Committed.{IsCommitted};
-ghost use Rattle.bureau_sql.specs.Effects.{IsFitEffect};
 ghost use Rattle.bureau_sql.specs.Failing.{RefusesExcused};
 
 use crate::commit::{begin, end};
-use sql_writes::Effect;
+use bureau_store::Effect;
 use sqlite::{Connection, Error};
 use sqlite_trees::store::Alter;
 use std::alloc::Global;
@@ -24,8 +25,8 @@ pub(crate) fn make<S: Alter>(
     effect: &Effect<'_>,
 ) -> Result<(), Error>
     requires rest { conn.old.in_transaction ≡ false }
+    requires maker { IsProper (maker_of effect.now) }
     requires number { number ≤ greatest_number }
-    requires fit { IsFitEffect effect.now }
     ensures mode { conn.new.in_transaction ≡ false }
     ensures committed { IsCommitted (state S.Store conn.old) (state S.Store conn.new) result
         (stored_by effect.now number reply.now) }

@@ -6,16 +6,14 @@ ghost use Rattle.zone_lists.specs.Pattern.{is_pattern};
 ghost use Rattle.zone_lists.specs.ZoneList.{RowsAscend};
 ghost use Rattle.bureau_store.specs.Caller.{IsProper};
 ghost use Rattle.bureau_store.specs.Effect.{publication, zone_put, zone_dropped, received_put, patterns_put};
+ghost use Rattle.bureau_store.specs.Effects.{IsAscending, effect_as, maker_of};
 ghost use Rattle.bureau_store.specs.declared.caller.Caller.TheVariants.{Client, Publisher};
 ghost use Rattle.sql_tables.specs.Fit.{CanBeWritten, IsCond, IsFitChange, IsHold, IsRecord};
-ghost use Rattle.sql_writes.specs.Effects.{effect_as, maker_of};
-ghost use Rattle.bureau_sql.specs.Effects.{IsFitEffect};
 
-use bureau_store::CallerRow;
+use bureau_store::{CallerRow, Effect};
 use catalogue::{Change, CondNeed, Sysmod};
 use holddata::{Hold, HoldChange};
 use mcs_reader::Id;
-use sql_writes::Effect;
 use zone_lists::{Pattern, ZoneRow};
 
 // The bytes of an id are those of one.
@@ -180,7 +178,8 @@ fn publication(changes: &[Change])
 
 /// What a change writes.
 pub(crate) fn effect(effect: &Effect<'_>)
-    requires { IsFitEffect effect.now }
+    requires maker { IsProper (maker_of effect.now) }
+    requires ascending { IsAscending effect.now }
     ensures { CanBeWritten (maker_of effect.now) (effect_as effect.now) }
 {
     match *effect {

@@ -1,44 +1,18 @@
 //! All tables, as a store in a database keeps them.
 ghost use Rattle.std.specs.Prelude.{◌≤◌, IfErr};
-ghost use Rattle.zone_lists.specs.ZoneList.{RowsAscend};
-ghost use Rattle.catalogue.specs.Ids.{Ascend};
 ghost use Rattle.bureau_store.specs.Caller.{IsProper};
-ghost use Rattle.bureau_store.specs.Tables.{PatternsAscend};
-ghost use Rattle.bureau_store.specs.Effect.{publication, zone_put, zone_dropped, received_put, patterns_put};
-ghost use Rattle.bureau_store.specs.Store as asked;
-ghost use Rattle.bureau_store.specs.Store.{Makes, greatest_number};
-ghost use Rattle.bureau_store.specs.declared.caller.Caller.TheVariants.{Client, Publisher};
-ghost use Rattle.bureau_sql.specs.Effects.{IsFitEffect, update};
+ghost use Rattle.bureau_store.specs.Effects.{IsAscending, effect_as, maker_of};
+ghost use Rattle.bureau_store.specs.Store.{Makes, greatest_number, update};
 ghost use Rattle.bureau_sql.specs.Failing.{FailsToChange};
 ghost use Rattle.bureau_sql.specs.Outgrown.{HasNoRoom};
 ghost use Rattle.bureau_sql.specs.SqlView.{sql_view};
 
 use crate::{SqlStore, changes, fit};
-use bureau_store::{Caller, Store, StoreFault};
-use catalogue::Change;
+use bureau_store::{Caller, Effect, Store, StoreFault};
 use holddata::{Hold, Kind};
 use mcs_reader::Id;
-use sql_writes::Effect;
 use sqlite_trees::store::Alter;
 use zone_lists::{Pattern, ZoneRow};
-
-impl<S: Alter> SqlStore<S> {
-    // Makes a change, and forgets what was read before it.
-    fn make(&mut self, number: u64, reply: &[u8], effect: &Effect<'_>) -> Result<(), StoreFault>
-        requires number { number ≤ greatest_number }
-        requires fit { IsFitEffect effect.now }
-        ensures makes { Makes (sql_view S.Store) HasNoRoom (update effect.now number reply.now)
-            self.old self.new result }
-        ensures cause { IfErr result
-            (FailsToChange S.Store (update effect.now number reply.now) self.old self.new) }
-    {
-        self.check_open(StoreFault::Device)?;
-        self.recent.forget();
-        fit::effect(effect);
-        let made = changes::make(self.alloc, &mut self.conn, number, reply, effect);
-        self.made(made)
-    }
-}
 
 impl<S: Alter> Store for SqlStore<S> {
     ghost use Rattle.bureau_sql.specs.Laws.{sql_holds_tables, sql_in_order, sql_lawful, sql_shows_content};
@@ -125,101 +99,23 @@ impl<S: Alter> Store for SqlStore<S> {
         self.answered(found)
     }
 
-    fn publish(&mut self, number: u64, reply: &[u8], changes: &[Change]) -> Result<(), StoreFault>
+    // What was read before the change is forgotten.
+    fn make(&mut self, number: u64, reply: &[u8], effect: &Effect<'_>) -> Result<(), StoreFault>
+        requires maker { IsProper (maker_of effect.now) }
         requires number { number ≤ greatest_number }
+        requires ascending { IsAscending effect.now }
         ensures makes { Makes (sql_view S.Store) HasNoRoom
-            (asked.update Publisher (publication changes.now) number reply.now)
+            (update (maker_of effect.now) (effect_as effect.now) number reply.now)
             self.old self.new result }
         ensures cause { IfErr result (FailsToChange S.Store
-            (asked.update Publisher (publication changes.now) number reply.now) self.old self.new) }
-    {
-        self.make(number, reply, &Effect::Publication { changes })
-    }
-
-    fn put_zone(
-        &mut self,
-        client: &Id,
-        number: u64,
-        reply: &[u8],
-        zone: &Id,
-        rows: &[ZoneRow],
-    ) -> Result<(), StoreFault>
-        requires client { IsProper (Client client.now) }
-        requires number { number ≤ greatest_number }
-        requires ascending { RowsAscend rows.now }
-        ensures makes { Makes (sql_view S.Store) HasNoRoom
-            (asked.update (Client client.now) (zone_put zone.now rows.now) number reply.now)
-            self.old self.new result }
-        ensures cause { IfErr result (FailsToChange S.Store
-            (asked.update (Client client.now) (zone_put zone.now rows.now) number reply.now)
+            (update (maker_of effect.now) (effect_as effect.now) number reply.now)
             self.old self.new) }
     {
-        self.make(number, reply, &Effect::ZonePut { client, zone, rows })
-    }
-
-    fn drop_zone(
-        &mut self,
-        client: &Id,
-        number: u64,
-        reply: &[u8],
-        zone: &Id,
-    ) -> Result<(), StoreFault>
-        requires client { IsProper (Client client.now) }
-        requires number { number ≤ greatest_number }
-        ensures makes { Makes (sql_view S.Store) HasNoRoom
-            (asked.update (Client client.now) (zone_dropped zone.now) number reply.now)
-            self.old self.new result }
-        ensures cause { IfErr result (FailsToChange S.Store
-            (asked.update (Client client.now) (zone_dropped zone.now) number reply.now)
-            self.old self.new) }
-    {
-        self.make(number, reply, &Effect::ZoneDropped { client, zone })
-    }
-
-    fn put_received(
-        &mut self,
-        client: &Id,
-        number: u64,
-        reply: &[u8],
-        ids: &[Id],
-    ) -> Result<(), StoreFault>
-        requires client { IsProper (Client client.now) }
-        requires number { number ≤ greatest_number }
-        requires ascending { Ascend ids.now }
-        ensures makes { Makes (sql_view S.Store) HasNoRoom
-            (asked.update (Client client.now) (received_put ids.now) number reply.now)
-            self.old self.new result }
-        ensures cause { IfErr result (FailsToChange S.Store
-            (asked.update (Client client.now) (received_put ids.now) number reply.now)
-            self.old self.new) }
-    {
-        self.make(number, reply, &Effect::ReceivedPut { client, ids })
-    }
-
-    fn put_patterns(
-        &mut self,
-        client: &Id,
-        number: u64,
-        reply: &[u8],
-        zone: &Id,
-        patterns: &[Pattern],
-    ) -> Result<(), StoreFault>
-        requires client { IsProper (Client client.now) }
-        requires number { number ≤ greatest_number }
-        requires ascending { PatternsAscend patterns.now }
-        ensures makes { Makes (sql_view S.Store) HasNoRoom
-            (asked.update (Client client.now) (patterns_put zone.now patterns.now) number reply.now)
-            self.old self.new result }
-        ensures cause { IfErr result (FailsToChange S.Store
-            (asked.update (Client client.now) (patterns_put zone.now patterns.now) number reply.now)
-            self.old self.new) }
-    {
-        let effect = Effect::PatternsPut {
-            client,
-            zone,
-            patterns,
-        };
-        self.make(number, reply, &effect)
+        self.check_open(StoreFault::Device)?;
+        self.recent.forget();
+        fit::effect(effect);
+        let made = changes::make(self.alloc, &mut self.conn, number, reply, effect);
+        self.made(made)
     }
 
     ghost tables_lawful = { sql_lawful _ };

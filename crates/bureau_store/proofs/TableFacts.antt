@@ -25,13 +25,15 @@ use Rattle.catalogue.specs.Content.{Content}
 use Rattle.catalogue.specs.Ids.{same_id}
 use Rattle.bureau_store.specs.Effect.{content_after}
 use Rattle.zone_lists.specs.Installed.{is_installed_state}
-use Rattle.bureau_store.specs.Kept.{KnowsTokens, effect_of}
+use Rattle.bureau_store.specs.Effects.{effect_as, maker_of}
+use Rattle.bureau_store.specs.Kept.{KnowsTokens}
 use Rattle.bureau_store.specs.Tables.{ZoneTable, name_order}
-use Rattle.bureau_store.specs.declared.kept.Put.{Put}
-use Rattle.bureau_store.specs.declared.kept.Put.TheVariants as put
+use Rattle.bureau_store.specs.declared.effect.Effect.{Effect}
+use Rattle.bureau_store.specs.declared.effect.Effect.TheVariants.{Publication, ZonePut, ZoneDropped, ReceivedPut, PatternsPut}
 use Rattle.bureau_store.proofs.CallerFacts.{token_put}
 use Rattle.bureau_store.specs.Lists.{ClientTable, client_in, nothing_sent}
 use Rattle.bureau_store.specs.declared.caller.Caller.{Caller}
+use Rattle.bureau_store.specs.declared.caller.Caller.TheVariants.{Client}
 use Rattle.bureau_store.specs.declared.caller.CallerRow.{CallerRow}
 
 -- ---- a look-up by name, as a map makes it
@@ -159,6 +161,10 @@ pub on_err : {T E A B : Type 0} (r : Result T E) → OnErr r A → (A → B) →
 on_err (Ok x) h so = tt
 on_err (Err e) h so = so h
 
+pub on_any_err : {T E A : Type 0} (r : Result T E) → A → OnErr r A
+on_any_err (Ok x) a = tt
+on_any_err (Err e) a = a
+
 -- one client's table is changed, by what a map finds before and after
 pub change_made : (old new : List (List ℕ × ClientTable)) (client : List ℕ) (before table : ClientTable) (change : ClientTable → ClientTable)
     → unwrap_or (lookup (is_at (slice_cmp nat_cmp client)) old) nothing_sent ≡ before
@@ -190,11 +196,13 @@ order_kept old new client table updates sorted name before =
       | inr other ↦ rw (client_set old new client table updates name, other) before
     ]
 
-pub put_private : (put : Put) (content : Content) → content_after (effect_of put) content ≡ content
-put_private (put.Rows zone rows) content = refl
-put_private (put.NoZone zone) content = refl
-put_private (put.Received ids) content = refl
-put_private (put.Patterns zone patterns) content = refl
+-- a client's effect is no publication
+pub client_private : (effect : Effect) (client : List ℕ) → maker_of effect ≡ Client client → (content : Content) → content_after (effect_as effect) content ≡ content
+client_private (Publication changes) client own content = absurd cc
+client_private (ZonePut of_client zone rows) client own content = refl
+client_private (ZoneDropped of_client zone) client own content = refl
+client_private (ReceivedPut of_client ids) client own content = refl
+client_private (PatternsPut of_client zone patterns) client own content = refl
 
 -- ---- counts and installed SYSMODs
 

@@ -4,32 +4,13 @@ use Rattle.std.specs.BTreeMap.{insert_entry, is_at}
 use Rattle.std.specs.Cmp.Lexicographic.{slice_cmp}
 use Rattle.std.specs.Map.{lookup}
 use Rattle.std.specs.Ordering.{nat_cmp}
-use Rattle.zone_lists.specs.ZoneList.{RowsAscend}
 use Rattle.zone_lists.specs.declared.zones.ZoneRow.{ZoneRow}
-use Rattle.catalogue.specs.Ids.{Ascend}
-use Rattle.bureau_store.specs.Effect.{Effect, zone_put, zone_dropped, received_put, patterns_put}
 use Rattle.bureau_store.specs.Lists.{ClientTable}
-use Rattle.bureau_store.specs.Tables.{LastChange, PatternsAscend, ZoneTable, Zones, name_order, patterns_of, rows_of, zone_named}
+use Rattle.bureau_store.specs.Tables.{LastChange, ZoneTable, Zones, name_order, patterns_of, rows_of, zone_named}
 use Rattle.bureau_store.specs.Caller.{caller_with}
 use Rattle.bureau_store.specs.SetCallers.{token_of}
 use Rattle.bureau_store.specs.declared.caller.Caller.{Caller}
 use Rattle.bureau_store.specs.declared.caller.CallerRow.{CallerRow}
-use Rattle.bureau_store.specs.declared.kept.Put.{Put}
-use Rattle.bureau_store.specs.declared.kept.Put.TheVariants as put
-
--- what a put does to the tables
-abbrev pub effect_of : Put → Effect
-effect_of (put.Rows zone rows) = zone_put zone rows.items
-effect_of (put.NoZone zone) = zone_dropped zone
-effect_of (put.Received ids) = received_put ids.items
-effect_of (put.Patterns zone patterns) = patterns_put zone patterns.items
-
--- what is put ascends
-abbrev pub IsFit : Put → Type 0
-IsFit (put.Rows zone rows) = RowsAscend rows.items
-IsFit (put.NoZone zone) = Unit {0}
-IsFit (put.Received ids) = Ascend ids.items
-IsFit (put.Patterns zone patterns) = PatternsAscend patterns.items
 
 -- what a zone has, as a map of zones finds it
 abbrev pub rows_at : List ℕ → Zones → List ZoneRow

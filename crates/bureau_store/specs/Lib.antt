@@ -2,6 +2,7 @@ pub mod Caller
 pub mod CallerFault
 pub mod Callers
 pub mod Effect
+pub mod Effects
 pub mod Gathered
 pub mod Held
 pub mod Kept

@@ -2,11 +2,12 @@
 ghost use Rattle.std.specs.Prelude.{◌≡◌, ℕ, List, length, map, option_copied, unwrap_or, IfOk, OnOk, OnErr, if◌then◌else◌};
 ghost use Rattle.std.specs.Map.{keys_of};
 ghost use Rattle.std.specs.Str.{bytes_eq};
-ghost use Rattle.bureau_store.specs.Kept.{IsFit, effect_of};
+ghost use Rattle.bureau_store.specs.Effects.{IsAscending, effect_as};
 ghost use Rattle.bureau_store.specs.Lists.{client_after, client_in, nothing_sent};
 ghost use Rattle.bureau_store.specs.Tables.{NamesAscend};
 
-use crate::kept::{Client, Last, Put, Zone};
+use crate::Effect;
+use crate::kept::{Client, Last, Zone};
 use faults::NoMemory;
 use mcs_reader::Id;
 use std::alloc::Global;
@@ -24,13 +25,13 @@ pub(crate) fn make_for(
     alloc: Global,
     clients: &mut BTreeMap<Id, Client>,
     client: &Id,
-    put: Put,
+    effect: &Effect<'_>,
     last: Last,
 ) -> Result<(), NoMemory>
-    requires { IsFit put }
+    requires { IsAscending effect.now }
     ensures done { OnOk result ((name : List ℕ) → client_in clients.new.entries name
         ≡ (if bytes_eq client.now name
-        then client_after (effect_of put) last (client_in clients.old.entries name)
+        then client_after (effect_as effect.now) last (client_in clients.old.entries name)
         else client_in clients.old.entries name)) }
     ensures err { OnErr result ((name : List ℕ)
         → client_in clients.new.entries name ≡ client_in clients.old.entries name) }
@@ -39,10 +40,10 @@ pub(crate) fn make_for(
         → NamesAscend (keys_of (client_in clients.new.entries name).zones) }
 {
     if let Some(kept) = clients.get_mut(client) {
-        return kept.make(put, last);
+        return kept.make(effect, last);
     }
     let mut kept = Client::new(alloc);
-    kept.make(put, last)?;
+    kept.make(effect, last)?;
     clients.insert(*client, kept)?;
     Ok(())
 }

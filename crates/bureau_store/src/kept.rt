@@ -4,10 +4,12 @@ ghost use Rattle.std.specs.Map.{keys_of};
 ghost use Rattle.zone_lists.specs.ZoneList.{RowsAscend};
 ghost use Rattle.catalogue.specs.Ids.{Ascend};
 ghost use Rattle.bureau_store.specs.Effect.{zone_put, zone_dropped, received_put, patterns_put};
-ghost use Rattle.bureau_store.specs.Kept.{IsFit, effect_of, rows_at, patterns_at, with_zone};
+ghost use Rattle.bureau_store.specs.Effects.{IsAscending, effect_as};
+ghost use Rattle.bureau_store.specs.Kept.{rows_at, patterns_at, with_zone};
 ghost use Rattle.bureau_store.specs.Lists.{client_after, nothing_sent};
 ghost use Rattle.bureau_store.specs.Tables.{NamesAscend, PatternsAscend, zone_named};
 
+use crate::Effect;
 use faults::NoMemory;
 use mcs_reader::Id;
 use std::alloc::Global;
@@ -102,19 +104,6 @@ impl Zone {
     }
 }
 
-/// What a client puts, or drops.
-#[derive(Drop)]
-pub(crate) enum Put {
-    /// A zone's rows.
-    Rows(Id, Vec<ZoneRow>),
-    /// A zone that is there no more.
-    NoZone(Id),
-    /// The SYSMODs that it has received.
-    Received(Vec<Id>),
-    /// A zone's patterns.
-    Patterns(Id, Vec<Pattern>),
-}
-
 /// What is kept for a client.
 #[derive(Drop)]
 pub(crate) struct Client {
@@ -181,34 +170,31 @@ impl Client {
     }
 
     /// Makes a change, which is the client's last from now on. Where memory runs out, all is as it was.
-    pub(crate) fn make(&mut self, put: Put, last: Last) -> Result<(), NoMemory>
-        requires { IsFit put }
-        ensures done { OnOk result (self.new ≡ client_after (effect_of put) last self.old) }
+    pub(crate) fn make(&mut self, effect: &Effect<'_>, last: Last) -> Result<(), NoMemory>
+        requires { IsAscending effect.now }
+        ensures done { OnOk result (self.new ≡ client_after (effect_as effect.now) last self.old) }
         ensures err { OnErr result (self.new ≡ self.old) }
         ensures ascend { NamesAscend (keys_of self.new.zones) }
     {
-        match put {
-            Put::Rows(zone, rows) => self.put_rows(zone, rows, last),
-            Put::NoZone(zone) => {
-                self.drop_zone(&zone, last);
-                Ok(())
-            }
-            Put::Received(ids) => {
-                self.put_received(ids, last);
-                Ok(())
-            }
-            Put::Patterns(zone, patterns) => self.put_patterns(zone, patterns, last),
+        match *effect {
+            Effect::Publication { .. } => self.last = last,
+            Effect::ZonePut { zone, rows, .. } => self.put_rows(zone, rows, last)?,
+            Effect::ZoneDropped { zone, .. } => self.drop_zone(zone, last),
+            Effect::ReceivedPut { ids, .. } => self.put_received(ids, last)?,
+            Effect::PatternsPut { zone, patterns, .. } => self.put_patterns(zone, patterns, last)?,
         }
+        Ok(())
     }
 
-    fn put_rows(&mut self, zone: Id, rows: Vec<ZoneRow>, last: Last) -> Result<(), NoMemory>
-        requires { RowsAscend rows.items }
-        ensures done { OnOk result (self.new ≡ client_after (zone_put zone rows.items) last self.old) }
+    fn put_rows(&mut self, zone: &Id, rows: &[ZoneRow], last: Last) -> Result<(), NoMemory>
+        requires { RowsAscend rows.now }
+        ensures done { OnOk result (self.new ≡ client_after (zone_put zone.now rows.now) last self.old) }
         ensures err { OnErr result (self.new ≡ self.old) }
         ensures ascend { NamesAscend (keys_of self.new.zones) }
     {
-        let patterns = patterns_kept(self.alloc, &self.zones, &zone)?;
-        self.put_table(zone, Zone::new(rows, patterns), last)
+        let rows = Vec::from_slice(self.alloc, rows)?;
+        let patterns = patterns_kept(self.alloc, &self.zones, zone)?;
+        self.put_table(*zone, Zone::new(rows, patterns), last)
     }
 
     fn drop_zone(&mut self, zone: &Id, last: Last)
@@ -219,24 +205,27 @@ impl Client {
         self.last = last;
     }
 
-    fn put_received(&mut self, ids: Vec<Id>, last: Last)
-        requires { Ascend ids.items }
-        ensures done { self.new ≡ client_after (received_put ids.items) last self.old }
-        ensures ascend { NamesAscend (keys_of self.new.zones) }
-    {
-        self.received = ids;
-        self.last = last;
-    }
-
-    fn put_patterns(&mut self, zone: Id, patterns: Vec<Pattern>, last: Last) -> Result<(), NoMemory>
-        requires { PatternsAscend patterns.items }
-        ensures done { OnOk result
-            (self.new ≡ client_after (patterns_put zone patterns.items) last self.old) }
+    fn put_received(&mut self, ids: &[Id], last: Last) -> Result<(), NoMemory>
+        requires { Ascend ids.now }
+        ensures done { OnOk result (self.new ≡ client_after (received_put ids.now) last self.old) }
         ensures err { OnErr result (self.new ≡ self.old) }
         ensures ascend { NamesAscend (keys_of self.new.zones) }
     {
-        let rows = rows_kept(self.alloc, &self.zones, &zone)?;
-        self.put_table(zone, Zone::new(rows, patterns), last)
+        self.received = Vec::from_slice(self.alloc, ids)?;
+        self.last = last;
+        Ok(())
+    }
+
+    fn put_patterns(&mut self, zone: &Id, patterns: &[Pattern], last: Last) -> Result<(), NoMemory>
+        requires { PatternsAscend patterns.now }
+        ensures done { OnOk result
+            (self.new ≡ client_after (patterns_put zone.now patterns.now) last self.old) }
+        ensures err { OnErr result (self.new ≡ self.old) }
+        ensures ascend { NamesAscend (keys_of self.new.zones) }
+    {
+        let patterns = copy_patterns(self.alloc, patterns)?;
+        let rows = rows_kept(self.alloc, &self.zones, zone)?;
+        self.put_table(*zone, Zone::new(rows, patterns), last)
     }
 
     // Puts all that a zone has.

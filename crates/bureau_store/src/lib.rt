@@ -1,6 +1,7 @@
 //! What the bureau keeps: the published content, and for each caller what that caller sent.
 //!
 //! - [`Store`]: what every layer above keeps and reads all of it by, whether in lists or in a file
+//! - [`Effect`]: what a change does to what is kept
 //! - [`ListStore`]: the store in lists
 //! - [`Caller`], [`CallerRow`], [`Token`]: who calls, and by which token a caller is known
 //! - [`callers`]: reads the file of them; [`CALLER_RECORDS`]: how many it may have
@@ -28,6 +29,7 @@ mod by_token;
 mod caller;
 mod callers_file;
 mod clients;
+mod effect;
 mod fault;
 mod held;
 mod kept;
@@ -37,6 +39,7 @@ mod store;
 
 pub use caller::{Caller, CallerRow, Token};
 pub use callers_file::{CALLER_RECORDS, callers};
+pub use effect::Effect;
 pub use fault::{CallerFault, StoreFault};
 pub use faults::NoMemory;
 pub use list_store::ListStore;

@@ -4,9 +4,9 @@ ghost use Rattle.holddata.specs.HoldBook.{IsInKeyOrder};
 ghost use Rattle.zone_lists.specs.ZoneList.{RowsAscend};
 ghost use Rattle.catalogue.specs.Ids.{Ascend};
 ghost use Rattle.bureau_store.specs.Caller.{IsProper, caller_with};
-ghost use Rattle.bureau_store.specs.Effect.{publication, zone_put, zone_dropped, received_put, patterns_put, tables_after};
+ghost use Rattle.bureau_store.specs.Effect.{publication, tables_after};
+ghost use Rattle.bureau_store.specs.Effects.{IsAscending, effect_as, maker_of};
 ghost use Rattle.bureau_store.specs.Held.{held_in};
-ghost use Rattle.bureau_store.specs.Kept.{IsFit, effect_of};
 ghost use Rattle.bureau_store.specs.Lists.{IsOurs, Lists, client_in, last_in, tables_of};
 ghost use Rattle.bureau_store.specs.Tables.{NamesAscend, PatternsAscend, opened, patterns_of, rows_of, zone_named};
 ghost use Rattle.bureau_store.specs.declared.caller.Caller.TheVariants.{Client as OfClient, Publisher as OfPublisher};
@@ -18,8 +18,8 @@ mod published;
 use crate::by_token::{callers_by_token, copy_rows};
 use crate::clients::{client_of, make_for, zone_counts};
 use crate::held::held_among;
-use crate::kept::{Client, Last, Put, Zone, copy_patterns, zone_of};
-use crate::{Caller, CallerRow, Store, StoreFault};
+use crate::kept::{Client, Last, Zone, copy_patterns, zone_of};
+use crate::{Caller, CallerRow, Effect, Store, StoreFault};
 use catalogue::{Change, ListPublished};
 use faults::NoMemory;
 use holddata::{Hold, Kind};
@@ -180,17 +180,28 @@ impl ListStore {
         }
     }
 
-    // Makes a client's change. Where memory runs out, the tables are as they were.
-    fn make(&mut self, client: &Id, put: Put, number: u64, reply: &[u8]) -> Result<(), NoMemory>
-        requires { IsFit put }
+    // Makes a publication. Where memory runs out, the tables are as they were.
+    fn make_publication(&mut self, changes: &[Change], last: Last) -> Result<(), NoMemory>
         ensures done { OnOk result (tables_of self.new
-            ≡ tables_after (OfClient client.now) (effect_of put)
-            (record { number = number; reply = reply.now }) (tables_of self.old)) }
+            ≡ tables_after OfPublisher (publication changes.now) last (tables_of self.old)) }
         ensures err { OnErr result (tables_of self.new ≡ tables_of self.old) }
         ensures ours { IsOurs self.new }
     {
-        let last = Last::new(number, Vec::from_slice(self.alloc, reply)?);
-        make_for(self.alloc, &mut self.by_name, client, put, last)
+        self.published.publish(changes)?;
+        self.published_last = last;
+        Ok(())
+    }
+
+    // Makes a client's change. Where memory runs out, the tables are as they were.
+    fn make_client(&mut self, client: &Id, effect: &Effect<'_>, last: Last) -> Result<(), NoMemory>
+        requires client { maker_of effect.now ≡ OfClient client.now }
+        requires ascending { IsAscending effect.now }
+        ensures done { OnOk result (tables_of self.new
+            ≡ tables_after (maker_of effect.now) (effect_as effect.now) last (tables_of self.old)) }
+        ensures err { OnErr result (tables_of self.new ≡ tables_of self.old) }
+        ensures ours { IsOurs self.new }
+    {
+        make_for(self.alloc, &mut self.by_name, client, effect, last)
     }
 }
 
@@ -309,94 +320,24 @@ impl Store for ListStore {
         Ok(self.holds_in(client, zone, kind)?)
     }
 
-    fn publish(&mut self, number: u64, reply: &[u8], changes: &[Change]) -> Result<(), StoreFault>
+    fn make(&mut self, number: u64, reply: &[u8], effect: &Effect<'_>) -> Result<(), StoreFault>
+        requires { IsAscending effect.now }
         ensures done { OnOk result (tables_of self.new
-            ≡ tables_after OfPublisher (publication changes.now)
+            ≡ tables_after (maker_of effect.now) (effect_as effect.now)
             (record { number = number; reply = reply.now }) (tables_of self.old)) }
         ensures err { OnErr result (tables_of self.new ≡ tables_of self.old) }
         ensures ours { IsOurs self.new }
         ensures memory { IfErr result (λ fault. fault ≡ Memory) }
     {
         let last = Last::new(number, Vec::from_slice(self.alloc, reply)?);
-        self.published.publish(changes)?;
-        self.published_last = last;
+        match *effect {
+            Effect::Publication { changes } => self.make_publication(changes, last)?,
+            Effect::ZonePut { client, .. }
+            | Effect::ZoneDropped { client, .. }
+            | Effect::ReceivedPut { client, .. }
+            | Effect::PatternsPut { client, .. } => self.make_client(client, effect, last)?,
+        }
         Ok(())
-    }
-
-    fn put_zone(
-        &mut self,
-        client: &Id,
-        number: u64,
-        reply: &[u8],
-        zone: &Id,
-        rows: &[ZoneRow],
-    ) -> Result<(), StoreFault>
-        requires { RowsAscend rows.now }
-        ensures done { OnOk result (tables_of self.new
-            ≡ tables_after (OfClient client.now) (zone_put zone.now rows.now)
-            (record { number = number; reply = reply.now }) (tables_of self.old)) }
-        ensures err { OnErr result (tables_of self.new ≡ tables_of self.old) }
-        ensures ours { IsOurs self.new }
-        ensures memory { IfErr result (λ fault. fault ≡ Memory) }
-    {
-        let rows = Vec::from_slice(self.alloc, rows)?;
-        Ok(self.make(client, Put::Rows(*zone, rows), number, reply)?)
-    }
-
-    fn drop_zone(
-        &mut self,
-        client: &Id,
-        number: u64,
-        reply: &[u8],
-        zone: &Id,
-    ) -> Result<(), StoreFault>
-        ensures done { OnOk result (tables_of self.new
-            ≡ tables_after (OfClient client.now) (zone_dropped zone.now)
-            (record { number = number; reply = reply.now }) (tables_of self.old)) }
-        ensures err { OnErr result (tables_of self.new ≡ tables_of self.old) }
-        ensures ours { IsOurs self.new }
-        ensures memory { IfErr result (λ fault. fault ≡ Memory) }
-    {
-        Ok(self.make(client, Put::NoZone(*zone), number, reply)?)
-    }
-
-    fn put_received(
-        &mut self,
-        client: &Id,
-        number: u64,
-        reply: &[u8],
-        ids: &[Id],
-    ) -> Result<(), StoreFault>
-        requires { Ascend ids.now }
-        ensures done { OnOk result (tables_of self.new
-            ≡ tables_after (OfClient client.now) (received_put ids.now)
-            (record { number = number; reply = reply.now }) (tables_of self.old)) }
-        ensures err { OnErr result (tables_of self.new ≡ tables_of self.old) }
-        ensures ours { IsOurs self.new }
-        ensures memory { IfErr result (λ fault. fault ≡ Memory) }
-    {
-        let ids = Vec::from_slice(self.alloc, ids)?;
-        Ok(self.make(client, Put::Received(ids), number, reply)?)
-    }
-
-    fn put_patterns(
-        &mut self,
-        client: &Id,
-        number: u64,
-        reply: &[u8],
-        zone: &Id,
-        patterns: &[Pattern],
-    ) -> Result<(), StoreFault>
-        requires { PatternsAscend patterns.now }
-        ensures done { OnOk result (tables_of self.new
-            ≡ tables_after (OfClient client.now) (patterns_put zone.now patterns.now)
-            (record { number = number; reply = reply.now }) (tables_of self.old)) }
-        ensures err { OnErr result (tables_of self.new ≡ tables_of self.old) }
-        ensures ours { IsOurs self.new }
-        ensures memory { IfErr result (λ fault. fault ≡ Memory) }
-    {
-        let patterns = copy_patterns(self.alloc, patterns)?;
-        Ok(self.make(client, Put::Patterns(*zone, patterns), number, reply)?)
     }
 
     ghost tables_lawful = { lists_lawful };

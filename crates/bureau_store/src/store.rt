@@ -6,12 +6,13 @@ ghost use Rattle.catalogue.specs.Ids.{Ascend};
 ghost use Rattle.catalogue.specs.View.{IsLawful, IsOpen, Tells, View};
 ghost use Rattle.bureau_store.specs.Caller.{IsProper, caller_with};
 ghost use Rattle.bureau_store.specs.Effect.{publication, zone_put, zone_dropped, received_put, patterns_put};
+ghost use Rattle.bureau_store.specs.Effects.{IsAscending, effect_as, maker_of};
 ghost use Rattle.bureau_store.specs.Held.{held_in};
 ghost use Rattle.bureau_store.specs.Store.{AreOfOneStore, Makes, Reads, Update, greatest_number, update};
 ghost use Rattle.bureau_store.specs.Tables.{AreInOrder, NamesAscend, PatternsAscend, Tables, patterns_of, rows_of, zone_named};
 ghost use Rattle.bureau_store.specs.declared.caller.Caller.TheVariants.{Publisher, Client};
 
-use crate::{Caller, StoreFault};
+use crate::{Caller, Effect, StoreFault};
 use catalogue::{Change, Published};
 use holddata::{Hold, Kind};
 use mcs_reader::Id;
@@ -120,12 +121,24 @@ pub trait Store: Published {
             ≡ held_in tables.content (rows_of (zone_named zone.now (tables.zones client.now))) kind)) }
         ensures in_key_order { IfOk result (λ holds. IsInKeyOrder holds.items) };
 
+    /// Makes a change with this effect. Its number and reply are kept as the last of whoever makes it.
+    fn make(&mut self, number: u64, reply: &[u8], effect: &Effect<'_>) -> Result<(), StoreFault>
+        requires maker { IsProper (maker_of effect.now) }
+        requires number { number ≤ greatest_number }
+        requires ascending { IsAscending effect.now }
+        ensures makes { Makes tables_view outgrown
+            (update (maker_of effect.now) (effect_as effect.now) number reply.now)
+            self.old self.new result };
+
     /// Makes a publication of these changes to the content. Its number and reply are kept as the publisher's last.
     fn publish(&mut self, number: u64, reply: &[u8], changes: &[Change]) -> Result<(), StoreFault>
         requires { number ≤ greatest_number }
         ensures makes { Makes tables_view outgrown
             (update Publisher (publication changes.now) number reply.now)
-            self.old self.new result };
+            self.old self.new result }
+    {
+        self.make(number, reply, &Effect::Publication { changes })
+    }
 
     /// Puts a client's zone, which keeps its patterns where it was there before.
     fn put_zone(
@@ -141,7 +154,10 @@ pub trait Store: Published {
         requires ascending { RowsAscend rows.now }
         ensures makes { Makes tables_view outgrown
             (update (Client client.now) (zone_put zone.now rows.now) number reply.now)
-            self.old self.new result };
+            self.old self.new result }
+    {
+        self.make(number, reply, &Effect::ZonePut { client, zone, rows })
+    }
 
     /// Drops a client's zone with its patterns.
     fn drop_zone(
@@ -155,7 +171,10 @@ pub trait Store: Published {
         requires number { number ≤ greatest_number }
         ensures makes { Makes tables_view outgrown
             (update (Client client.now) (zone_dropped zone.now) number reply.now)
-            self.old self.new result };
+            self.old self.new result }
+    {
+        self.make(number, reply, &Effect::ZoneDropped { client, zone })
+    }
 
     /// Puts the list of SYSMODs that a client has received.
     fn put_received(
@@ -170,7 +189,10 @@ pub trait Store: Published {
         requires ascending { Ascend ids.now }
         ensures makes { Makes tables_view outgrown
             (update (Client client.now) (received_put ids.now) number reply.now)
-            self.old self.new result };
+            self.old self.new result }
+    {
+        self.make(number, reply, &Effect::ReceivedPut { client, ids })
+    }
 
     /// Puts the patterns of the fix categories that a client asks for in a zone that is there.
     fn put_patterns(
@@ -186,7 +208,15 @@ pub trait Store: Published {
         requires ascending { PatternsAscend patterns.now }
         ensures makes { Makes tables_view outgrown
             (update (Client client.now) (patterns_put zone.now patterns.now) number reply.now)
-            self.old self.new result };
+            self.old self.new result }
+    {
+        let effect = Effect::PatternsPut {
+            client,
+            zone,
+            patterns,
+        };
+        self.make(number, reply, &effect)
+    }
 
     /// What the view keeps to.
     ghost tables_lawful: { IsLawful tables_view };

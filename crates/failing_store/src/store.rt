@@ -2,8 +2,8 @@
 ghost use Rattle.std.specs.Prelude.{◌≡◌, ◌<◌, ◌≤◌, ◌⊎◌, false, true};
 ghost use Rattle.catalogue.specs.View.{most_failures};
 
-use bureau_store::{Caller, ListStore, Store, StoreFault};
-use catalogue::{Change, Published, SourceFault, Sysmod};
+use bureau_store::{Caller, Effect, ListStore, Store, StoreFault};
+use catalogue::{Published, SourceFault, Sysmod};
 use holddata::{Hold, Kind};
 use mcs_reader::Id;
 use zone_lists::{Pattern, ZoneRow};
@@ -197,66 +197,11 @@ impl Store for FailingStore {
         self.lists.held_in(client, zone, kind)
     }
 
-    fn publish(&mut self, number: u64, reply: &[u8], changes: &[Change]) -> Result<(), StoreFault> {
+    fn make(&mut self, number: u64, reply: &[u8], effect: &Effect<'_>) -> Result<(), StoreFault> {
         if self.fails() {
             return Err(StoreFault::Device);
         }
-        self.lists.publish(number, reply, changes)
-    }
-
-    fn put_zone(
-        &mut self,
-        client: &Id,
-        number: u64,
-        reply: &[u8],
-        zone: &Id,
-        rows: &[ZoneRow],
-    ) -> Result<(), StoreFault> {
-        if self.fails() {
-            return Err(StoreFault::Device);
-        }
-        self.lists.put_zone(client, number, reply, zone, rows)
-    }
-
-    fn drop_zone(
-        &mut self,
-        client: &Id,
-        number: u64,
-        reply: &[u8],
-        zone: &Id,
-    ) -> Result<(), StoreFault> {
-        if self.fails() {
-            return Err(StoreFault::Device);
-        }
-        self.lists.drop_zone(client, number, reply, zone)
-    }
-
-    fn put_received(
-        &mut self,
-        client: &Id,
-        number: u64,
-        reply: &[u8],
-        ids: &[Id],
-    ) -> Result<(), StoreFault> {
-        if self.fails() {
-            return Err(StoreFault::Device);
-        }
-        self.lists.put_received(client, number, reply, ids)
-    }
-
-    fn put_patterns(
-        &mut self,
-        client: &Id,
-        number: u64,
-        reply: &[u8],
-        zone: &Id,
-        patterns: &[Pattern],
-    ) -> Result<(), StoreFault> {
-        if self.fails() {
-            return Err(StoreFault::Device);
-        }
-        self.lists
-            .put_patterns(client, number, reply, zone, patterns)
+        self.lists.make(number, reply, effect)
     }
 
     ghost tables_lawful = { record {

@@ -10,9 +10,9 @@ use Rattle.sql_tables.specs.Changes.{changed, stored_after}
 use Rattle.sql_tables.specs.Rows.{change_row}
 use Rattle.sql_tables.specs.Stored.{is_of, name_of}
 use Rattle.sql_state.specs.Writing.{Changes}
-use Rattle.sql_writes.specs.Effects.{effect_as, maker_of}
+use Rattle.bureau_store.specs.Effects.{effect_as, maker_of}
 use Rattle.sql_writes.specs.Parts.{with_last, without_last}
-use Rattle.sql_writes.specs.declared.effect.Effect.{Effect}
+use Rattle.bureau_store.specs.declared.effect.Effect.{Effect}
 use Rattle.sql_writes.proofs.ChangeFacts.{both, changes_then}
 use Rattle.sql_writes.proofs.StoredFacts.{replaced_then}
 

@@ -14,9 +14,9 @@ use Rattle.sql_state.specs.Ours.{held_by}
 use Rattle.sql_state.specs.Writing.{Changes, IsKnown}
 use Rattle.sql_state.proofs.StopFacts.{was_clean}
 use Rattle.sql_writes.specs.Excused.{Excuses, IsExcused, Takes}
-use Rattle.sql_writes.specs.Effects.{effect_as}
+use Rattle.bureau_store.specs.Effects.{effect_as}
 use Rattle.sql_writes.specs.Room.{AreUpTo, IsRoomy, rows_made}
-use Rattle.sql_writes.specs.declared.effect.Effect.{Effect}
+use Rattle.bureau_store.specs.declared.effect.Effect.{Effect}
 use Rattle.sql_writes.proofs.ExcuseFacts.{still_excused}
 use Rattle.sql_writes.proofs.NumberFacts.{raised_up_to}
 

@@ -1,17 +1,19 @@
 //! A change, with its number and the reply that is kept for it.
 ghost use Rattle.std.specs.Prelude.{◌≡◌, ◌≤◌, ℕ, Some, true};
 ghost use Rattle.bureau_store.specs.Caller.{IsProper, publisher_name};
+ghost use Rattle.bureau_store.specs.Effects.{effect_as, maker_of};
 ghost use Rattle.bureau_store.specs.Store.{greatest_number};
 ghost use Rattle.sql_tables.specs.Changes.{changed};
 ghost use Rattle.sql_tables.specs.Stored.{name_of};
 ghost use Rattle.sql_tables.specs.Fit.{IsFit};
 ghost use Rattle.sql_writes.specs.Altering.{Alters, RefusesExcused, TakesRoom};
-ghost use Rattle.sql_writes.specs.Effects.{effect_as, maker_of, stored_by};
+ghost use Rattle.sql_writes.specs.Effects.{stored_by};
 ghost use Rattle.sql_writes.specs.Room.{HasRoom, IsRoomy, is_short_effect, rows_made};
 
 use crate::publication::put_changes;
 use crate::zone::keep_head;
-use crate::{Effect, delete, insert, load};
+use crate::{delete, insert, load};
+use bureau_store::Effect;
 use mcs_reader::Id;
 use sql_texts::write::{TableById, TableByZone};
 use sqlite::{Alter, Error, Transaction};

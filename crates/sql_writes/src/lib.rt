@@ -1,6 +1,6 @@
 //! What the bureau's changes write into a store's file, each in a transaction that is lent. Nothing is committed here.
 //!
-//! - [`write`]: a change of a client or of the publisher, with its number and its reply; [`Effect`]: what it does
+//! - [`write`]: a change of a client or of the publisher, with its number and its reply
 //! - [`set_callers`]: a store gets other callers
 //! - [`create`]: the tables of version 2 with the callers, in an empty database
 //! - [`migrate`]: the tables of version 1 become those of version 2, with the rows that they hold
@@ -13,7 +13,6 @@
 mod callers;
 mod change;
 mod delete;
-mod effect;
 mod free;
 mod insert;
 mod load;
@@ -28,6 +27,5 @@ mod zone;
 
 pub use callers::set_callers;
 pub use change::write;
-pub use effect::Effect;
 pub use migration::migrate;
 pub use tables::create;

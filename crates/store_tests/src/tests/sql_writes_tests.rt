@@ -1,14 +1,14 @@
 //! Changes over a database in memory: which rows stand after them.
 ghost use Rattle.std.specs.Prelude.{◌≡◌, IfOk};
 ghost use Rattle.bureau_store.specs.Caller.{IsProper, publisher_name};
+ghost use Rattle.bureau_store.specs.Effects.{maker_of};
 ghost use Rattle.bureau_store.specs.declared.caller.Caller.TheVariants.{Client};
-ghost use Rattle.sql_writes.specs.Effects.{maker_of};
 
 use super::tables::of_version_1;
-use bureau_store::callers;
+use bureau_store::{Effect, callers};
 use catalogue::read_changes;
 use mcs_reader::{Id, read};
-use sql_writes::{Effect, create, migrate, write};
+use sql_writes::{create, migrate, write};
 use sqlite::{Connection, MemStore, Transaction};
 use std::alloc::Global;
 use std::test::Fail;

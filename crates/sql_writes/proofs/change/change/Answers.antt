@@ -8,9 +8,9 @@ use Rattle.sql_writes.proofs.ChangeFacts.{both}
 use Rattle.sql_writes.proofs.LastFacts.{by_effect}
 use Rattle.sql_writes.proofs.StoredFacts.{replaced_then}
 use Rattle.sql_tables.specs.Fit.{IsFit}
-use Rattle.sql_writes.specs.Effects.{effect_as}
+use Rattle.bureau_store.specs.Effects.{effect_as}
 use Rattle.sql_writes.specs.Room.{is_short_effect}
-use Rattle.sql_writes.specs.declared.effect.Effect.{Effect}
+use Rattle.bureau_store.specs.declared.effect.Effect.{Effect}
 use Rattle.sql_writes.proofs.LeaveFacts.{none_head, none_received}
 use Rattle.sql_writes.proofs.TakeFacts.{takes_of, takes_then}
 use Rattle.sql_writes.proofs.change.change.Goals as goal

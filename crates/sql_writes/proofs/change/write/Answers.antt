@@ -3,7 +3,7 @@ use Rattle.sql_tables.specs.Changes.{changed}
 use Rattle.sql_writes.specs.Parts.{without_last}
 use Rattle.sql_writes.specs.Room.{rows_made}
 use Rattle.sql_writes.proofs.ChangeFacts.{changes_then}
-use Rattle.sql_writes.specs.Effects.{effect_as, maker_of}
+use Rattle.bureau_store.specs.Effects.{effect_as, maker_of}
 use Rattle.sql_writes.proofs.LastFacts.{last_after}
 use Rattle.sql_writes.proofs.LeaveFacts.{none_last}
 use Rattle.sql_writes.proofs.TakeFacts.{stopped_first, takes_excuse, takes_then}

@@ -8,7 +8,7 @@ use std::alloc::Global;
 use std::test::Fail;
 
 // A change of a client's with its number, and what the store tells of the client after it.
-type Change = (u64, Step<'static>, &'static str);
+type Change = (u32, Step<'static>, &'static str);
 
 static OF_ALPHA: [Change; 8] = [
     (

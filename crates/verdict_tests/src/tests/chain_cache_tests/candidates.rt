@@ -88,13 +88,13 @@ fn publish(
     alloc: Global,
     lists: &mut ListStore,
     cache: &mut ChainCache,
-    number: u64,
+    number: u32,
     source: &[u8],
 ) -> Result<(), Fail> {
     let changes = changes_of(alloc, source)?;
     let ids = touched(alloc, lists, &changes)?;
     <ChainCache as Judge<ListStore>>::drop_touched(cache, ids.as_slice());
-    lists.publish(number, source, &changes)?;
+    lists.publish(u64::from(number), source, &changes)?;
     Ok(())
 }
 
@@ -143,7 +143,7 @@ fn assert_after(
     mut lists: ListStore,
     cache: &mut ChainCache,
     zone: &Zone,
-    number: u64,
+    number: u32,
     source: &[u8],
 ) -> Result<ListStore, Fail> {
     publish(alloc, &mut lists, cache, number, source)?;

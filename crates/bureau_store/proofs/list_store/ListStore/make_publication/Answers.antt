@@ -1,7 +1,7 @@
 use Rattle.std.proofs.Common.{refl}
 use Rattle.bureau_store.specs.Lists.{Lists}
 use Rattle.bureau_store.proofs.StoreFacts.{publication_ordered}
-use Rattle.bureau_store.proofs.list_store.ListStoreStore.publish.Goals as goal
+use Rattle.bureau_store.proofs.list_store.ListStore.make_publication.Goals as goal
 
 pub invariant_of-self : goal.invariant_of-self
 invariant_of-self c =

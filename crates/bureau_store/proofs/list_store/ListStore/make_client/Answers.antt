@@ -1,23 +1,20 @@
-use Rattle.std.proofs.Common.{◌≡◌, ◌∙◌, ℕ, List, ap, refl, subst}
+use Rattle.std.proofs.Common.{◌≡◌, refl, subst, sym}
 use Rattle.bureau_store.specs.Effect.{tables_after}
-use Rattle.bureau_store.specs.Kept.{effect_of}
+use Rattle.bureau_store.specs.Effects.{effect_as, maker_of}
 use Rattle.bureau_store.specs.Lists.{Lists, tables_of}
-use Rattle.bureau_store.specs.Tables.{LastChange}
-use Rattle.bureau_store.specs.declared.caller.Caller.TheVariants.{Client}
+use Rattle.bureau_store.specs.declared.caller.Caller.{Caller}
 use Rattle.bureau_store.proofs.StoreFacts.{client_kept, client_made, client_ordered}
-use Rattle.bureau_store.proofs.TableFacts.{on_err, on_ok, put_private}
-use Rattle.bureau_store.proofs.list_store.ListStore.make.Goals as goal
+use Rattle.bureau_store.proofs.TableFacts.{client_private, on_err, on_ok}
+use Rattle.bureau_store.proofs.list_store.ListStore.make_client.Goals as goal
 
 pub returns-clause-done : goal.returns-clause-done
 returns-clause-done c =
     let old : Lists = record { callers = c.self.inside.rows.items; content = c.self.inside.published; publisher = c.self.inside.published_last; clients = c.self.inside.by_name.entries } in
     let new : Lists = record { callers = c.self.inside.rows.items; content = c.self.inside.published; publisher = c.self.inside.published_last; clients = c.make_for.new.clients.entries } in
-    let said : List ℕ → LastChange = λ reply. record { number = c.args.number; reply = reply } in
-    let last_is : c.new-last.result ≡ said c.args.reply.now = c.new-last.ensures ∙ ap said c.in_ok-from_slice.ensures.items in
     on_ok c.make_for.result c.make_for.ensures.done (λ made.
-    subst (λ (was : Lists). tables_of new ≡ tables_after (Client c.args.client.now) (effect_of c.args.put) (said c.args.reply.now) (tables_of was)) c.self.view_is (
-    subst (λ (last : LastChange). tables_of new ≡ tables_after (Client c.args.client.now) (effect_of c.args.put) last (tables_of old)) last_is (
-    client_made c.args.client.now (effect_of c.args.put) c.new-last.result old new (put_private c.args.put) refl refl refl made
+    subst (λ (was : Lists). tables_of new ≡ tables_after (maker_of c.args.effect.now) (effect_as c.args.effect.now) c.args.last (tables_of was)) c.self.view_is (
+    subst (λ (maker : Caller). tables_of new ≡ tables_after maker (effect_as c.args.effect.now) c.args.last (tables_of old)) (sym c.requires.client) (
+    client_made c.args.client.now (effect_as c.args.effect.now) c.args.last old new (client_private c.args.effect.now c.args.client.now c.requires.client) refl refl refl made
     )))
 
 pub returns-clause-err : goal.returns-clause-err

@@ -10,13 +10,13 @@ pub enum Effect<'a> {
     Publication {
         changes: &'a [Change],
     },
-    /// A client's zone gets these rows.
+    /// A client's zone gets these rows. It keeps its patterns where it was there before.
     ZonePut {
         client: &'a Id,
         zone: &'a Id,
         rows: &'a [ZoneRow],
     },
-    /// A client's zone is dropped.
+    /// A client's zone is dropped, with its patterns.
     ZoneDropped {
         client: &'a Id,
         zone: &'a Id,

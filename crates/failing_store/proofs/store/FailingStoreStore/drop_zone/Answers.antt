@@ -1,8 +1,0 @@
-use Rattle.failing_store.proofs.FailingFacts.{made_so, not_made}
-use Rattle.failing_store.proofs.store.FailingStoreStore.drop_zone.Goals as goal
-
-pub returns-then-fails : goal.returns-then-fails
-returns-then-fails c = record { makes = not_made _ _ _ c.fails.ensures.lists c.fails.ensures.rises (c.fails.ensures.fails c.if-fails.true) }
-
-pub returns : goal.returns
-returns c = record { makes = made_so _ _ _ _ c.fails.ensures.lists (c.fails.ensures.stands c.if-fails.false) c.drop_zone.ensures.ours c.drop_zone.result c.drop_zone.ensures.done c.drop_zone.ensures.err c.drop_zone.ensures.memory }
