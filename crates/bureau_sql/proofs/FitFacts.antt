@@ -10,6 +10,7 @@ use Rattle.bureau_store.specs.Caller.{IsProper, publisher_name}
 use Rattle.bureau_store.specs.declared.caller.Caller.TheVariants.{Client}
 use Rattle.zone_lists.specs.Pattern.{is_pattern}
 use Rattle.sql_tables.specs.Fit.{IsNamed}
+pub use Rattle.lemmas.proofs.ListFacts.{all_so as of_each}
 pub use Rattle.sql_writes.proofs.BoundFacts.{all_more as all_so_far}
 
 pub all_seen : {X : Type 0} (P : X → Type 0) (xs : List X) (i : ℕ) → length xs ≤ i → AllByRecursion P (take i xs) → AllByRecursion P xs

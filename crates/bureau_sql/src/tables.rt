@@ -16,12 +16,15 @@ use zone_lists::{Pattern, ZoneRow};
 
 impl<S: Alter> Store for SqlStore<S> {
     ghost use Rattle.bureau_sql.specs.Laws.{sql_holds_tables, sql_in_order, sql_lawful, sql_shows_content};
+    ghost use Rattle.bureau_sql.specs.Failing.{FailsToChange};
     ghost use Rattle.bureau_sql.specs.Outgrown.{HasNoRoom};
     ghost use Rattle.bureau_sql.specs.SqlView.{sql_view};
 
     ghost tables_view = { sql_view S.Store };
 
     ghost outgrown = { HasNoRoom };
+
+    ghost refuses = { FailsToChange S.Store };
 
     fn device_failed(&self) -> bool {
         self.failures > 0

@@ -11,6 +11,8 @@ use Rattle.bureau_store.specs.Tables.{AreInOrder, LastChange, Tables, Zones, no_
 use Rattle.bureau_store.specs.declared.caller.Caller.{Caller}
 use Rattle.bureau_store.specs.declared.caller.Caller.TheVariants.{Publisher, Client}
 use Rattle.bureau_store.specs.declared.caller.CallerRow.{CallerRow}
+use Rattle.bureau_store.specs.declared.fault.StoreFault.{StoreFault}
+use Rattle.bureau_store.specs.declared.fault.StoreFault.TheVariants.{Memory}
 
 -- what is kept for a client
 pub record ClientTable : Type 0 where
@@ -77,6 +79,10 @@ lists_view = record {
 
 abbrev pub NeverOutgrown : Update → Lists → Lists → Type 0
 NeverOutgrown update old new = ⊥
+
+-- a change is refused for want of memory alone
+abbrev pub RefusesForMemory : Update → Lists → Lists → StoreFault → Type 0
+RefusesForMemory update old new fault = fault ≡ Memory
 
 pub lists_lawful : IsLawful lists_view
 lists_lawful = record {

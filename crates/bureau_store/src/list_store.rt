@@ -206,13 +206,15 @@ impl ListStore {
 }
 
 impl Store for ListStore {
-    ghost use Rattle.bureau_store.specs.Lists.{NeverOutgrown, tables_of};
+    ghost use Rattle.bureau_store.specs.Lists.{NeverOutgrown, RefusesForMemory, tables_of};
     ghost use Rattle.bureau_store.specs.Lists.{lists_hold_tables, lists_in_order};
     ghost use Rattle.bureau_store.specs.Lists.{lists_lawful, lists_show_content, lists_view};
 
     ghost tables_view = { lists_view };
 
     ghost outgrown = { NeverOutgrown };
+
+    ghost refuses = { RefusesForMemory };
 
     fn device_failed(&self) -> bool
         ensures { result ≡ false }

@@ -1,5 +1,5 @@
 //! Where all that the bureau keeps is kept.
-ghost use Rattle.std.specs.Prelude.{◌≡◌, ◌≤◌, length, map, nat_lt, option_map, IfOk, IfSome, is_some};
+ghost use Rattle.std.specs.Prelude.{◌≡◌, ◌≤◌, length, map, nat_lt, option_map, IfErr, IfOk, IfSome, is_some};
 ghost use Rattle.holddata.specs.HoldBook.{IsInKeyOrder};
 ghost use Rattle.zone_lists.specs.ZoneList.{RowsAscend};
 ghost use Rattle.catalogue.specs.Ids.{Ascend};
@@ -11,6 +11,7 @@ ghost use Rattle.bureau_store.specs.Held.{held_in};
 ghost use Rattle.bureau_store.specs.Store.{AreOfOneStore, Makes, Reads, Update, greatest_number, update};
 ghost use Rattle.bureau_store.specs.Tables.{AreInOrder, NamesAscend, PatternsAscend, Tables, patterns_of, rows_of, zone_named};
 ghost use Rattle.bureau_store.specs.declared.caller.Caller.TheVariants.{Publisher, Client};
+ghost use Rattle.bureau_store.specs.declared.fault.StoreFault.{StoreFault};
 
 use crate::{Caller, Effect, StoreFault};
 use catalogue::{Change, Published};
@@ -37,6 +38,10 @@ pub trait Store: Published {
 
     /// Between these two, the change has outgrown the device: there was no room on it. In lists that never is.
     ghost outgrown: { Update → Self → Self → Type 0 };
+
+    /// Between these two, the change is refused with this fault: what each store says of it beyond what all do.
+    /// Lists refuse a change for want of memory alone.
+    ghost refuses: { Update → Self → Self → StoreFault → Type 0 };
 
     /// Whether the device has failed since the store was made. From then on every call is refused so. It takes no
     /// memory.
@@ -128,7 +133,10 @@ pub trait Store: Published {
         requires ascending { IsAscending effect.now }
         ensures makes { Makes tables_view outgrown
             (update (maker_of effect.now) (effect_as effect.now) number reply.now)
-            self.old self.new result };
+            self.old self.new result }
+        ensures cause { IfErr result (refuses
+            (update (maker_of effect.now) (effect_as effect.now) number reply.now)
+            self.old self.new) };
 
     /// Makes a publication of these changes to the content. Its number and reply are kept as the publisher's last.
     fn publish(&mut self, number: u64, reply: &[u8], changes: &[Change]) -> Result<(), StoreFault>
@@ -136,6 +144,9 @@ pub trait Store: Published {
         ensures makes { Makes tables_view outgrown
             (update Publisher (publication changes.now) number reply.now)
             self.old self.new result }
+        ensures cause { IfErr result (refuses
+            (update Publisher (publication changes.now) number reply.now)
+            self.old self.new) }
     {
         self.make(number, reply, &Effect::Publication { changes })
     }
@@ -155,6 +166,9 @@ pub trait Store: Published {
         ensures makes { Makes tables_view outgrown
             (update (Client client.now) (zone_put zone.now rows.now) number reply.now)
             self.old self.new result }
+        ensures cause { IfErr result (refuses
+            (update (Client client.now) (zone_put zone.now rows.now) number reply.now)
+            self.old self.new) }
     {
         self.make(number, reply, &Effect::ZonePut { client, zone, rows })
     }
@@ -172,6 +186,9 @@ pub trait Store: Published {
         ensures makes { Makes tables_view outgrown
             (update (Client client.now) (zone_dropped zone.now) number reply.now)
             self.old self.new result }
+        ensures cause { IfErr result (refuses
+            (update (Client client.now) (zone_dropped zone.now) number reply.now)
+            self.old self.new) }
     {
         self.make(number, reply, &Effect::ZoneDropped { client, zone })
     }
@@ -190,6 +207,9 @@ pub trait Store: Published {
         ensures makes { Makes tables_view outgrown
             (update (Client client.now) (received_put ids.now) number reply.now)
             self.old self.new result }
+        ensures cause { IfErr result (refuses
+            (update (Client client.now) (received_put ids.now) number reply.now)
+            self.old self.new) }
     {
         self.make(number, reply, &Effect::ReceivedPut { client, ids })
     }
@@ -209,6 +229,9 @@ pub trait Store: Published {
         ensures makes { Makes tables_view outgrown
             (update (Client client.now) (patterns_put zone.now patterns.now) number reply.now)
             self.old self.new result }
+        ensures cause { IfErr result (refuses
+            (update (Client client.now) (patterns_put zone.now patterns.now) number reply.now)
+            self.old self.new) }
     {
         let effect = Effect::PatternsPut {
             client,

@@ -4,7 +4,7 @@ use Rattle.catalogue.specs.View.{most_failures}
 use Rattle.catalogue.proofs.SourceFacts.{no_fault}
 use Rattle.bureau_store.proofs.StoreFacts.{not_device, not_size}
 use Rattle.bureau_store.specs.Lists.{IsOurs, Lists, tables_of}
-use Rattle.bureau_store.specs.Store.{Makes, Update, updated}
+use Rattle.bureau_store.specs.Store.{IsOfRead, Makes, Update, updated}
 use Rattle.bureau_store.specs.Tables.{Tables}
 use Rattle.bureau_store.specs.declared.fault.StoreFault.{StoreFault}
 use Rattle.bureau_store.specs.declared.fault.StoreFault.TheVariants.{Device, Memory, Size}
@@ -72,3 +72,8 @@ module _ {Done : Type 0} (asked : Update) (old new : FailingStore) (mid : Lists)
       → OnErr answer (tables_of new.lists ≡ tables_of mid) → IfErr answer (λ fault. fault ≡ Memory) → Changes asked old new answer
   made_so (Ok done) made kept memory = done_as done made
   made_so (Err fault) made kept memory = subst (λ f. Changes {Done = Done} asked old new (Err f)) (sym memory) (refused_as kept)
+
+-- want of memory is told of reads too
+pub short_as_read : {Done : Type 0} (answer : Result Done StoreFault) → IfErr answer (λ fault. fault ≡ Memory) → IfErr answer IsOfRead
+short_as_read (Ok done) memory = tt
+short_as_read (Err fault) memory = subst IsOfRead (sym memory) tt

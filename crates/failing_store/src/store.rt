@@ -116,12 +116,15 @@ impl Store for FailingStore {
     ghost use Rattle.std.specs.Prelude.{◌≡◌, ◌≤◌};
     ghost use Rattle.std.proofs.Common.{◌∙◌, ap, arith, refl, subst, sym};
     ghost use Rattle.bureau_store.specs.Lists.{IsOurs, tables_of};
+    ghost use Rattle.bureau_store.specs.Store.{IsOfRead};
     ghost use Rattle.bureau_store.specs.Tables.{AreInOrder};
     ghost use Rattle.failing_store.specs.Failing.{failing_view};
 
     ghost tables_view = { failing_view };
 
     ghost outgrown = { λ update old new. ⊥ };
+
+    ghost refuses = { λ update old new fault. IsOfRead fault };
 
     fn device_failed(&self) -> bool {
         self.failures > 0
