@@ -2,13 +2,11 @@
 use Rattle.std.specs.Prelude.{◌≡◌, ◌≤◌, ◌⊎◌, ℕ, ◌-◌, List, [], length, Option, Some, None}
 use Rattle.log_lines.specs.Words.{none, word_of}
 use Rattle.log_lines.specs.declared.note.Note.{Note}
-use Rattle.mcs_reader.specs.Id.{text_of}
 use Rattle.requests.specs.NextRequest.{IsNext, Next, clean_end, end_inside, refused, whole}
 use Rattle.requests.specs.Request.{Parts, path_of}
 use Rattle.requests.specs.Status.{code_of}
-use Rattle.bureau_store.specs.Caller.{publisher_name}
+use Rattle.bureau_store.specs.Caller.{name_text}
 use Rattle.bureau_store.specs.declared.caller.Caller.{Caller}
-use Rattle.bureau_store.specs.declared.caller.Caller.TheVariants.{Publisher, Client}
 use Rattle.bureau_store.specs.declared.caller.CallerRow.{CallerRow}
 use Rattle.bureau.specs.Outcome.{Answer, no_room}
 use Rattle.bureau_http.specs.Asked.{caller_in}
@@ -16,13 +14,9 @@ use Rattle.bureau_http.specs.Exchange.{Exchange, exchange_text, status_numbered}
 
 -- ---- who called
 
-abbrev pub name_of : Caller → List ℕ
-name_of Publisher = publisher_name
-name_of (Client name) = text_of name
-
 abbrev pub caller_word : Option Caller → List ℕ
 caller_word None = none
-caller_word (Some caller) = word_of (name_of caller)
+caller_word (Some caller) = word_of (name_text caller)
 
 -- it is the caller whose token a request has; or there was no room to learn whose it is
 abbrev pub IsKnown : List CallerRow → Parts → Answer → Option Caller → Type 0

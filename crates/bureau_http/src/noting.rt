@@ -1,7 +1,7 @@
 //! What the log notes of a request.
 ghost use Rattle.std.specs.Prelude.{◌≡◌, [], true};
 ghost use Rattle.log_lines.specs.Words.{none, word_of};
-ghost use Rattle.bureau_http.specs.Noted.{caller_word, name_of};
+ghost use Rattle.bureau_http.specs.Noted.{caller_word};
 ghost use Rattle.bureau_http.specs.Told.{IsToldAs};
 ghost use Rattle.requests.specs.NextRequest.{IsAt, parts_in, request_len};
 ghost use Rattle.requests.specs.Order.{is_bare};
@@ -58,17 +58,7 @@ fn caller_word(caller: Option<Caller>) -> Word
     ensures { result ≡ caller_word caller }
 {
     match caller {
-        Some(caller) => name_word(&caller),
+        Some(caller) => Word::of(caller.name()),
         None => Word::none(),
-    }
-}
-
-// The word of a caller's name.
-fn name_word(caller: &Caller) -> Word
-    ensures { result ≡ word_of (name_of caller.now) }
-{
-    match caller {
-        Caller::Publisher => Word::of(b"PUBLISH"),
-        Caller::Client(name) => Word::of(name.as_bytes()),
     }
 }

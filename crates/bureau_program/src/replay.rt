@@ -14,7 +14,7 @@ ghost use Rattle.transfer.specs.Transfer.{AppendsFront};
 use crate::cache::cache_of;
 use bureau::Bureau;
 use bureau_http::serve_list;
-use bureau_sql::SqlStore;
+use bureau_sql::{SqlStore, init};
 use bureau_store::{CallerRow, Store, StoreFault};
 use chain_cache::ChainCache;
 use faults::AnyFault;
@@ -125,11 +125,12 @@ fn serve_over<S: Alter + Drop>(
     ensures fault { IsAlwaysClean S.Store → IsNewDatabase (state S.Store conn)
         → IfErr result IsNotServed }
 {
-    let store = match SqlStore::init(alloc, conn, rows) {
-        Ok(store) => store,
-        Err((fault, _)) => return Err(of_store(fault)),
-    };
-    let mut bureau = Bureau::new(alloc, store, judge);
+    let mut conn = conn;
+    match init(&mut conn, rows) {
+        Ok(()) => {}
+        Err(fault) => return Err(of_store(fault)),
+    }
+    let mut bureau = Bureau::new(alloc, SqlStore::over(alloc, conn), judge);
     let served = serve_list(alloc, &mut bureau, files);
     if bureau.store().device_failed() {
         return Err(of_store(StoreFault::Device));

@@ -107,14 +107,3 @@ ours_new callers database named is = record {
 pub tables_new : (callers : List CallerRow) (database : Database) → AllByRecursion (λ (caller : CallerRow). IsId caller.name) callers → IsOpened callers database
     → tables_of (held_by database) ≡ tables.opened callers
 tables_new callers database named is = ap tables_of is.held ∙ opened_tables callers named
-
-module _ {S : Type 0} (g : Ghosts S) (store : SqlState S) (callers : List CallerRow) (named : AllByRecursion (λ (caller : CallerRow). IsId caller.name) callers)
-    (made : HasCleanDisk (shown g store) → IsTrue (shown g store).is_open × IsOpened callers (shown g store).committed) where
-  pub ours_made : IsAtRest (shown g store) → HasCleanDisk (shown g store) → IsOurStore g store
-  ours_made rests clean =
-      let is = made clean in
-      let ours = ours_new callers (shown g store).committed named is.1 in
-      (λ trees may. subst AreOurs (sym (rests trees is.0 may)) ours.rows, λ standing. (is.0, ours))
-
-  pub tables_made : HasCleanDisk (shown g store) → (sql_view g).stands store (tables.opened callers)
-  tables_made clean standing = tables_new callers (shown g store).committed named (made clean).1

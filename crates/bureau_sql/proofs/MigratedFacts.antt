@@ -217,14 +217,3 @@ after_is_ours before after was is = record {
     whole = subst IsWhole (sym is.held) was.rows.whole;
   };
 }
-
-module _ {S : Type 0} (g : Ghosts S) (conn : Held S) (store : SqlState S) (is_open : HasCleanDisk (shown g store) → IsTrue (shown g store).is_open)
-    (held : HasCleanDisk (shown g store) → IsOfVersion1 (state g conn).committed → HoldsAll (version_rows 2) (held_by_version_1 (state g conn).committed) (shown g store).committed) where
-  pub ours_migrated : IsAtRest (shown g store) → HasCleanDisk (shown g store) → IsOfVersion1 (state g conn).committed → IsOurStore g store
-  ours_migrated rests clean was =
-      let here = is_open clean in
-      let ours = after_is_ours (state g conn).committed (shown g store).committed was (held clean was) in
-      (λ trees may. subst AreOurs (sym (rests trees here may)) ours.rows, λ standing. (here, ours))
-
-  pub tables_migrated : HasCleanDisk (shown g store) → IsOfVersion1 (state g conn).committed → (sql_view g).stands store (tables_of (held_by_version_1 (state g conn).committed))
-  tables_migrated clean was standing = ap tables_of (held clean was).held

@@ -296,13 +296,6 @@ not_earlier text at new fault makes =
 
 -- ---- what is taken for a store
 
-module _ {S : Type 0} (g : Ghosts S) (conn : Held S) (store : SqlState S) (reads : OnlyReads (state g conn) (shown g store))
-    (is_open : HasCleanDisk (shown g store) → IsTrue (shown g store).is_open) where
-  pub ours_opened : IsAtRest (shown g store) → HasCleanDisk (shown g store) → IsOurs (state g conn).committed → IsOurStore g store
-  ours_opened rests clean ours =
-      let here = is_open clean in
-      let now : IsOurs (shown g store).committed = subst IsOurs (sym ((reads.keeps clean).committed here)) ours in
-      (λ trees may. subst AreOurs (sym (rests trees here may)) now.rows, λ standing. (here, now))
-
-  pub tables_opened : HasCleanDisk (shown g store) → (sql_view g).stands store (tables_of (held_by (state g conn).committed))
-  tables_opened clean standing = ap (λ database. tables_of (held_by database)) ((reads.keeps clean).committed (is_open clean))
+-- a store over a connection that holds the bureau's own database
+pub our_store : {S : Type 0} (g : Ghosts S) (store : SqlState S) → IsAtRest (shown g store) → IsTrue (shown g store).is_open → IsOurs (shown g store).committed → IsOurStore g store
+our_store g store rests here ours = (λ trees may. subst AreOurs (sym (rests trees here may)) ours.rows, λ standing. (here, ours))

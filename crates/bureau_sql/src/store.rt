@@ -4,10 +4,13 @@ ghost use Rattle.catalogue.specs.View.{HasFailed};
 ghost use Rattle.catalogue.specs.declared.fault.SourceFault.TheVariants.{Device, Memory};
 ghost use Rattle.bureau_store.specs.Store.{IsOfCall, IsOfRead};
 ghost use Rattle.bureau_store.specs.declared.fault.StoreFault.TheVariants.{Device as StoreDevice, Memory as StoreMemory, Size as StoreSize};
+ghost use Rattle.sqlite.specs.Held.{state};
 ghost use Rattle.sqlite.specs.State.{HasCleanDisk, store_error};
 ghost use Rattle.sqlite_trees.specs.declared.error.StoreError.TheVariants.{OutOfMemory};
+ghost use Rattle.sql_state.specs.Ours.{IsOurs, held_by};
 ghost use Rattle.sql_state.specs.Reading.{HasFailed as HasFailedSince, OnlyReads};
-ghost use Rattle.bureau_sql.specs.SqlView.{IsAtRest, shown, sql_view};
+ghost use Rattle.sql_tables.specs.Stored.{tables_of};
+ghost use Rattle.bureau_sql.specs.SqlView.{IsAtRest, IsOurStore, shown, sql_view};
 ghost use Rattle.bureau_sql.specs.Told.{IsOutOfRoom, IsRefusedAs, IsRefusedFor, IsTold};
 
 use crate::probe::look;
@@ -49,11 +52,16 @@ impl<S: Alter> Model for SqlStore<S> {
 }
 
 impl<S: Alter> SqlStore<S> {
-    // A store over a connection that has not failed.
-    pub(crate) fn over(alloc: Global, conn: Connection<S>) -> SqlStore<S>
+    /// The store that a connection holds, where one was made, found or migrated there. Nothing is looked at, and no failure
+    /// is counted yet. The connection isn't in a transaction.
+    pub fn over(alloc: Global, conn: Connection<S>) -> SqlStore<S>
         requires rest { conn.in_transaction ≡ false }
         ensures same { (result.conn ≡ conn) × (result.failures ≡ 0) }
         ensures seen { result.unseen ≡ false }
+        ensures ours { IsTrue (state S.Store conn).is_open → IsOurs (state S.Store conn).committed
+            → IsOurStore S.Store result }
+        ensures tables { (sql_view S.Store).stands result
+            (tables_of (held_by (state S.Store conn).committed)) }
         ensures rests { IsAtRest (shown S.Store result) }
     {
         SqlStore {

@@ -6,7 +6,7 @@ use Rattle.std.specs.declared.alloc.Global.{Global}
 use Rattle.std.specs.Io.KnownBytes.{Appends, Keeps}
 use Rattle.std.specs.List.Sorted.{IsPermutation}
 use Rattle.bureau_sql.specs.Files.{HoldTrees, HoldsStore}
-use Rattle.bureau_sql.specs.Opening.{IsNoStore}
+use Rattle.bureau_sql.specs.Opening.{HasConditions, HasTables, IsNoStore}
 use Rattle.bureau_sql.specs.SqlView.{IsAtRest}
 use Rattle.bureau_store.specs.Store.{IsOfRead}
 use Rattle.bureau_store.specs.Tables.{NamesAscend, Tables}
@@ -37,6 +37,7 @@ use Rattle.sql_checks.specs.declared.checking.Finding.{Finding}
 use Rattle.sql_checks.specs.declared.checking.Finding.TheVariants.{OtherTables, OtherVersion, Whole, WrongRow}
 use Rattle.sql_checks.specs.declared.table.StoreTable.{StoreTable}
 use Rattle.sql_checks.specs.declared.tallies.StoreTally.{StoreTally}
+use Rattle.sql_reads.specs.Version.{HasVersion}
 use Rattle.sql_reads.specs.declared.fault.ReadFault.{ReadFault}
 use Rattle.sql_reads.specs.declared.fault.ReadFault.TheVariants as fault
 use Rattle.sql_state.proofs.StopFacts.{read_on, was_clean}
@@ -46,7 +47,7 @@ use Rattle.sql_state.specs.Reading.{OnlyReads}
 use Rattle.sql_tables.specs.Stored.{tables_of}
 use Rattle.sql_texts.specs.Found.{shown}
 use Rattle.sql_texts.specs.Schema.{bureau}
-use Rattle.store_runs.specs.Checking.{IsCheck, IsCheckOutput, IsCheckRun, IsCheckTold, IsSeenWhole, IsSeenWrong, IsServable, IsTextOf, IsToldAs, IsToldOfRead, IsToldWhole, IsUntold, IsWrong, check_fault_in, check_status, in_no_table}
+use Rattle.store_runs.specs.Checking.{IsCheck, IsCheckOutput, IsCheckRun, IsCheckTold, IsSeenWhole, IsSeenWrong, IsTextOf, IsToldAs, IsToldOfRead, IsToldWhole, IsUntold, IsWrong, check_fault_in, check_status, in_no_table}
 use Rattle.store_runs.specs.Desk.{of_store}
 use Rattle.store_runs.specs.Ended.{HasEnded, HasFound, IsEndOf, IsRefused}
 use Rattle.store_runs.specs.Keeping.{HasNoTables, Keeps as Always, KeepsFound, TellsOnly}
@@ -122,6 +123,13 @@ tally_refused old mid new refused told (inr device) first second cause = inr (in
 ))
 
 -- ---- what is told of the store of a connection
+
+-- a connection that a desk would serve
+pub record IsServable (before after : State) : Type 0 where
+  pub reads : OnlyReads before after
+  pub is_open : HasCleanDisk after → IsTrue after.is_open
+  pub version : HasCleanDisk after → HasVersion (Some 2) before.committed
+  pub found : HasCleanDisk after → HasTables before.committed.schema × HasConditions before.committed.schema
 
 module _ (before opened after : State) (servable : IsServable before opened) (reads : OnlyReads opened after) where
   open_before : HasCleanDisk after → HasCleanDisk opened

@@ -4,6 +4,7 @@ use Rattle.std.specs.Io.KnownBytes.{Keeps}
 use Rattle.faults.specs.declared.any.AnyFault.{AnyFault}
 use Rattle.bureau_sql.proofs.CallersFacts.{callers_fit}
 use Rattle.bureau_sql.specs.Founded.{AreFounded, FailsToFound, IsNotMade}
+use Rattle.bureau_sql.specs.Opening.{HasConditions, HasTables}
 use Rattle.bureau_sql.specs.SqlState.{SqlState}
 use Rattle.bureau_sql.specs.SqlView.{IsAtRest, IsOurStore, shown, sql_view}
 use Rattle.sqlite_disk.specs.declared.Disk as disk
@@ -13,12 +14,16 @@ use Rattle.sqlite_wal.specs.Recovery.{Image}
 use Rattle.sqlite.specs.Files.{file_state}
 use Rattle.sqlite.specs.Held.{Held, state}
 use Rattle.sqlite.specs.State.{HasCleanDisk, KeepsCommit, State, Survives}
-use Rattle.sql_writes.specs.Making.{AreFit, IsEmpty, IsOpened}
+use Rattle.sql_reads.specs.Version.{HasVersion}
+use Rattle.sql_state.specs.Earlier.{IsOfVersion1}
+use Rattle.sql_state.specs.Ours.{IsOurs, held_by}
+use Rattle.sql_state.specs.Reading.{OnlyReads}
+use Rattle.sql_tables.specs.Stored.{tables_of}
+use Rattle.sql_writes.specs.Making.{AreFit}
 use Rattle.bureau_store.specs.Callers.{callers_of}
-use Rattle.bureau_store.specs.Tables as tables
 use Rattle.bureau_store.specs.declared.caller.CallerRow.{CallerRow}
 use Rattle.bureau_store.specs.declared.fault.StoreFault.{StoreFault}
-use Rattle.store_runs.specs.Desk.{InitSurvives, IsInitLeft, IsInitRefused, IsInitRun, IsNewStore, IsOpenRefused, of_store}
+use Rattle.store_runs.specs.Desk.{HasOpened, InitSurvives, IsInitLeft, IsInitRefused, IsInitRun, IsNewStore, IsOpenRefused, of_store}
 use Rattle.store_runs.specs.Ended.{HasFound, IsEndOf, IsNothing, IsRefused}
 use Rattle.run_parts.specs.Outputs.{IsTold, fault_in, run_status, IsToldAlone, Outputs}
 use Rattle.store_runs.specs.NamedStore.{IsInit, IsNotBegun}
@@ -77,20 +82,27 @@ founded source rows slice before after read same survives = record {
   ];
 }
 
--- the store that was made, by its connection
-pub new_store : {S : Type 0} (g : Ghosts S) (store : SqlState S) (conn : Held S) (rows : List CallerRow) (before : State) → conn ≡ store.conn → store.failures ≡ 0
-    → (HasCleanDisk (shown g store) → IsTrue (shown g store).is_open × IsEmpty before.committed × IsOpened rows (shown g store).committed)
-    → (HasCleanDisk (shown g store) → IsOurStore g store) → (HasCleanDisk (shown g store) → (sql_view g).stands store (tables.opened rows)) → IsAtRest (shown g store)
-    → HasCleanDisk (state g conn) → IsNewStore rows (state g conn)
-new_store g store conn rows before same standing made ours tables rests clean =
-    let here = subst (λ (conn : Held _). HasCleanDisk (state g conn)) same clean in
-    subst (λ (conn : Held _). IsNewStore rows (state g conn)) (sym same) (record {
-      is_open = (made here).0;
-      opened = (made here).2;
-      ours = ((ours here).1 standing).1;
-      tables = tables here standing;
+-- ---- a store that is opened
+
+-- the store over a connection in which one was found
+pub opened_over : {S : Type 0} (g : Ghosts S) (before : State) (conn : Held S) (store : SqlState S) → (store.conn ≡ conn) × (store.failures ≡ 0) → OnlyReads before (state g conn)
+    → (HasCleanDisk (state g conn) → IsTrue (state g conn).is_open) → (HasCleanDisk (state g conn) → HasVersion (Some 2) before.committed)
+    → (HasCleanDisk (state g conn) → HasTables before.committed.schema × HasConditions before.committed.schema) → (HasCleanDisk (state g conn) → IsOfVersion1 before.committed → ⊥)
+    → (IsTrue (state g conn).is_open → IsOurs (state g conn).committed → IsOurStore g store) → (sql_view g).stands store (tables_of (held_by (state g conn).committed)) → IsAtRest (shown g store)
+    → HasOpened g before store
+opened_over g before conn store is reads is_open version found other ours tables rests =
+    let back : HasCleanDisk (shown g store) → HasCleanDisk (state g conn) = subst (λ (at : Held _). HasCleanDisk (state g at)) is.0 in
+    let same : HasCleanDisk (state g conn) → (state g conn).committed ≡ before.committed = λ clean. (reads.keeps clean).committed (is_open clean) in
+    record {
+      opened = is.1;
+      reads = subst (λ (at : Held _). OnlyReads before (state g at)) (sym is.0) reads;
+      version = λ clean. version (back clean);
+      other = λ clean. other (back clean);
+      found = λ clean. found (back clean);
+      ours = λ clean was. ours (is_open (back clean)) (subst IsOurs (sym (same (back clean))) was);
+      tables = λ clean. subst (λ database. (sql_view g).stands store (tables_of (held_by database))) (same (back clean)) tables;
       rests = rests;
-    })
+    }
 
 -- ---- what is told
 

@@ -25,26 +25,6 @@ use Rattle.run_parts.specs.ProgramFault.{of_program}
 use Rattle.store_runs.specs.declared.ended.Ended.{Ended}
 use Rattle.run_parts.specs.declared.fault.ProgramFault.TheVariants.{NotWritten}
 
--- the store that was opened has the tables of the database that was there
-pub has_migrated : {S : Type 0} (g : Ghosts S) (before : State) (store : SqlState S) → store.failures ≡ 0
-    → (HasCleanDisk (shown g store) → HasVersion (Some 1) before.committed)
-    → (HasCleanDisk (shown g store) → HasTables before.committed.schema × CanMakeConditions before.committed.schema)
-    → (HasCleanDisk (shown g store) → IsOfVersion1 before.committed → IsOurStore g store)
-    → (HasCleanDisk (shown g store) → IsOfVersion1 before.committed → (sql_view g).stands store (tables_of (held_by_version_1 before.committed)))
-    → IsAtRest (shown g store) → HasMigrated before (shown g store)
-has_migrated g before store open_still version found ours tables rests =
-    λ clean. (
-      version clean,
-      (found clean).0,
-      (found clean).1,
-      λ earlier. record {
-        is_open = ((ours clean earlier).1 open_still).0;
-        ours = ((ours clean earlier).1 open_still).1;
-        tables = tables clean earlier open_still;
-        rests = rests;
-      },
-    )
-
 -- it is migrated, whether or not the line could be written
 pub migrated : {T : Type 0} (outcome : Result T AnyFault) (before after : State) → HasMigrated before after
     → IfErr outcome (λ fault. fault ≡ of_program NotWritten) → IsMigrateLeft (fault_in outcome) before after

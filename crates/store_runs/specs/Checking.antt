@@ -155,13 +155,6 @@ pub record IsCheck (stores : List ℕ → Image → Type 0) (from : Image) {D : 
 
 -- ---- No part of what is promised: private contracts cite it.
 
--- a connection that a desk would serve
-pub record IsServable (before after : State) : Type 0 where
-  pub reads : OnlyReads before after
-  pub is_open : HasCleanDisk after → IsTrue after.is_open
-  pub version : HasCleanDisk after → HasVersion (Some 2) before.committed
-  pub found : HasCleanDisk after → HasTables before.committed.schema × HasConditions before.committed.schema
-
 -- what is seen of an open connection: that it is whole, and how much it has
 abbrev pub IsSeenWhole : State → State → List ℕ → Type 0
 IsSeenWhole before after text =

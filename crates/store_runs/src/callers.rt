@@ -4,20 +4,15 @@ ghost use Rattle.std.specs.Io.KnownBytes.{Appends};
 ghost use Rattle.run_parts.specs.Outputs.{fault_in, outputs_of};
 ghost use Rattle.run_parts.specs.declared.fault.ProgramFault.TheVariants.{Memory};
 ghost use Rattle.store_runs.specs.Callers.{IsCallersOutput, IsCallersRun, IsLineLost, callers_text, connection_set, store_set};
-ghost use Rattle.store_runs.specs.Desk.{HasOpened};
 ghost use Rattle.store_runs.specs.NamedStore.{HasRows, IsCallers, IsNotBegun};
-ghost use Rattle.bureau_sql.specs.Opening.{IsNoStore};
-ghost use Rattle.bureau_sql.specs.SqlView.{IsAtRest};
-ghost use Rattle.sql_state.specs.Reading.{OnlyReads};
 ghost use Rattle.sqlite.specs.Held.{state};
-ghost use Rattle.sqlite.specs.State.{HasCleanDisk};
 ghost use Rattle.sqlite_wal.specs.Files.{image_at};
 
-use crate::desk::{callers_in, of_store};
+use crate::desk::{callers_in, of_store, open};
 use crate::ended::{Ended, end};
 use crate::stores::Stores;
 use bureau_sql::SqlStore;
-use bureau_store::{CallerCounts, CallerRow, StoreFault};
+use bureau_store::{CallerCounts, CallerRow};
 use faults::AnyFault;
 use itoa::Buffer;
 use run_parts::{Files, ProgramFault, printed, read_file, told};
@@ -64,24 +59,6 @@ fn open_and_set<S: Alter + Drop, W: Write>(
             (outcome, store.into_connection())
         }
         Err((fault, conn)) => (Err(of_store(fault)), conn),
-    }
-}
-
-// The store of a connection.
-fn open<S: Alter + Drop>(
-    alloc: Global,
-    conn: Connection<S>,
-) -> Result<SqlStore<S>, (StoreFault, Connection<S>)>
-    requires rest { conn.in_transaction ≡ false }
-    ensures opened { IfOk result (HasOpened S.Store (state S.Store conn)) }
-    ensures rested { IsAtRest (state S.Store conn) }
-    ensures reads { IfErr result (λ refused. OnlyReads (state S.Store conn) (state S.Store refused.1)) }
-    ensures cause { IfErr result (λ refused. HasCleanDisk (state S.Store refused.1)
-        → IsNoStore (state S.Store conn) (state S.Store refused.1) refused.0) }
-{
-    match SqlStore::open(alloc, conn) {
-        Ok(store) => Ok(store),
-        Err(refused) => Err(refused),
     }
 }
 

@@ -1,7 +1,6 @@
 //! `check`: a store is looked through.
 ghost use Rattle.std.specs.Prelude.{◌≡◌, ◌≢◌, false, IfErr, IfOk, OnErr, OnOk};
 ghost use Rattle.std.specs.Io.KnownBytes.{Appends};
-ghost use Rattle.bureau_sql.specs.Opening.{IsNoStore};
 ghost use Rattle.bureau_sql.specs.SqlView.{IsAtRest};
 ghost use Rattle.sqlite.specs.Held.{state};
 ghost use Rattle.sqlite.specs.State.{HasCleanDisk};
@@ -15,13 +14,13 @@ ghost use Rattle.sql_checks.specs.declared.checking.Finding.TheVariants as findi
 ghost use Rattle.sql_state.specs.Ours.{IsOurs, held_by};
 ghost use Rattle.sql_state.specs.Reading.{OnlyReads};
 ghost use Rattle.sql_tables.specs.Stored.{tables_of};
-ghost use Rattle.store_runs.specs.Checking.{IsCheck, IsCheckOutput, IsCheckRun, IsCheckTold, IsSeenWhole, IsSeenWrong, IsServable, IsTextOf, IsToldAs, IsToldOfRead, IsUntold, check_fault_in, check_line, check_status, in_no_table};
+ghost use Rattle.store_runs.specs.Checking.{IsCheck, IsCheckOutput, IsCheckRun, IsCheckTold, IsSeenWhole, IsSeenWrong, IsTextOf, IsToldAs, IsToldOfRead, IsUntold, check_fault_in, check_line, check_status, in_no_table};
 ghost use Rattle.transfer.specs.Transfer.{AppendsFront};
 
 use crate::desk::of_store;
 use crate::ended::{Ended, end};
 use crate::stores::Stores;
-use bureau_sql::SqlStore;
+use bureau_sql::find_store;
 use bureau_store::StoreFault;
 use faults::AnyFault;
 use run_parts::{ProgramFault, exit_status, printed, report, tell_in};
@@ -38,27 +37,28 @@ pub struct CheckFault {
     pub table: Option<StoreTable>,
 }
 
-/// Looks the store in the database of a connection through, and prints how much it has. Returns the exit status,
-/// and the connection, at rest.
+/// Looks the store in the database of a connection through, and prints how much it has. Returns the exit status.
 ///
 /// Nothing is written to the database. A fault is told on `errors` alone, with the name of the table that has a
 /// wrong row.
-pub fn run_check<S: Alter + Drop, W: Write, E: Write>(
+pub fn run_check<S: Alter, W: Write, E: Write>(
     alloc: Global,
-    conn: Connection<S>,
+    conn: &mut Connection<S>,
     writer: &mut W,
     errors: &mut E,
-) -> (u8, Connection<S>)
-    requires rest { conn.in_transaction ≡ false }
-    ensures run { IsCheckRun (λ outcome. IsCheckOutput outcome (state S.Store conn) (state S.Store result.1)
+) -> u8
+    requires rest { conn.old.in_transaction ≡ false }
+    ensures run { IsCheckRun
+        (λ outcome. IsCheckOutput outcome (state S.Store conn.old) (state S.Store conn.new)
         (W.contents writer.old) (W.contents writer.new))
-        (E.contents errors.old) (E.contents errors.new) result.0 }
-    ensures reads { OnlyReads (state S.Store conn) (state S.Store result.1) }
-    ensures rested { IsAtRest (state S.Store conn) }
-    ensures rest { result.1.in_transaction ≡ false }
+        (E.contents errors.old) (E.contents errors.new) result }
+    ensures reads { OnlyReads (state S.Store conn.old) (state S.Store conn.new) }
+    ensures rested { IsAtRest (state S.Store conn.old) }
+    ensures rest { conn.new.in_transaction ≡ false }
 {
-    let (outcome, conn) = check_and_print(alloc, conn, writer);
-    (told_in(errors, outcome), conn)
+    let _rested = conn.is_autocommit();
+    let outcome = check_and_print(alloc, conn, writer);
+    told_in(errors, outcome)
 }
 
 /// The same of the store that a file has. A file that isn't there is not made. Returns the exit status, and what is
@@ -77,53 +77,32 @@ pub fn check_file<S: Stores, D: Start, W: Write, E: Write>(
 {
     match surroundings.connect(store, false, start) {
         Ok(conn) => {
-            let (status, conn) = run_check(alloc, conn, writer, errors);
+            let mut conn = conn;
+            let status = run_check(alloc, &mut conn, writer, errors);
             (status, end(conn))
         }
         Err((fault, ended)) => (told_in(errors, Err(in_no_table(of_store(fault)))), ended),
     }
 }
 
-// Looks the store through, and prints how much it has.
-fn check_and_print<S: Alter + Drop, W: Write>(
+// Looks the store through, where a desk would serve it, and prints how much it has.
+fn check_and_print<S: Alter, W: Write>(
     alloc: Global,
-    conn: Connection<S>,
+    conn: &mut Connection<S>,
     writer: &mut W,
-) -> (Result<(), CheckFault>, Connection<S>)
-    requires rest { conn.in_transaction ≡ false }
-    ensures output { IsCheckOutput (check_fault_in result.0) (state S.Store conn) (state S.Store result.1)
+) -> Result<(), CheckFault>
+    requires rest { conn.old.in_transaction ≡ false }
+    ensures output { IsCheckOutput (check_fault_in result) (state S.Store conn.old) (state S.Store conn.new)
         (W.contents writer.old) (W.contents writer.new) }
-    ensures reads { OnlyReads (state S.Store conn) (state S.Store result.1) }
-    ensures rest { result.1.in_transaction ≡ false }
+    ensures reads { OnlyReads (state S.Store conn.old) (state S.Store conn.new) }
+    ensures rest { conn.new.in_transaction ≡ false }
 {
-    match servable(alloc, conn) {
-        Ok(conn) => {
-            let mut conn = conn;
-            match look(alloc, &mut conn) {
-                Ok(text) => (print(writer, text.as_slice()), conn),
-                Err(told) => (Err(told), conn),
-            }
-        }
-        Err((fault, conn)) => (Err(in_no_table(of_store(fault))), conn),
-    }
-}
-
-// The connection, where a desk would serve its store.
-fn servable<S: Alter + Drop>(
-    alloc: Global,
-    conn: Connection<S>,
-) -> Result<Connection<S>, (StoreFault, Connection<S>)>
-    requires rest { conn.in_transaction ≡ false }
-    ensures opened { IfOk result (λ opened. IsServable (state S.Store conn) (state S.Store opened)) }
-    ensures opened_rest { IfOk result (λ opened. opened.in_transaction ≡ false) }
-    ensures refused { IfErr result (λ refused. OnlyReads (state S.Store conn) (state S.Store refused.1)) }
-    ensures rest { IfErr result (λ refused. refused.1.in_transaction ≡ false) }
-    ensures cause { IfErr result (λ refused. HasCleanDisk (state S.Store refused.1)
-        → IsNoStore (state S.Store conn) (state S.Store refused.1) refused.0) }
-{
-    match SqlStore::open(alloc, conn) {
-        Ok(store) => Ok(store.into_connection()),
-        Err(refused) => Err(refused),
+    match find_store(conn) {
+        Ok(()) => match look(alloc, conn) {
+            Ok(text) => print(writer, text.as_slice()),
+            Err(told) => Err(told),
+        },
+        Err(fault) => Err(in_no_table(of_store(fault))),
     }
 }
 

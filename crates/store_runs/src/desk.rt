@@ -2,17 +2,18 @@
 ghost use Rattle.std.specs.Prelude.{◌≡◌, false, IfErr, IfOk, OnOk};
 ghost use Rattle.run_parts.specs.Files.{IsContent};
 ghost use Rattle.run_parts.specs.Outputs.{fault_in, outputs_of};
-ghost use Rattle.store_runs.specs.Desk.{AreRowsOf, HasOpened, InitSurvives, IsCallersFault, IsInitLeft, IsInitOutput, IsInitRun, IsNewStore, IsNotOpened, init_text, of_store};
+ghost use Rattle.store_runs.specs.Desk.{AreRowsOf, HasOpened, InitSurvives, IsCallersFault, IsInitLeft, IsInitOutput, IsInitRun, IsNotOpened, init_text, of_store};
 ghost use Rattle.store_runs.specs.NamedStore.{IsInit, IsNotBegun};
 ghost use Rattle.sqlite.specs.Held.{state};
-ghost use Rattle.sqlite.specs.State.{HasCleanDisk, KeepsCommit, Survives};
+ghost use Rattle.sqlite.specs.State.{HasCleanDisk};
 ghost use Rattle.sqlite_wal.specs.Files.{image_at};
-ghost use Rattle.bureau_sql.specs.Founded.{AreFounded, FailsToFound, IsNotMade};
+ghost use Rattle.bureau_sql.specs.Opening.{IsNoStore};
 ghost use Rattle.bureau_sql.specs.SqlView.{IsAtRest};
+ghost use Rattle.sql_state.specs.Reading.{OnlyReads};
 
 use crate::ended::{Ended, end};
 use crate::stores::Stores;
-use bureau_sql::SqlStore;
+use bureau_sql::{SqlStore, find_store, init};
 use bureau_store::{CallerRow, StoreFault, callers};
 use faults::AnyFault;
 use run_parts::{Files, numbered_line, printed, read_file, told};
@@ -22,79 +23,53 @@ use std::io::Write;
 use transfer::RETRIES;
 
 /// Makes the tables of a store that has the callers of a callers file and nothing else, and prints how many there are.
-/// Returns the exit status, and the connection, at rest.
+/// Returns the exit status.
 ///
 /// The line is made before the tables, so that they stand where it can't be written (72). A fault is told on `errors`
 /// alone.
-pub fn run_init<S: Alter + Drop, W: Write, E: Write>(
+pub fn run_init<S: Alter, W: Write, E: Write>(
     alloc: Global,
-    conn: Connection<S>,
+    conn: &mut Connection<S>,
     callers: &[u8],
     writer: &mut W,
     errors: &mut E,
-) -> (u8, Connection<S>)
-    requires rest { conn.in_transaction ≡ false }
+) -> u8
+    requires rest { conn.old.in_transaction ≡ false }
     ensures run { IsInitRun
-        (λ outcome. IsInitLeft outcome callers.now (state S.Store conn) (state S.Store result.1))
+        (λ outcome. IsInitLeft outcome callers.now (state S.Store conn.old) (state S.Store conn.new))
         callers.now (W.contents writer.old) (W.contents writer.new)
-        (E.contents errors.old) (E.contents errors.new) result.0 }
-    ensures stopped { InitSurvives callers.now (state S.Store conn) (state S.Store result.1) }
-    ensures rested { IsAtRest (state S.Store conn) }
-    ensures rest { result.1.in_transaction ≡ false }
+        (E.contents errors.old) (E.contents errors.new) result }
+    ensures stopped { InitSurvives callers.now (state S.Store conn.old) (state S.Store conn.new) }
+    ensures rested { IsAtRest (state S.Store conn.old) }
+    ensures rest { conn.new.in_transaction ≡ false }
 {
-    let (made, conn) = make_and_print(alloc, conn, callers, writer);
-    (told(errors, made), conn)
+    let _rested = conn.is_autocommit();
+    let made = make_and_print(alloc, conn, callers, writer);
+    told(errors, made)
 }
 
 // Makes the tables, and prints how many callers they have.
-#[tactic(auto, using(crate::proofs::DeskFacts::nothing_committed, crate::proofs::DeskFacts::tables_left, crate::proofs::DeskFacts::none_left, crate::proofs::DeskFacts::stays_alive, crate::proofs::DeskFacts::founded))]
-fn make_and_print<S: Alter + Drop, W: Write>(
+#[tactic(auto, using(crate::proofs::DeskFacts::nothing_committed, crate::proofs::DeskFacts::stays_alive, crate::proofs::DeskFacts::founded))]
+fn make_and_print<S: Alter, W: Write>(
     alloc: Global,
-    conn: Connection<S>,
+    conn: &mut Connection<S>,
     source: &[u8],
     writer: &mut W,
-) -> (Result<(), AnyFault>, Connection<S>)
-    requires rest { conn.in_transaction ≡ false }
-    ensures output { IsInitOutput (fault_in result.0) source.now
+) -> Result<(), AnyFault>
+    requires rest { conn.old.in_transaction ≡ false }
+    ensures output { IsInitOutput (fault_in result) source.now
         (W.contents writer.old) (W.contents writer.new) }
-    ensures left { IsInitLeft (fault_in result.0) source.now (state S.Store conn) (state S.Store result.1) }
-    ensures stopped { InitSurvives source.now (state S.Store conn) (state S.Store result.1) }
-    ensures rest { result.1.in_transaction ≡ false }
+    ensures left { IsInitLeft (fault_in result) source.now (state S.Store conn.old) (state S.Store conn.new) }
+    ensures stopped { InitSurvives source.now (state S.Store conn.old) (state S.Store conn.new) }
+    ensures rest { conn.new.in_transaction ≡ false }
 {
     let (rows, line) = match callers_and_line(alloc, source) {
         Ok(both) => both,
-        Err(fault) => return (Err(fault), conn),
+        Err(fault) => return Err(fault),
     };
-    match make(alloc, conn, rows.as_slice()) {
-        Ok(conn) => (printed(writer, line.as_slice()), conn),
-        Err((fault, conn)) => (Err(of_store(fault)), conn),
-    }
-}
-
-// Makes the tables, with these callers.
-fn make<S: Alter + Drop>(
-    alloc: Global,
-    conn: Connection<S>,
-    rows: &[CallerRow],
-) -> Result<Connection<S>, (StoreFault, Connection<S>)>
-    requires rest { conn.in_transaction ≡ false }
-    ensures made { IfOk result (λ made. HasCleanDisk (state S.Store made)
-        → IsNewStore rows.now (state S.Store made)) }
-    ensures made_rest { IfOk result (λ made. made.in_transaction ≡ false) }
-    ensures survives { IfOk result (λ made. Survives (state S.Store conn) (state S.Store made)
-        (AreFounded (state S.Store conn) rows.now)) }
-    ensures stopped { IfErr result (λ refused. Survives (state S.Store conn) (state S.Store refused.1)
-        (AreFounded (state S.Store conn) rows.now)) }
-    ensures cause { IfErr result (λ refused. IsNotMade (state S.Store conn) refused.0) }
-    ensures failed { IfErr result (λ refused. HasCleanDisk (state S.Store refused.1)
-        → FailsToFound (state S.Store conn) (state S.Store refused.1) rows.now refused.0) }
-    ensures kept { IfErr result (λ refused. HasCleanDisk (state S.Store refused.1)
-        → KeepsCommit (state S.Store conn) (state S.Store refused.1)) }
-    ensures rest { IfErr result (λ refused. refused.1.in_transaction ≡ false) }
-{
-    match SqlStore::init(alloc, conn, rows) {
-        Ok(store) => Ok(store.into_connection()),
-        Err(refused) => Err(refused),
+    match init(conn, rows.as_slice()) {
+        Ok(()) => printed(writer, line.as_slice()),
+        Err(fault) => Err(of_store(fault)),
     }
 }
 
@@ -152,7 +127,8 @@ pub fn do_init<S: Stores, D: Start, O: Write, E: Write>(
     };
     match surroundings.connect(store, true, start) {
         Ok(conn) => {
-            let (status, conn) = run_init(alloc, conn, callers.as_slice(), output, errors);
+            let mut conn = conn;
+            let status = run_init(alloc, &mut conn, callers.as_slice(), output, errors);
             (status, end(conn))
         }
         Err((fault, ended)) => (told(errors, Err(of_store(fault))), ended),
@@ -178,6 +154,26 @@ fn read_callers<S: Stores>(
     Ok(source)
 }
 
+/// The store that a connection holds; or why it holds none, and the connection, at rest.
+pub(crate) fn open<S: Alter>(
+    alloc: Global,
+    conn: Connection<S>,
+) -> Result<SqlStore<S>, (StoreFault, Connection<S>)>
+    requires rest { conn.in_transaction ≡ false }
+    ensures opened { IfOk result (HasOpened S.Store (state S.Store conn)) }
+    ensures rested { IsAtRest (state S.Store conn) }
+    ensures reads { IfErr result (λ refused. OnlyReads (state S.Store conn) (state S.Store refused.1)) }
+    ensures cause { IfErr result (λ refused. HasCleanDisk (state S.Store refused.1)
+        → IsNoStore (state S.Store conn) (state S.Store refused.1) refused.0) }
+    ensures rest { IfErr result (λ refused. refused.1.in_transaction ≡ false) }
+{
+    let mut conn = conn;
+    match find_store(&mut conn) {
+        Ok(()) => Ok(SqlStore::over(alloc, conn)),
+        Err(fault) => Err((fault, conn)),
+    }
+}
+
 /// The store in the database of a connection; or the exit status, where a fault was told, and the connection, at rest.
 #[tactic(auto, using(crate::proofs::DeskFacts::open_refused))]
 pub fn run_open<S: Alter + Drop, E: Write>(
@@ -193,7 +189,7 @@ pub fn run_open<S: Alter + Drop, E: Write>(
         (E.contents errors.old) (E.contents errors.new) refused.0) }
     ensures rest { IfErr result (λ refused. refused.1.in_transaction ≡ false) }
 {
-    match SqlStore::open(alloc, conn) {
+    match open(alloc, conn) {
         Ok(store) => Ok(store),
         Err((fault, conn)) => Err((told(errors, Err(of_store(fault))), conn)),
     }

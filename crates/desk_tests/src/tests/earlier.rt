@@ -1,8 +1,8 @@
 //! Stores of version 1, with what the first six requests of a run of three callers leave. Each is refused for its
 //! version, and then migrated.
 use super::asked::Checked;
-use super::stores::{StoreKind, opened};
-use bureau_sql::SqlStore;
+use super::stores::{StoreKind, found, opened, over};
+use bureau_sql::{SqlStore, migrate};
 use bureau_store::{CallerRow, StoreFault};
 use sqlite::{Alter, Connection};
 use std::alloc::Global;
@@ -69,8 +69,11 @@ impl<S: Alter + Drop> StoreKind for Earlier<S> {
     type Kept = SqlStore<S>;
 
     fn new_store(&mut self, alloc: Global, _callers: &[CallerRow]) -> Checked<SqlStore<S>> {
-        let conn = left(self.spare.pop().ok_or("a new database")?)?;
-        migrated(alloc, refused(alloc, conn)?)
+        let mut conn = self.spare.pop().ok_or("a new database")?;
+        leave(&mut conn)?;
+        assert_refused(&mut conn)?;
+        bring(&mut conn)?;
+        over(alloc, conn)
     }
 
     fn opened_again(&mut self, alloc: Global, store: SqlStore<S>) -> Checked<SqlStore<S>> {
@@ -79,32 +82,28 @@ impl<S: Alter + Drop> StoreKind for Earlier<S> {
 }
 
 // What version 1 left in a new database.
-fn left<S: Alter + Drop>(mut conn: Connection<S>) -> Checked<Connection<S>> {
+fn leave<S: Alter>(conn: &mut Connection<S>) -> Checked<()> {
     for text in [TABLES, ROWS] {
         if conn.execute_batch(text).is_err() {
             return Err("the tables of version 1");
         }
     }
-    Ok(conn)
+    Ok(())
 }
 
 // The store is not opened, for its version alone.
-fn refused<S: Alter + Drop>(alloc: Global, conn: Connection<S>) -> Checked<Connection<S>> {
-    if !conn.is_autocommit() {
-        return Err("a connection at rest");
-    }
-    match SqlStore::open(alloc, conn) {
-        Err((StoreFault::Version, conn)) => Ok(conn),
+fn assert_refused<S: Alter>(conn: &mut Connection<S>) -> Checked<()> {
+    match found(conn) {
+        Err(StoreFault::Version) => Ok(()),
         _ => Err("a store of version 1 is not refused for its version"),
     }
 }
 
-fn migrated<S: Alter + Drop>(alloc: Global, conn: Connection<S>) -> Checked<SqlStore<S>> {
+fn bring<S: Alter>(conn: &mut Connection<S>) -> Checked<()> {
     if !conn.is_autocommit() {
         return Err("a connection at rest");
     }
-    match SqlStore::migrate(alloc, conn) {
-        Ok(store) => Ok(store),
-        Err(_) => Err("a store of version 1 is not migrated"),
-    }
+    migrate(conn)
+        .ok()
+        .ok_or("a store of version 1 is not migrated")
 }

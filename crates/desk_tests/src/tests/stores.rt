@@ -3,8 +3,8 @@
 //! Each call that names a connection stands in a function of its own that promises little, so that no proof
 //! carries much along.
 use super::asked::Checked;
-use bureau_sql::SqlStore;
-use bureau_store::{CallerRow, ListStore, Store};
+use bureau_sql::{SqlStore, find_store, init};
+use bureau_store::{CallerRow, ListStore, Store, StoreFault};
 use sqlite::{Alter, Connection, FileStore, Files, MemStore, Options};
 use sqlite_disk::{Disk, Memory};
 use std::alloc::Global;
@@ -127,22 +127,37 @@ fn begun<S: Alter + Drop>(
     conn: Connection<S>,
     callers: &[CallerRow],
 ) -> Checked<SqlStore<S>> {
+    let mut conn = conn;
+    made(&mut conn, callers)?;
+    over(alloc, conn)
+}
+
+fn made<S: Alter>(conn: &mut Connection<S>, callers: &[CallerRow]) -> Checked<()> {
     if !conn.is_autocommit() {
         return Err("a connection at rest");
     }
-    match SqlStore::init(alloc, conn, callers) {
-        Ok(store) => Ok(store),
-        Err(_) => Err("no store is made"),
+    init(conn, callers).ok().ok_or("no store is made")
+}
+
+/// The store that a connection has, which was made, found or migrated there.
+pub(crate) fn over<S: Alter + Drop>(alloc: Global, conn: Connection<S>) -> Checked<SqlStore<S>> {
+    if !conn.is_autocommit() {
+        return Err("a connection at rest");
     }
+    Ok(SqlStore::over(alloc, conn))
 }
 
 /// The store that a connection has.
 pub(crate) fn opened<S: Alter + Drop>(alloc: Global, conn: Connection<S>) -> Checked<SqlStore<S>> {
+    let mut conn = conn;
+    found(&mut conn).ok().ok_or("no store is found")?;
+    over(alloc, conn)
+}
+
+/// Whether a connection has a store.
+pub(crate) fn found<S: Alter>(conn: &mut Connection<S>) -> Result<(), StoreFault> {
     if !conn.is_autocommit() {
-        return Err("a connection at rest");
+        return Err(StoreFault::Device);
     }
-    match SqlStore::open(alloc, conn) {
-        Ok(store) => Ok(store),
-        Err(_) => Err("no store is opened"),
-    }
+    find_store(conn)
 }

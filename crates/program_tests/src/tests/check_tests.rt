@@ -15,7 +15,8 @@ fn check<S: Alter + Drop>(alloc: Global, conn: Connection<S>) -> Ran<S>
     ensures { IfOk result (λ both. both.1.in_transaction ≡ false) }
 {
     let (mut output, mut errors) = (Vec::new(alloc), Vec::new(alloc));
-    let (status, conn) = run_check(alloc, conn, &mut output, &mut errors);
+    let mut conn = conn;
+    let status = run_check(alloc, &mut conn, &mut output, &mut errors);
     Ok((told(alloc, status, &output, &errors)?, conn))
 }
 

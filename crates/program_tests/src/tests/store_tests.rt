@@ -58,7 +58,8 @@ pub(super) fn init<S: Alter + Drop>(alloc: Global, conn: Connection<S>, callers:
     ensures { IfOk result (λ both. both.1.in_transaction ≡ false) }
 {
     let (mut output, mut errors) = (Vec::new(alloc), Vec::new(alloc));
-    let (status, conn) = run_init(alloc, conn, callers, &mut output, &mut errors);
+    let mut conn = conn;
+    let status = run_init(alloc, &mut conn, callers, &mut output, &mut errors);
     Ok((told(alloc, status, &output, &errors)?, conn))
 }
 
@@ -115,7 +116,8 @@ fn migrate<S: Alter + Drop>(alloc: Global, conn: Connection<S>) -> Ran<S>
     ensures { IfOk result (λ both. both.1.in_transaction ≡ false) }
 {
     let (mut output, mut errors) = (Vec::new(alloc), Vec::new(alloc));
-    let (status, conn) = run_migrate(alloc, conn, &mut output, &mut errors);
+    let mut conn = conn;
+    let status = run_migrate(&mut conn, &mut output, &mut errors);
     Ok((told(alloc, status, &output, &errors)?, conn))
 }
 

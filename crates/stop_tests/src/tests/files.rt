@@ -5,7 +5,7 @@
 ghost use Rattle.std.specs.Prelude.{◌≡◌, IfOk, false};
 
 use super::script::Checked;
-use bureau_sql::SqlStore;
+use bureau_sql::{SqlStore, find_store, init, migrate};
 use bureau_store::{CallerRow, StoreFault};
 use sqlite::{Alter, Connection, FileStore, Files, Options};
 use sqlite_disk::{Crash, Disk, Fuse, Memory};
@@ -57,17 +57,14 @@ pub(crate) enum Opening<'a> {
     Migrate,
 }
 
-fn opened<S: Alter>(
-    alloc: Global,
-    conn: Connection<S>,
-    opening: Opening<'_>,
-) -> Result<SqlStore<S>, (StoreFault, Connection<S>)>
-    requires { conn.in_transaction ≡ false }
+fn opened<S: Alter>(conn: &mut Connection<S>, opening: Opening<'_>) -> Result<(), StoreFault>
+    requires { conn.old.in_transaction ≡ false }
+    ensures { conn.new.in_transaction ≡ false }
 {
     match opening {
-        Opening::Init(callers) => SqlStore::init(alloc, conn, callers),
-        Opening::Open => SqlStore::open(alloc, conn),
-        Opening::Migrate => SqlStore::migrate(alloc, conn),
+        Opening::Init(callers) => init(conn, callers),
+        Opening::Open => find_store(conn),
+        Opening::Migrate => migrate(conn),
     }
 }
 
@@ -79,10 +76,13 @@ pub(crate) fn store_in<D: Disk + Drop>(
     log_pages: usize,
 ) -> Result<InFiles<D>, (StoreFault, Files<D>)> {
     match connected(alloc, files, log_pages) {
-        Ok(conn) => match opened(alloc, conn, opening) {
-            Ok(store) => Ok(store),
-            Err((fault, conn)) => Err((fault, files_of(conn))),
-        },
+        Ok(conn) => {
+            let mut conn = conn;
+            match opened(&mut conn, opening) {
+                Ok(()) => Ok(SqlStore::over(alloc, conn)),
+                Err(fault) => Err((fault, files_of(conn))),
+            }
+        }
         Err(files) => Err((StoreFault::Device, files)),
     }
 }

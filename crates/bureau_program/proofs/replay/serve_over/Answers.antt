@@ -5,6 +5,7 @@ use Rattle.bureau_sql.specs.SqlView.{IsOurStore, sql_view}
 use Rattle.sqlite_trees.specs.View.{doubt}
 use Rattle.chain_cache.specs.Cache.{IsRightFor}
 use Rattle.sqlite.specs.Held.{state}
+use Rattle.sqlite.specs.State.{HasCleanDisk}
 use Rattle.bureau_program.proofs.ReplayFacts.{device_not_served, memory_not_served, not_made}
 use Rattle.bureau_program.proofs.replay.serve_over.Goals as goal
 
@@ -16,9 +17,9 @@ returns-in-Ok-served-clause-served g c = λ always rights.
     let store = sym (ap (λ parts. parts.store) c.new-bureau.ensures) in
     let judge = sym (ap (λ parts. parts.judge) c.new-bureau.ensures) in
     let made = c.in-Ok.ensures in
-    let clean = ap doubt (always _) in
-    let ours = subst (IsOurStore over) store (made.ours clean) in
-    let stands = subst (λ at. (sql_view over).stands at this) store (made.tables clean) in
+    let clean : HasCleanDisk (state over c.init.new.conn) = ap doubt (always _) in
+    let ours = subst (IsOurStore over) store (c.over.ensures.ours (made.opened clean).0 (made.ours clean)) in
+    let stands = subst (λ at. (sql_view over).stands at this) store (subst (λ tables. (sql_view over).stands c.over.result tables) (made.tables clean) c.over.ensures.tables) in
     let right = subst (λ at. IsRightFor at this.content) judge (rights this.content) in
     untold _ (λ at next calls run. run.run) _ _ _ (c.in-Ok-served.ensures.served.told ours (ap doubt (always _)) this (stands, right))
 

@@ -4,9 +4,9 @@ use Rattle.store_runs.proofs.migrating.migrate_file.Goals as goal
 
 pub returns-in-Ok-clause-run : goal.returns-in-Ok-clause-run
 returns-in-Ok-clause-run g c =
-    over_files (image_at g.D.Start) c.end.result c.in-Ok.conn c.run_migrate-status.result.1 c.in-Ok.ensures.found c.end.ensures c.run_migrate-status.ensures.rested c.run_migrate-status.ensures.stopped
+    over_files (image_at g.D.Start) c.end.result c.in-Ok.conn c.run_migrate-status.new.conn c.in-Ok.ensures.found c.end.ensures c.run_migrate-status.ensures.rested c.run_migrate-status.ensures.stopped
     (g.W.Write.contents c.args.writer.now) (g.W.Write.contents c.run_migrate-status.new.writer) (g.E.Write.contents c.args.errors.now) (g.E.Write.contents c.run_migrate-status.new.errors)
-    c.run_migrate-status.result.0 c.run_migrate-status.ensures.run
+    c.run_migrate-status.result c.run_migrate-status.ensures.run
 
 pub returns-in-Err-clause-run : goal.returns-in-Err-clause-run
 returns-in-Err-clause-run g c =
