@@ -2,10 +2,11 @@
 ghost use Rattle.std.specs.Prelude.{◌≡◌, false, codes, IfOk};
 ghost use Rattle.clap.specs.Words.{app_of, rule_of};
 ghost use Rattle.clap.specs.declared.builder.command.Command.TheViews.{out-Command as fields_of};
-ghost use Rattle.command_line.specs.Line.{bureau_app, cache_rule, callers_app, categories_rule, chain_app, check_app, commands_named, connections_rule, err_sysmods_app, holds_app, init_app, log_rule, migrate_app, missing_fix_app, name_rule, open_rule, port_rule, received_rule, replay_app, required_rule, serve_app, several_rule, zone_rule};
+ghost use Rattle.command_line.specs.Line.{bureau_app, cache_rule, callers_app, categories_rule, chain_app, check_app, commands_named, connections_rule, err_sysmods_app, holds_app, init_app, migrate_app, missing_fix_app, name_rule, open_rule, port_rule, received_rule, replay_app, required_rule, serve_app, several_rule, zone_rule};
 
+use crate::arguments::{log_option, number_option, required, several, text_option};
 use crate::help::{STATUSES_AND_FAULTS, VERSION};
-use clap::{Arg, ArgAction, Command};
+use clap::{Arg, Command};
 use faults::NoMemory;
 use std::alloc::Global;
 
@@ -46,11 +47,12 @@ fn holds_command<'a>(alloc: Global) -> Result<Command<'a>, NoMemory>
     ensures app { IfOk result (λ command. app_of command ≡ holds_app) }
     ensures local { IfOk result (λ command. (fields_of command).has_globals ≡ false) }
 {
-    let file = Arg::new(alloc, "file")
-        .required(true)
-        .action(ArgAction::Set)
-        .value_name("FILE")
-        .help("The HOLDDATA to read; `-` is standard input");
+    let file = required(
+        alloc,
+        "file",
+        "FILE",
+        "The HOLDDATA to read; `-` is standard input",
+    );
     Command::new(alloc, "holds")
         .about("Prints the hold book that the ++HOLD and ++RELEASE statements of FILE leave")
         .arg(file)
@@ -91,12 +93,12 @@ fn replay_command<'a>(alloc: Global) -> Result<Command<'a>, NoMemory>
     ensures local { IfOk result (λ command. (fields_of command).has_globals ≡ false) }
 {
     let callers = callers_argument(alloc);
-    let files = Arg::new(alloc, "files")
-        .required(true)
-        .action(ArgAction::Append)
-        .num_args(1..)
-        .value_name("FILE")
-        .help("The bytes of a connection to the desk: HTTP/1.1 requests one after the other");
+    let files = several(
+        alloc,
+        "files",
+        "FILE",
+        "The bytes of a connection to the desk: HTTP/1.1 requests one after the other",
+    );
     Command::new(alloc, "replay")
         .about(
             "Serves each FILE as a connection to a desk in memory, and prints what the desk replies",
@@ -153,7 +155,12 @@ fn chain_command<'a>(alloc: Global) -> Result<Command<'a>, NoMemory>
         .about("Prints whether a SYSMOD can be installed in a zone, and with what, as JSON")
         .arg(zone_option(alloc))?
         .arg(name_option(alloc))?
-        .arg(sysmod_argument(alloc))?
+        .arg(required(
+            alloc,
+            "sysmod",
+            "SYSMOD",
+            "The SYSMOD whose chain is asked for",
+        ))?
         .arg(publications_argument(alloc))
 }
 
@@ -188,12 +195,8 @@ fn zone_option<'a>(alloc: Global) -> Arg<'a>
     ensures rule { rule_of result ≡ zone_rule }
     ensures local { result.global ≡ false }
 {
-    Arg::new(alloc, "zone")
-        .long("zone")
-        .required(true)
-        .action(ArgAction::Set)
-        .value_name("ZONE")
-        .help("The SYSMODs of the zone: CSV with the header SYSMOD,STATE")
+    let help = "The SYSMODs of the zone: CSV with the header SYSMOD,STATE";
+    text_option(alloc, "zone", "ZONE", help).required(true)
 }
 
 // `--categories C`
@@ -201,12 +204,8 @@ fn categories_option<'a>(alloc: Global) -> Arg<'a>
     ensures rule { rule_of result ≡ categories_rule }
     ensures local { result.global ≡ false }
 {
-    Arg::new(alloc, "categories")
-        .long("categories")
-        .required(true)
-        .action(ArgAction::Set)
-        .value_name("CATEGORIES")
-        .help("The fix categories that are asked for: CSV with the header CATEGORY")
+    let help = "The fix categories that are asked for: CSV with the header CATEGORY";
+    text_option(alloc, "categories", "CATEGORIES", help).required(true)
 }
 
 // `--received R`
@@ -214,11 +213,8 @@ fn received_option<'a>(alloc: Global) -> Arg<'a>
     ensures rule { rule_of result ≡ received_rule }
     ensures local { result.global ≡ false }
 {
-    Arg::new(alloc, "received")
-        .long("received")
-        .action(ArgAction::Set)
-        .value_name("RECEIVED")
-        .help("The SYSMODs that are received: CSV with the header SYSMOD")
+    let help = "The SYSMODs that are received: CSV with the header SYSMOD";
+    text_option(alloc, "received", "RECEIVED", help)
 }
 
 // `--name NAME`
@@ -226,23 +222,8 @@ fn name_option<'a>(alloc: Global) -> Arg<'a>
     ensures rule { rule_of result ≡ name_rule }
     ensures local { result.global ≡ false }
 {
-    Arg::new(alloc, "name")
-        .long("name")
-        .action(ArgAction::Set)
-        .value_name("NAME")
-        .help("The name of the zone; without it that of its file up to the period, in upper case")
-}
-
-// `SYSMOD`
-fn sysmod_argument<'a>(alloc: Global) -> Arg<'a>
-    ensures rule { rule_of result ≡ required_rule (codes "sysmod") }
-    ensures local { result.global ≡ false }
-{
-    Arg::new(alloc, "sysmod")
-        .required(true)
-        .action(ArgAction::Set)
-        .value_name("SYSMOD")
-        .help("The SYSMOD whose chain is asked for")
+    let help = "The name of the zone; without it that of its file up to the period, in upper case";
+    text_option(alloc, "name", "NAME", help)
 }
 
 // `FILE..`
@@ -250,28 +231,9 @@ fn publications_argument<'a>(alloc: Global) -> Arg<'a>
     ensures rule { rule_of result ≡ several_rule (codes "files") }
     ensures local { result.global ≡ false }
 {
-    Arg::new(alloc, "files")
-        .required(true)
-        .action(ArgAction::Append)
-        .num_args(1..)
-        .value_name("FILE")
-        .help(
-            "HOLDDATA, SYSMODs or both, in the order in which they are published; `-` is standard input",
-        )
-}
-
-// `--cache N`
-fn cache_option<'a>(alloc: Global) -> Arg<'a>
-    ensures rule { rule_of result ≡ cache_rule }
-    ensures local { result.global ≡ false }
-{
-    Arg::new(alloc, "cache")
-        .long("cache")
-        .action(ArgAction::Set)
-        .value_parser(clap::value_parser!(u32).range(1..=65536))
-        .value_name("N")
-        .default_value("1024")
-        .help("How many frames are kept at most, 1 to 65536")
+    let help =
+        "HOLDDATA, SYSMODs or both, in the order in which they are published; `-` is standard input";
+    several(alloc, "files", "FILE", help)
 }
 
 // `STORE`
@@ -279,11 +241,12 @@ fn store_argument<'a>(alloc: Global) -> Arg<'a>
     ensures rule { rule_of result ≡ required_rule (codes "store") }
     ensures local { result.global ≡ false }
 {
-    Arg::new(alloc, "store")
-        .required(true)
-        .action(ArgAction::Set)
-        .value_name("STORE")
-        .help("The file that keeps all that the desk has")
+    required(
+        alloc,
+        "store",
+        "STORE",
+        "The file that keeps all that the desk has",
+    )
 }
 
 // `CALLERS`
@@ -291,11 +254,17 @@ fn callers_argument<'a>(alloc: Global) -> Arg<'a>
     ensures rule { rule_of result ≡ required_rule (codes "callers") }
     ensures local { result.global ≡ false }
 {
-    Arg::new(alloc, "callers")
-        .required(true)
-        .action(ArgAction::Set)
-        .value_name("CALLERS")
-        .help("The callers of the desk: CSV with the header NAME,TOKEN")
+    let help = "The callers of the desk: CSV with the header NAME,TOKEN";
+    required(alloc, "callers", "CALLERS", help)
+}
+
+// `--cache N`
+fn cache_option<'a>(alloc: Global) -> Arg<'a>
+    ensures rule { rule_of result ≡ cache_rule }
+    ensures local { result.global ≡ false }
+{
+    let help = "How many frames are kept at most, 1 to 65536";
+    number_option(alloc, "cache", "N", 65536, "1024", help)
 }
 
 // `--port P`
@@ -303,13 +272,8 @@ fn port_option<'a>(alloc: Global) -> Arg<'a>
     ensures rule { rule_of result ≡ port_rule }
     ensures local { result.global ≡ false }
 {
-    Arg::new(alloc, "port")
-        .long("port")
-        .action(ArgAction::Set)
-        .value_parser(clap::value_parser!(u32).range(1..=65535))
-        .value_name("P")
-        .default_value("8080")
-        .help("The port to listen on, 1 to 65535")
+    let help = "The port to listen on, 1 to 65535";
+    number_option(alloc, "port", "P", 65535, "8080", help)
 }
 
 // `--connections K`
@@ -317,13 +281,8 @@ fn connections_option<'a>(alloc: Global) -> Arg<'a>
     ensures rule { rule_of result ≡ connections_rule }
     ensures local { result.global ≡ false }
 {
-    Arg::new(alloc, "connections")
-        .long("connections")
-        .action(ArgAction::Set)
-        .value_parser(clap::value_parser!(u32).range(1..=1000000))
-        .value_name("K")
-        .default_value("1000000")
-        .help("How many connections are served before the program ends, 1 to 1000000")
+    let help = "How many connections are served before the program ends, 1 to 1000000";
+    number_option(alloc, "connections", "K", 1_000_000, "1000000", help)
 }
 
 // `--open M`
@@ -331,22 +290,6 @@ fn open_option<'a>(alloc: Global) -> Arg<'a>
     ensures rule { rule_of result ≡ open_rule }
     ensures local { result.global ≡ false }
 {
-    Arg::new(alloc, "open")
-        .long("open")
-        .action(ArgAction::Set)
-        .value_parser(clap::value_parser!(u32).range(1..=8192))
-        .value_name("M")
-        .default_value("1024")
-        .help("How many connections are open at once at most, 1 to 8192")
-}
-
-// `--log`
-fn log_option<'a>(alloc: Global) -> Arg<'a>
-    ensures rule { rule_of result ≡ log_rule }
-    ensures local { result.global ≡ false }
-{
-    Arg::new(alloc, "log")
-        .long("log")
-        .action(ArgAction::SetTrue)
-        .help("Writes a line to standard error for each request and each connection that failed")
+    let help = "How many connections are open at once at most, 1 to 8192";
+    number_option(alloc, "open", "M", 8192, "1024", help)
 }

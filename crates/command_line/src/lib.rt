@@ -3,6 +3,7 @@
 //! - [`line_of`]: what words ask for, as a [`Line`]; or why they are none, as a [`LineFault`]
 #![tactic(auto)]
 
+mod arguments;
 mod commands;
 mod help;
 mod line;

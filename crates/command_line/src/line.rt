@@ -141,24 +141,21 @@ fn line_with(alloc: Global, name: &str, matches: &ArgMatches) -> Result<Option<L
 fn holds_with(alloc: Global, matches: &ArgMatches) -> Result<Option<Line>, NoMemory>
     ensures { IfOk result (IsFound (IsLineWith (codes "holds") (rows_of (found_of matches.now)))) }
 {
-    let Some(file) = matches.get_str("file") else {
+    let Some(file) = text_with(alloc, matches, "file")? else {
         return Ok(None);
     };
-    let file = String::from_str(alloc, file)?;
     Ok(Some(Line::Holds { file }))
 }
 
 fn init_with(alloc: Global, matches: &ArgMatches) -> Result<Option<Line>, NoMemory>
     ensures { IfOk result (IsFound (IsLineWith (codes "init") (rows_of (found_of matches.now)))) }
 {
-    let Some(store) = matches.get_str("store") else {
+    let Some(store) = text_with(alloc, matches, "store")? else {
         return Ok(None);
     };
-    let Some(callers) = matches.get_str("callers") else {
+    let Some(callers) = text_with(alloc, matches, "callers")? else {
         return Ok(None);
     };
-    let store = String::from_str(alloc, store)?;
-    let callers = String::from_str(alloc, callers)?;
     Ok(Some(Line::Init { store, callers }))
 }
 
@@ -178,10 +175,9 @@ fn serve_with(alloc: Global, matches: &ArgMatches) -> Result<Option<Line>, NoMem
         return Ok(None);
     };
     let log = flag_with(matches, "log");
-    let Some(store) = matches.get_str("store") else {
+    let Some(store) = text_with(alloc, matches, "store")? else {
         return Ok(None);
     };
-    let store = String::from_str(alloc, store)?;
     Ok(Some(Line::Serve {
         port,
         cache,
@@ -198,13 +194,12 @@ fn replay_with(alloc: Global, matches: &ArgMatches) -> Result<Option<Line>, NoMe
     let Some(cache) = number_with(matches, "cache", 1, 65_536) else {
         return Ok(None);
     };
-    let Some(callers) = matches.get_str("callers") else {
+    let Some(callers) = text_with(alloc, matches, "callers")? else {
         return Ok(None);
     };
     let Some(files) = matches.get_strs("files") else {
         return Ok(None);
     };
-    let callers = String::from_str(alloc, callers)?;
     let files = strings(alloc, files)?;
     Ok(Some(Line::Replay {
         cache,
@@ -216,10 +211,9 @@ fn replay_with(alloc: Global, matches: &ArgMatches) -> Result<Option<Line>, NoMe
 fn migrate_with(alloc: Global, matches: &ArgMatches) -> Result<Option<Line>, NoMemory>
     ensures { IfOk result (IsFound (IsLineWith (codes "migrate") (rows_of (found_of matches.now)))) }
 {
-    let Some(store) = matches.get_str("store") else {
+    let Some(store) = text_with(alloc, matches, "store")? else {
         return Ok(None);
     };
-    let store = String::from_str(alloc, store)?;
     Ok(Some(Line::Migrate { store }))
 }
 
@@ -244,37 +238,33 @@ fn missing_fix_with(alloc: Global, matches: &ArgMatches) -> Result<Option<Line>,
 fn chain_with(alloc: Global, matches: &ArgMatches) -> Result<Option<Line>, NoMemory>
     ensures { IfOk result (IsFound (IsLineWith (codes "chain") (rows_of (found_of matches.now)))) }
 {
-    let Some(sysmod) = matches.get_str("sysmod") else {
+    let Some(sysmod) = text_with(alloc, matches, "sysmod")? else {
         return Ok(None);
     };
     let Some(files) = files_with(alloc, matches)? else {
         return Ok(None);
     };
-    let sysmod = String::from_str(alloc, sysmod)?;
     Ok(Some(Line::Chain { sysmod, files }))
 }
 
 fn callers_with(alloc: Global, matches: &ArgMatches) -> Result<Option<Line>, NoMemory>
     ensures { IfOk result (IsFound (IsLineWith (codes "callers") (rows_of (found_of matches.now)))) }
 {
-    let Some(store) = matches.get_str("store") else {
+    let Some(store) = text_with(alloc, matches, "store")? else {
         return Ok(None);
     };
-    let Some(callers) = matches.get_str("callers") else {
+    let Some(callers) = text_with(alloc, matches, "callers")? else {
         return Ok(None);
     };
-    let store = String::from_str(alloc, store)?;
-    let callers = String::from_str(alloc, callers)?;
     Ok(Some(Line::Callers { store, callers }))
 }
 
 fn check_with(alloc: Global, matches: &ArgMatches) -> Result<Option<Line>, NoMemory>
     ensures { IfOk result (IsFound (IsLineWith (codes "check") (rows_of (found_of matches.now)))) }
 {
-    let Some(store) = matches.get_str("store") else {
+    let Some(store) = text_with(alloc, matches, "store")? else {
         return Ok(None);
     };
-    let store = String::from_str(alloc, store)?;
     Ok(Some(Line::Check { store }))
 }
 

@@ -10,7 +10,7 @@ returns-clause-app c =
     let bare : app_of c.about.result ≡ new_app (codes "chain") = ap app_of_fields c.about.ensures ∙ c.new.ensures.app in
     let zoned = c.in_ok-arg.ensures.shape c.zone_option.ensures.local ∙ ap₂ with_rule bare c.zone_option.ensures.rule in
     let naming = c.in_ok-arg-2.ensures.shape c.name_option.ensures.local ∙ ap₂ with_rule zoned c.name_option.ensures.rule in
-    let asking = c.in_ok-arg-3.ensures.shape c.sysmod_argument.ensures.local ∙ ap₂ with_rule naming c.sysmod_argument.ensures.rule in
+    let asking = c.in_ok-arg-3.ensures.shape c.required.ensures.local ∙ ap₂ with_rule naming c.required.ensures.rule in
     IfOk-weaker c.arg-4.result _ _ (λ command adds. adds.shape c.publications_argument.ensures.local ∙ ap₂ with_rule asking c.publications_argument.ensures.rule) c.arg-4.ensures
 
 pub returns-clause-local : goal.returns-clause-local

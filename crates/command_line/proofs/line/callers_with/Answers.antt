@@ -1,6 +1,5 @@
 use Rattle.std.proofs.Common.{rules, ◌≡◌, ◌∙◌, sym, refl, codes, List, Some, None, string_bytes, ap, arith}
 use Rattle.clap.specs.Words.{Row, Text, first_of, found_of, rows_of}
-use Rattle.clap.proofs.WalkLemmas.{first_value-rows}
 use Rattle.command_line.specs.Line.{IsLineWith}
 use Rattle.command_line.specs.declared.line.Line.{Line}
 use Rattle.command_line.specs.declared.line.Line.TheVariants.{Callers, Chain, Check, ErrSysmods, Holds, Init, Migrate, MissingFix, Replay, Serve}
@@ -24,20 +23,18 @@ no_line rows (Check store) none is = other_command 108 101 (omega arith) (ap thi
 pub returns-in_default : goal.returns-in_default
 returns-in_default c line is =
     let found = found_of c.args.matches.now in
-    let none : first_of (codes "store") (rows_of found) ≡ None = sym (first_value-rows found (codes "store")) ∙ search rules in
+    let none : first_of (codes "store") (rows_of found) ≡ None = search rules in
     no_line (rows_of found) line (λ store callers line_is. let no : None ≡ Some store = sym none ∙ line_is.0 in cc) is
 
-pub returns-in_default-get_str : goal.returns-in_default-get_str
-returns-in_default-get_str c line is =
+pub returns-in_default-2 : goal.returns-in_default-2
+returns-in_default-2 c line is =
     let found = found_of c.args.matches.now in
-    let none : first_of (codes "callers") (rows_of found) ≡ None = sym (first_value-rows found (codes "callers")) ∙ search rules in
+    let none : first_of (codes "callers") (rows_of found) ≡ None = search rules in
     no_line (rows_of found) line (λ store callers line_is. let no : None ≡ Some callers = sym none ∙ line_is.1 in cc) is
 
 pub returns : goal.returns
 returns c =
     let found = found_of c.args.matches.now in
-    let store : first_of (codes "store") (rows_of found) ≡ Some (string_bytes c.in_ok-store.store) =
-    sym (first_value-rows found (codes "store")) ∙ sym c.get_str.ensures ∙ search rules in
-    let callers : first_of (codes "callers") (rows_of found) ≡ Some (string_bytes c.in_ok-callers.callers) =
-    sym (first_value-rows found (codes "callers")) ∙ sym c.get_str-2.ensures ∙ search rules in
+    let store : first_of (codes "store") (rows_of found) ≡ Some (string_bytes c.in-Some.store) = search rules in
+    let callers : first_of (codes "callers") (rows_of found) ≡ Some (string_bytes c.in-Some-2.callers) = search rules in
     (refl, (store, callers))

@@ -1,6 +1,5 @@
 use Rattle.std.proofs.Common.{rules, ◌≡◌, ◌∙◌, sym, refl, codes, List, Some, None, string_bytes, ap, arith}
 use Rattle.clap.specs.Words.{Row, Text, first_of, found_of, rows_of}
-use Rattle.clap.proofs.WalkLemmas.{first_value-rows}
 use Rattle.command_line.specs.Line.{HasFiles, IsLineWith}
 use Rattle.command_line.specs.declared.line.Line.{Line}
 use Rattle.command_line.specs.declared.line.Line.TheVariants.{Callers, Chain, Check, ErrSysmods, Holds, Init, Migrate, MissingFix, Replay, Serve}
@@ -24,7 +23,7 @@ no_line rows (Check store) none is = other_command 97 101 (omega arith) (ap thir
 pub returns-in_default : goal.returns-in_default
 returns-in_default c line is =
     let found = found_of c.args.matches.now in
-    let none : first_of (codes "sysmod") (rows_of found) ≡ None = sym (first_value-rows found (codes "sysmod")) ∙ search rules in
+    let none : first_of (codes "sysmod") (rows_of found) ≡ None = search rules in
     no_line (rows_of found) line (λ sysmod files line_is. let no : None ≡ Some sysmod = sym none ∙ line_is.0 in cc) is
 
 pub returns-in_default-2 : goal.returns-in_default-2
@@ -35,7 +34,6 @@ returns-in_default-2 c line is =
 pub returns : goal.returns
 returns c =
     let found = found_of c.args.matches.now in
-    let sysmod : first_of (codes "sysmod") (rows_of found) ≡ Some (string_bytes c.in_ok-sysmod.sysmod) =
-    sym (first_value-rows found (codes "sysmod")) ∙ sym c.get_str.ensures ∙ search rules in
+    let sysmod : first_of (codes "sysmod") (rows_of found) ≡ Some (string_bytes c.in-Some.sysmod) = search rules in
     let files : HasFiles (rows_of found) c.in-Some-2.files = search rules in
     (refl, (sysmod, files))

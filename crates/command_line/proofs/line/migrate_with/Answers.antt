@@ -1,6 +1,5 @@
 use Rattle.std.proofs.Common.{rules, ◌≡◌, ◌∙◌, sym, refl, codes, List, Some, None, string_bytes, ap, arith}
 use Rattle.clap.specs.Words.{Row, first_of, found_of, rows_of}
-use Rattle.clap.proofs.WalkLemmas.{first_value-rows}
 use Rattle.command_line.specs.Line.{IsLineWith}
 use Rattle.command_line.specs.declared.line.Line.{Line}
 use Rattle.command_line.specs.declared.line.Line.TheVariants.{Callers, Chain, Check, ErrSysmods, Holds, Init, Migrate, MissingFix, Replay, Serve}
@@ -22,11 +21,10 @@ storeless rows (Check store) none is = other_command 109 99 (omega arith) (ap le
 pub returns-in_default : goal.returns-in_default
 returns-in_default c line is =
     let found = found_of c.args.matches.now in
-    let none : first_of (codes "store") (rows_of found) ≡ None = sym (first_value-rows found (codes "store")) ∙ search rules in
+    let none : first_of (codes "store") (rows_of found) ≡ None = search rules in
     storeless (rows_of found) line none is
 
 pub returns : goal.returns
 returns c =
-    let value : first_of (codes "store") (rows_of (found_of c.args.matches.now)) ≡ Some (string_bytes c.in_ok-store.store) =
-    sym (first_value-rows (found_of c.args.matches.now) (codes "store")) ∙ sym c.get_str.ensures ∙ search rules in
+    let value : first_of (codes "store") (rows_of (found_of c.args.matches.now)) ≡ Some (string_bytes c.in-Some.store) = search rules in
     (refl, value)

@@ -1,6 +1,6 @@
 use Rattle.std.proofs.Common.{rules, ◌≡◌, ◌∙◌, sym, refl, codes, ℕ, List, Some, None, map, string_bytes, ap, arith}
 use Rattle.clap.specs.Words.{Row, Text, all_of, first_of, found_of, one_of, rows_of}
-use Rattle.clap.proofs.WalkLemmas.{first_value-rows, raw_values-rows}
+use Rattle.clap.proofs.WalkLemmas.{raw_values-rows}
 use Rattle.command_line.specs.Line.{IsCapacity, IsLineWith}
 use Rattle.command_line.specs.declared.line.Line.{Line}
 use Rattle.command_line.specs.declared.line.Line.TheVariants.{Callers, Chain, Check, ErrSysmods, Holds, Init, Migrate, MissingFix, Replay, Serve}
@@ -31,10 +31,10 @@ returns-in_default c line is =
     let none = c.number_with.ensures.none (search rules) in
     no_line (rows_of found) line (λ cache callers files line_is. none cache line_is.0) is
 
-pub returns-in_default-get_str : goal.returns-in_default-get_str
-returns-in_default-get_str c line is =
+pub returns-in_default-2 : goal.returns-in_default-2
+returns-in_default-2 c line is =
     let found = found_of c.args.matches.now in
-    let none : first_of (codes "callers") (rows_of found) ≡ None = sym (first_value-rows found (codes "callers")) ∙ search rules in
+    let none : first_of (codes "callers") (rows_of found) ≡ None = search rules in
     no_line (rows_of found) line (λ cache callers files line_is. let no : None ≡ Some callers = sym none ∙ line_is.1 in cc) is
 
 pub returns-in_default-get_strs : goal.returns-in_default-get_strs
@@ -47,8 +47,7 @@ pub returns : goal.returns
 returns c =
     let found = found_of c.args.matches.now in
     let capacity : IsCapacity (one_of (codes "cache") (rows_of found)) c.in-Some.cache = search rules in
-    let called : first_of (codes "callers") (rows_of found) ≡ Some (string_bytes c.in_ok-callers.callers) =
-    sym (first_value-rows found (codes "callers")) ∙ sym c.get_str.ensures ∙ search rules in
+    let called : first_of (codes "callers") (rows_of found) ≡ Some (string_bytes c.in-Some-2.callers) = search rules in
     let connected : all_of (codes "files") (rows_of found) ≡ Some (map string_bytes c.in_ok-files.files.items) =
     sym (raw_values-rows found (codes "files")) ∙ sym c.get_strs.ensures ∙ search rules in
     (refl, (capacity, called, connected))

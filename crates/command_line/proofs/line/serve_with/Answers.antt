@@ -1,6 +1,5 @@
 use Rattle.std.proofs.Common.{rules, ◌≡◌, ◌∙◌, sym, refl, codes, ℕ, Bool, List, Some, None, string_bytes, ap, arith}
 use Rattle.clap.specs.Words.{Row, Text, first_of, found_of, one_of, rows_of}
-use Rattle.clap.proofs.WalkLemmas.{first_value-rows}
 use Rattle.command_line.specs.Line.{IsCapacity, IsLineWith, IsManyConnections, IsManyOpen, IsPort, is_set}
 use Rattle.command_line.specs.declared.line.Line.{Line}
 use Rattle.command_line.specs.declared.line.Line.TheVariants.{Callers, Chain, Check, ErrSysmods, Holds, Init, Migrate, MissingFix, Replay, Serve}
@@ -50,10 +49,10 @@ returns-in_default-number_with-3 c line is =
     let none = c.number_with-3.ensures.none (search rules) in
     no_line (rows_of (found_of c.args.matches.now)) line (λ port cache connections most_open log store line_is. none most_open line_is.3) is
 
-pub returns-in_default-get_str : goal.returns-in_default-get_str
-returns-in_default-get_str c line is =
+pub returns-in_default-2 : goal.returns-in_default-2
+returns-in_default-2 c line is =
     let found = found_of c.args.matches.now in
-    let none : first_of (codes "store") (rows_of found) ≡ None = sym (first_value-rows found (codes "store")) ∙ search rules in
+    let none : first_of (codes "store") (rows_of found) ≡ None = search rules in
     no_line (rows_of found) line (λ port cache connections most_open log store line_is. let no : None ≡ Some store = sym none ∙ line_is.5 in cc) is
 
 pub returns : goal.returns
@@ -63,6 +62,5 @@ returns c =
     let cache : IsCapacity (one_of (codes "cache") (rows_of found)) c.in-Some-number_with.cache = search rules in
     let connections : IsManyConnections (one_of (codes "connections") (rows_of found)) c.in-Some-number_with-2.connections = search rules in
     let most_open : IsManyOpen (one_of (codes "open") (rows_of found)) c.in-Some-number_with-3.most_open = search rules in
-    let store : first_of (codes "store") (rows_of found) ≡ Some (string_bytes c.in_ok-store.store) =
-    sym (first_value-rows found (codes "store")) ∙ sym c.get_str.ensures ∙ search rules in
+    let store : first_of (codes "store") (rows_of found) ≡ Some (string_bytes c.in-Some-2.store) = search rules in
     (refl, (port, cache, connections, most_open, c.flag_with-log.ensures, store))

@@ -1,6 +1,6 @@
 use Rattle.std.proofs.Common.{rules, ◌≡◌, Option, Some, None, ap}
 use Rattle.std.specs.Prelude.{IsSomeAnd}
-use Rattle.command_line.proofs.commands.publications_argument.Goals as goal
+use Rattle.command_line.proofs.arguments.several.Goals as goal
 
 given_range : {T : Type 0} (given : Option T) (range : T) → IsSomeAnd given (λ r. r ≡ range) → given ≡ Some range
 given_range None range is = absurd is
