@@ -1,5 +1,5 @@
 -- What the words of a command line ask for, as clap defines the matches of a command.
-use Rattle.std.specs.Prelude.{◌≡◌, ◌≤◌, ℕ, pos, Bool, true, false, if◌then◌else◌, List, [], ◌∷◌, codes, map, Option, Some, None, Ok, option_map, string_bytes}
+use Rattle.std.specs.Prelude.{◌≡◌, ◌⊎◌, ◌≤◌, ⊤, ℕ, pos, Bool, true, false, List, [], ◌∷◌, codes, map, Option, Some, None, Ok, option_map, string_bytes}
 use Rattle.std.specs.Str.{bytes_eq}
 use Rattle.std.specs.Str.Parse.{ParsesUnsigned}
 use Rattle.clap.specs.Words.{App, Row, Rule, Text, all_of, first_of, new_app, new_rule, one_of, subcommand_of, with_rule, with_subcommand}
@@ -140,18 +140,9 @@ abbrev pub IsNumberIn : ℕ → ℕ → Option Text → ℕ → Type 0
 IsNumberIn least most None number = ⊥
 IsNumberIn least most (Some text) number = ParsesUnsigned {E = ⊥} 32 10 text (Ok number) × (least ≤ number) × (number ≤ most)
 
--- a cache may have this capacity, the port this number, so many connections may be served, and so many may be open at once
-abbrev pub IsCapacity : Option Text → ℕ → Type 0
-IsCapacity = IsNumberIn 1 65536
-
+-- the port may have this number
 abbrev pub IsPort : Option Text → ℕ → Type 0
 IsPort = IsNumberIn 1 65535
-
-abbrev pub IsManyConnections : Option Text → ℕ → Type 0
-IsManyConnections = IsNumberIn 1 1000000
-
-abbrev pub IsManyOpen : Option Text → ℕ → Type 0
-IsManyOpen = IsNumberIn 1 8192
 
 -- a flag is set
 abbrev pub is_set : Option Text → Bool
@@ -171,42 +162,64 @@ command_of (Chain sysmod files) = codes "chain"
 command_of (Callers store callers) = codes "callers"
 command_of (Check store) = codes "check"
 
--- the names of a report's files among the matches; what may be left out is there or not
-abbrev pub HasFiles : List Row → ReportFiles → Type 0
-HasFiles rows files =
-    (first_of (codes "zone") rows ≡ Some (string_bytes files.zone))
-    × (first_of (codes "categories") rows ≡ option_map string_bytes files.categories)
-    × (first_of (codes "received") rows ≡ option_map string_bytes files.received)
-    × (first_of (codes "name") rows ≡ option_map string_bytes files.name)
-    × (all_of (codes "files") rows ≡ Some (map string_bytes files.publications.items))
+-- what a line gives for an argument: a text, texts, a number in a range, a flag, or a text that may be left out
+pub data Value : Type 0 where
+  one : Text → Value
+  several : List Text → Value
+  number : ℕ → ℕ → ℕ → Value
+  flag : Bool → Value
+  maybe : Option Text → Value
 
--- each value among the matches is that of the line
-abbrev pub HasValues : List Row → Line → Type 0
-HasValues rows (Holds file) = first_of (codes "file") rows ≡ Some (string_bytes file)
-HasValues rows (Init store callers) =
-    (first_of (codes "store") rows ≡ Some (string_bytes store)) × (first_of (codes "callers") rows ≡ Some (string_bytes callers))
-HasValues rows (Serve port cache connections most_open log store) =
-    IsPort (one_of (codes "port") rows) port
-    × IsCapacity (one_of (codes "cache") rows) cache
-    × IsManyConnections (one_of (codes "connections") rows) connections
-    × IsManyOpen (one_of (codes "open") rows) most_open
-    × (log ≡ is_set (first_of (codes "log") rows))
-    × (first_of (codes "store") rows ≡ Some (string_bytes store))
-HasValues rows (Replay cache callers files) =
-    IsCapacity (one_of (codes "cache") rows) cache
-    × (first_of (codes "callers") rows ≡ Some (string_bytes callers))
-    × (all_of (codes "files") rows ≡ Some (map string_bytes files.items))
-HasValues rows (Migrate store) = first_of (codes "store") rows ≡ Some (string_bytes store)
-HasValues rows (ErrSysmods files) = HasFiles rows files
-HasValues rows (MissingFix files) = HasFiles rows files
-HasValues rows (Chain sysmod files) = (first_of (codes "sysmod") rows ≡ Some (string_bytes sysmod)) × HasFiles rows files
-HasValues rows (Callers store callers) =
-    (first_of (codes "store") rows ≡ Some (string_bytes store)) × (first_of (codes "callers") rows ≡ Some (string_bytes callers))
-HasValues rows (Check store) = first_of (codes "store") rows ≡ Some (string_bytes store)
+-- what a line gives for the names of a report's files
+abbrev pub files_given : ReportFiles → List (Text × Value)
+files_given files =
+    (codes "zone", one (string_bytes files.zone))
+    ∷ (codes "categories", maybe (option_map string_bytes files.categories))
+    ∷ (codes "received", maybe (option_map string_bytes files.received))
+    ∷ (codes "name", maybe (option_map string_bytes files.name))
+    ∷ (codes "files", several (map string_bytes files.publications.items))
+    ∷ []
+
+-- what a line gives for each argument of its command
+abbrev pub given : Line → List (Text × Value)
+given (Holds file) = (codes "file", one (string_bytes file)) ∷ []
+given (Init store callers) = (codes "store", one (string_bytes store)) ∷ (codes "callers", one (string_bytes callers)) ∷ []
+given (Serve port cache connections most_open log store) =
+    (codes "port", number 1 65535 port)
+    ∷ (codes "cache", number 1 65536 cache)
+    ∷ (codes "connections", number 1 1000000 connections)
+    ∷ (codes "open", number 1 8192 most_open)
+    ∷ (codes "log", flag log)
+    ∷ (codes "store", one (string_bytes store))
+    ∷ []
+given (Replay cache callers files) =
+    (codes "cache", number 1 65536 cache)
+    ∷ (codes "callers", one (string_bytes callers))
+    ∷ (codes "files", several (map string_bytes files.items))
+    ∷ []
+given (Migrate store) = (codes "store", one (string_bytes store)) ∷ []
+given (ErrSysmods files) = files_given files
+given (MissingFix files) = files_given files
+given (Chain sysmod files) = (codes "sysmod", one (string_bytes sysmod)) ∷ files_given files
+given (Callers store callers) = (codes "store", one (string_bytes store)) ∷ (codes "callers", one (string_bytes callers)) ∷ []
+given (Check store) = (codes "store", one (string_bytes store)) ∷ []
+
+-- an argument has this value among the matches
+abbrev pub HasValue : List Row → Text → Value → Type 0
+HasValue rows name (one text) = first_of name rows ≡ Some text
+HasValue rows name (several texts) = all_of name rows ≡ Some texts
+HasValue rows name (number least most n) = IsNumberIn least most (one_of name rows) n
+HasValue rows name (flag is) = is ≡ is_set (first_of name rows)
+HasValue rows name (maybe text) = first_of name rows ≡ text
+
+-- each of these arguments has its value among the matches
+abbrev pub HasValues : List Row → List (Text × Value) → Type 0
+HasValues rows [] = ⊤
+HasValues rows ((name, value) ∷ more) = HasValue rows name value × HasValues rows more
 
 -- the command of this name, with these matches, has the line: each argument's value is that of the line
 abbrev pub IsLineWith : Text → List Row → Line → Type 0
-IsLineWith name rows line = (name ≡ command_of line) × HasValues rows line
+IsLineWith name rows line = (name ≡ command_of line) × HasValues rows (given line)
 
 -- the matches name a command, which has the line
 abbrev pub IsLineIn : Option (Text × List Row) → Line → Type 0
@@ -217,35 +230,18 @@ IsLineIn (Some (name, rows)) line = IsLineWith name rows line
 abbrev pub IsLineOf : List Text → Line → Type 0
 IsLineOf words line = IsLineIn (subcommand_of bureau_app words) line
 
--- what a report's files say: the names that are always given, and those that may be left out
-abbrev pub texts_said : ReportFiles → List Text
-texts_said files = string_bytes files.zone ∷ map string_bytes files.publications.items
-
-abbrev pub options_said : ReportFiles → List (Option Text)
-options_said files =
-    option_map string_bytes files.categories ∷ option_map string_bytes files.received ∷ option_map string_bytes files.name ∷ []
-
--- what a flag says
-abbrev pub flag_said : Bool → Option Text
-flag_said flag = if flag then Some (codes "true") else None
-
--- what a line says: its command, its numbers, its texts, and what may be left out
-abbrev pub said : Line → Text × List ℕ × List Text × List (Option Text)
-said (Holds file) = (codes "holds", [], string_bytes file ∷ [], [])
-said (Init store callers) = (codes "init", [], string_bytes store ∷ string_bytes callers ∷ [], [])
-said (Serve port cache connections most_open log store) =
-    (codes "serve", port ∷ cache ∷ connections ∷ most_open ∷ [], string_bytes store ∷ [], flag_said log ∷ [])
-said (Replay cache callers files) = (codes "replay", cache ∷ [], string_bytes callers ∷ map string_bytes files.items, [])
-said (Migrate store) = (codes "migrate", [], string_bytes store ∷ [], [])
-said (ErrSysmods files) = (codes "errsysmods", [], texts_said files, options_said files)
-said (MissingFix files) = (codes "missingfix", [], texts_said files, options_said files)
-said (Chain sysmod files) = (codes "chain", [], string_bytes sysmod ∷ texts_said files, options_said files)
-said (Callers store callers) = (codes "callers", [], string_bytes store ∷ string_bytes callers ∷ [], [])
-said (Check store) = (codes "check", [], string_bytes store ∷ [], [])
+-- what a line says: its command, and what it gives for each argument
+abbrev pub said : Line → Text × List (Text × Value)
+said line = (command_of line, given line)
 
 -- words have at most one line
 abbrev pub HasOneLine : List Text → Type 0
 HasOneLine words = (line other : Line) → IsLineOf words line → IsLineOf words other → said line ≡ said other
+
+-- Serves private contracts alone: the names of a report's files, or the zone or the publications aren't given.
+abbrev pub AreFilesFound : List Row → Option ReportFiles → Type 0
+AreFilesFound rows (Some files) = HasValues rows (files_given files)
+AreFilesFound rows None = (first_of (codes "zone") rows ≡ None) ⊎ (all_of (codes "files") rows ≡ None)
 
 -- Serves private contracts alone: the line is such a one, or there is no such line.
 abbrev pub IsFound : {A : Type 0} → (A → Type 0) → Option A → Type 0

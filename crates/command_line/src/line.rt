@@ -2,7 +2,7 @@
 ghost use Rattle.std.specs.Prelude.{◌≡◌, ◌≢◌, ℕ, false, [], codes, map, option_map, string_bytes, IfOk, IfErr, IfSome, IsNone, OnOk};
 ghost use Rattle.clap.specs.Words.{fault_of, first_of, found_of, kind_of, one_of, rows_of, subcommand_rows_of};
 ghost use Rattle.faults.specs.Refusal.{IsRefusal};
-ghost use Rattle.command_line.specs.Line.{bureau_app, HasFiles, HasOneLine, IsFound, IsLineIn, IsLineOf, IsLineWith, IsNumberIn, IsPort, is_set};
+ghost use Rattle.command_line.specs.Line.{bureau_app, AreFilesFound, HasOneLine, IsFound, IsLineIn, IsLineOf, IsLineWith, IsNumberIn, IsPort, is_set};
 ghost use Rattle.command_line.specs.declared.line.Line.{Line};
 ghost use Rattle.command_line.specs.declared.line.LineFault.TheVariants.{Memory};
 
@@ -270,16 +270,16 @@ fn check_with(alloc: Global, matches: &ArgMatches) -> Result<Option<Line>, NoMem
 
 // The names of a report's files. What a command has no argument for isn't among its matches.
 fn files_with(alloc: Global, matches: &ArgMatches) -> Result<Option<ReportFiles>, NoMemory>
-    ensures { IfOk result (IsFound (HasFiles (rows_of (found_of matches.now)))) }
+    ensures { IfOk result (AreFilesFound (rows_of (found_of matches.now))) }
 {
-    let Some(zone) = matches.get_str("zone") else {
+    let Some(zone) = text_with(alloc, matches, "zone")? else {
         return Ok(None);
     };
     let Some(publications) = matches.get_strs("files") else {
         return Ok(None);
     };
     Ok(Some(ReportFiles {
-        zone: String::from_str(alloc, zone)?,
+        zone,
         categories: text_with(alloc, matches, "categories")?,
         received: text_with(alloc, matches, "received")?,
         name: text_with(alloc, matches, "name")?,

@@ -1,30 +1,16 @@
-use Rattle.std.proofs.Common.{rules, refl, codes, List, ap, arith}
-use Rattle.clap.specs.Words.{Row, found_of, rows_of}
-use Rattle.command_line.specs.Line.{HasFiles, IsLineWith}
-use Rattle.command_line.specs.declared.line.Line.{Line}
-use Rattle.command_line.specs.declared.line.Line.TheVariants.{Callers, Chain, Check, ErrSysmods, Holds, Init, Migrate, MissingFix, Replay, Serve}
-use Rattle.run_parts.specs.declared.report_files.ReportFiles.{ReportFiles}
-use Rattle.command_line.proofs.LineFacts.{letter, other_command}
+use Rattle.std.proofs.Common.{rules, refl, codes, None, inl, inr}
+use Rattle.clap.specs.Words.{found_of, rows_of}
+use Rattle.command_line.specs.Line.{AreFilesFound, HasValues, files_given}
+use Rattle.command_line.proofs.LineFacts.{no_line}
 use Rattle.command_line.proofs.line.err_sysmods_with.Goals as goal
-
-no_line : (rows : List Row) (line : Line) → ((files : ReportFiles) → HasFiles rows files → ⊥) → IsLineWith (codes "errsysmods") rows line → ⊥
-no_line rows (Holds file) none is = other_command 101 104 (omega arith) (ap letter is.0)
-no_line rows (Init store callers) none is = other_command 101 105 (omega arith) (ap letter is.0)
-no_line rows (Serve port cache connections most_open log store) none is = other_command 101 115 (omega arith) (ap letter is.0)
-no_line rows (Replay cache callers files) none is = other_command 101 114 (omega arith) (ap letter is.0)
-no_line rows (Migrate store) none is = other_command 101 109 (omega arith) (ap letter is.0)
-no_line rows (ErrSysmods files) none is = none files is.1
-no_line rows (MissingFix files) none is = other_command 101 109 (omega arith) (ap letter is.0)
-no_line rows (Chain sysmod files) none is = other_command 101 99 (omega arith) (ap letter is.0)
-no_line rows (Callers store callers) none is = other_command 101 99 (omega arith) (ap letter is.0)
-no_line rows (Check store) none is = other_command 101 99 (omega arith) (ap letter is.0)
 
 pub returns-in_default : goal.returns-in_default
 returns-in_default c line is =
-    let none : (files : ReportFiles) → HasFiles (rows_of (found_of c.args.matches.now)) files → ⊥ = search rules in
-    no_line (rows_of (found_of c.args.matches.now)) line none is
+    let rows = rows_of (found_of c.args.matches.now) in
+    let none : AreFilesFound rows None = search rules in
+    elim none [ inl zone ↦ no_line 0 (codes "errsysmods") rows line zone is | inr files ↦ no_line 4 (codes "errsysmods") rows line files is ]
 
 pub returns : goal.returns
 returns c =
-    let files : HasFiles (rows_of (found_of c.args.matches.now)) c.in-Some.files = search rules in
+    let files : HasValues (rows_of (found_of c.args.matches.now)) (files_given c.in-Some.files) = search rules in
     (refl, files)
