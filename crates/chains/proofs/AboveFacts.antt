@@ -18,13 +18,13 @@ use Rattle.requisites.specs.Leads.{IsPath, Leads}
 use Rattle.requisites.specs.Nodes.{AreReversed, Links, mark_of, row}
 use Rattle.requisites.proofs.LeadsFacts.{leads_closed, leads_itself, leads_more}
 use Rattle.chains.specs.Climbs.{AreAbove, IsMarkedAbove}
-use Rattle.chains.specs.Cuts.{IndexOf, id_at}
-use Rattle.chains.specs.Indices.{AreThere, AreIndicesOf, InstalledAt}
+use Rattle.listings.specs.Cuts.{IndexOf, id_at}
+use Rattle.listings.specs.Indices.{AreThere, AreIndicesOf, InstalledAt}
 use Rattle.chains.proofs.FrameFacts.{giver_is, givers_ascend}
-use Rattle.chains.proofs.MadeCutFacts.{candidate_catalogued}
-use Rattle.chains.proofs.OrderFacts.{ascending_same}
-use Rattle.chains.proofs.PartFacts.{at_map}
-use Rattle.chains.proofs.IndexFacts.{at_inside, inside_at}
+use Rattle.listings.proofs.MadeCutFacts.{candidate_catalogued}
+use Rattle.listings.proofs.SupersederFacts.{unheld}
+use Rattle.listings.proofs.OrderFacts.{ascending_same}
+use Rattle.listings.proofs.IndexFacts.{at_inside, at_map, inside_at}
 
 -- ---- lists that lead the other way round
 
@@ -152,3 +152,8 @@ module _ (content : Content) (ordered : IsInOrder content) (ids above : List (Li
         marked = candidates indexed.at.index indexed.leads ∙ subst C (sym indexed.at.is) kept.passes;
         leads = indexed.leads;
       }))
+
+-- ---- without holds
+
+pub unheld_above : (content : Content) (ids above : List (List ℕ)) → AreAbove content ids above → AreAbove (unheld content) ids above
+unheld_above content ids above are = record { indexed = are.indexed; whole = are.whole }

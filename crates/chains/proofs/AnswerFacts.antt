@@ -17,10 +17,10 @@ use Rattle.requisites.specs.Sources.{AreLeastSources, HasSource, source_of}
 use Rattle.requisites.proofs.LeadsFacts.{leads_closed}
 use Rattle.chains.specs.Candidates.{candidates_unless_there}
 use Rattle.chains.specs.Climbs.{AreAbove, AreFrom, IsAnswer, IsFound, IsMarkedAbove, with_source}
-use Rattle.chains.specs.Cuts.{id_at}
-use Rattle.chains.specs.Indices.{AreThere, IsAt, MarksAre, RowsAre}
+use Rattle.listings.specs.Cuts.{id_at}
+use Rattle.listings.specs.Indices.{AreThere, IsAt, MarksAre, RowsAre}
 use Rattle.chains.proofs.AboveFacts.{candidates_found, leads_turned, marks_there}
-use Rattle.chains.proofs.IndexFacts.{inside_at, made_more, one_index}
+use Rattle.listings.proofs.IndexFacts.{inside_at, made_more, one_index}
 
 -- an id stands at one index alone
 pub index_is : (ids : List (List ℕ)) (id : List ℕ) (p q : ℕ) → Ascend ids → IsAt ids id p → IsAt ids id q → p ≡ q

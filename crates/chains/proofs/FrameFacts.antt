@@ -16,13 +16,13 @@ use Rattle.requisites.proofs.LeadsFacts.{leads_closed, leads_itself, leads_more}
 use Rattle.supersede.specs.Giving.{always_needs, conds_of, each_need, fmids_of, gives, givers_of, may_need, requisites_of}
 use Rattle.supersede.specs.Leading.{Gives, IsWay}
 use Rattle.supersede.proofs.LeadingFacts.{gives_is}
-use Rattle.chains.specs.Cuts.{id_at}
+use Rattle.listings.specs.Cuts.{id_at}
 use Rattle.chains.specs.Frames as frames
 use Rattle.chains.specs.Frames.{AreApart, FrameLists, FramesStay, IsFrame, StepsTo, node_of, shares}
 use Rattle.chains.specs.declared.frames.FrameNode.{FrameNode}
-use Rattle.chains.proofs.OrderFacts.{ascending_same}
-use Rattle.chains.proofs.IndexFacts.{at_inside}
-use Rattle.chains.proofs.WayFacts.{listed_record}
+use Rattle.listings.proofs.OrderFacts.{ascending_same}
+use Rattle.listings.proofs.IndexFacts.{at_inside}
+use Rattle.listings.proofs.WayFacts.{listed_record, record_listed}
 
 -- ---- givers and records
 
@@ -34,17 +34,6 @@ giver_is content id giver = (
 
 pub givers_ascend : (content : Content) (id : List ℕ) → Ascend (ids_of content) → Ascend (givers_of content id)
 givers_ascend content id ascend = IsStrictlySortedBy-filter id_cmp (λ giver. gives content giver id) (ids_of content) ascend
-
--- what is listed has a record
-pub record_listed : (sysmods : List Sysmod) (id : List ℕ) → Contains (ids_in sysmods) id → is_some (find (is_of id) sysmods) ≡ true
-record_listed [] id inside = absurd (none_inside id inside)
-record_listed (sysmod ∷ sysmods) id inside = go (record_listed sysmods id) (is_of id sysmod) refl where
-  go : (Contains (ids_in sysmods) id → is_some (find (is_of id) sysmods) ≡ true) → (b : Bool) → is_of id sysmod ≡ b → is_some (cond b (Some sysmod) (find (is_of id) sysmods)) ≡ true
-  go rest true e = refl
-  go rest false e = elim (inside_cases sysmod.id id (ids_in sysmods) inside) [
-    | inl same ↦ (let P : List ℕ → Type 0 = λ x. is_of x sysmod ≡ true in let on : is_of id sysmod ≡ true = subst P same (itself sysmod.id) in absurd (cc))
-    | inr later ↦ rest later
-  ]
 
 -- what supersedes another directly gives it
 pub direct_gives : (content : Content) (y x : List ℕ) → IsInOrder content → Supersedes content y x → Gives content y x

@@ -18,18 +18,18 @@ use Rattle.supersede.specs.Leading.{Gives, IsWay}
 use Rattle.requisites.specs.Leads.{Leads}
 use Rattle.requisites.specs.Nodes.{row}
 use Rattle.requisites.proofs.LeadsFacts.{leads_closed, leads_itself, leads_more}
-use Rattle.chains.specs.Cuts.{IndexOf, id_at}
-use Rattle.chains.specs.FrameIndices.{AreIndexed, AreNodesOf, IsAbove, IsFramed, IsGiverAt, IsNodeAt, has_conds, list_at}
+use Rattle.listings.specs.Cuts.{IndexOf, id_at}
+use Rattle.listings.specs.Indices.{AreIndexed, AreIndicesOf, list_at}
+use Rattle.listings.specs.Links.{IsAbove, IsGiverAt}
+use Rattle.chains.specs.FrameIndices.{AreNodesOf, IsFramed, IsNodeAt, has_conds}
 use Rattle.chains.specs.Frames.{FrameLists, IsClosed, IsFrame, StepsTo, ids_in, node_of}
-use Rattle.chains.specs.Gathered.{AreNamed, IsGathered, Names, gathered_of}
-use Rattle.chains.specs.Indices.{AreIndicesOf}
+use Rattle.listings.specs.Gathered.{AreNamed, IsGathered, Names, gathered_of}
 use Rattle.chains.specs.declared.frames.FrameNode.{FrameNode}
-use Rattle.chains.specs.declared.gathered.Gathered.{Gathered}
-use Rattle.chains.proofs.FrameFacts.{direct_gives, giver_is, givers_ascend, record_listed}
-use Rattle.chains.proofs.OrderFacts.{ascending_same}
-use Rattle.chains.proofs.PartFacts.{at_map}
-use Rattle.chains.proofs.IndexFacts.{at_inside, inside_at}
-use Rattle.chains.proofs.WayFacts.{listed_record}
+use Rattle.listings.specs.declared.gathered.Gathered.{Gathered}
+use Rattle.chains.proofs.FrameFacts.{direct_gives, giver_is, givers_ascend}
+use Rattle.listings.proofs.OrderFacts.{ascending_same}
+use Rattle.listings.proofs.IndexFacts.{at_inside, at_map, inside_at}
+use Rattle.listings.proofs.WayFacts.{listed_record, record_listed}
 
 -- ---- one step by what is named, and by what is needed and gives
 

@@ -15,22 +15,17 @@ use Rattle.requisites.specs.Nodes.{IsMarked, mark_of, row, world}
 use Rattle.requisites.specs.declared.nodes.Nodes.{Nodes}
 use Rattle.requisites.proofs.LeadsFacts.{leads_more}
 use Rattle.requisites.proofs.SourceFacts.{marked_inside}
-use Rattle.chains.specs.Cuts.{IsCut, NeedIndex, id_at}
-use Rattle.chains.specs.FrameIndices.{AreIndexed, node_needs}
+use Rattle.listings.specs.Cuts.{IsCut, NeedIndex, id_at}
+use Rattle.listings.specs.Indices.{AreIndexed, AreIndicesOf, AreThere}
+use Rattle.chains.specs.FrameIndices.{node_needs}
 use Rattle.chains.specs.Frames.{FrameLists, IsFrame, ids_in, node_of}
-use Rattle.chains.specs.Indices.{AreIndicesOf, AreThere}
 use Rattle.chains.specs.Worlds.{world_of}
 use Rattle.chains.specs.declared.frames.FrameNode.{FrameNode}
-use Rattle.chains.proofs.ConditionalFacts.{may_be_needed}
-use Rattle.chains.proofs.MadeCutFacts.{candidate_catalogued}
-use Rattle.chains.proofs.IndexFacts.{at_inside, inside_at, order_down, order_up}
-use Rattle.chains.proofs.WayFacts.{AreWays, gives_at, there_at}
-
--- what f makes of a list stands where the list has what it is made of
-pub at_map : {X Y : Type 0} (f : X → Y) (xs : List X) (p : ℕ) (d : X) (e : Y) → p < length xs → get_or (map f xs) p e ≡ f (get_or xs p d)
-at_map f [] p d e below = absurd (omega (arith, below))
-at_map f (x ∷ xs) zero d e below = refl
-at_map f (x ∷ xs) (suc p) d e below = at_map f xs p d e (omega (arith, below))
+use Rattle.listings.proofs.ConditionalFacts.{may_be_needed}
+use Rattle.listings.proofs.MadeCutFacts.{candidate_catalogued}
+use Rattle.listings.proofs.IndexFacts.{at_inside, inside_at, order_down, order_up}
+pub use Rattle.listings.proofs.IndexFacts.{at_map}
+use Rattle.listings.proofs.WayFacts.{AreWays, gives_at, there_at}
 
 module _ (content : Content) (rows : List ZoneRow) (start : List ℕ) (frame : FrameLists) (nodes : Nodes) (ascend : Ascend (ids_in frame.nodes)) (is : IsFrame content start frame)
     (candidates : nodes.candidates.items ≡ map (λ node. list_any (λ fmid. is_installed rows fmid) node.fmids) frame.nodes)

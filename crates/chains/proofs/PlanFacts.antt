@@ -18,17 +18,18 @@ use Rattle.requisites.specs.Nodes.{mark_of, row, world}
 use Rattle.requisites.specs.Verdict as index
 use Rattle.requisites.specs.declared.nodes.Nodes.{Nodes}
 use Rattle.requisites.specs.declared.verdict.Verdict as declared
-use Rattle.chains.specs.Cuts.{id_at}
-use Rattle.chains.specs.FrameIndices.{AreIndexed, has_conds, list_at, node_needs}
+use Rattle.listings.specs.Cuts.{id_at}
+use Rattle.listings.specs.Indices.{AreIndexed, AreIndicesOf, AreNodesWithin, AreThere, IsAt, RowsAre, list_at}
+use Rattle.chains.specs.NodeVerdicts.{verdict_at}
+use Rattle.chains.specs.FrameIndices.{has_conds, node_needs}
 use Rattle.chains.specs.Frames.{FrameLists, IsFrame, ids_in}
-use Rattle.chains.specs.Indices.{AreIndicesOf, AreNodesWithin, AreThere, IsAt, RowsAre, verdict_at}
 use Rattle.chains.specs.Verdicts.{Judged, is_good, verdict_of}
 use Rattle.chains.specs.Worlds.{world_of}
 use Rattle.chains.specs.declared.frames.FrameNode.{FrameNode}
 use Rattle.chains.proofs.CutFacts.{good_down, good_up}
 use Rattle.chains.proofs.GoodFacts.{good_both_ways}
 use Rattle.chains.proofs.PartFacts.{at_map, frame_cut}
-use Rattle.chains.proofs.IndexFacts.{rows_more}
+use Rattle.listings.proofs.IndexFacts.{rows_more}
 use Rattle.chains.proofs.NodeVerdictFacts.{verdict_here, verdict_within}
 
 -- the nodes of a frame name no indices but theirs

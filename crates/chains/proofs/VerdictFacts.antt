@@ -22,7 +22,7 @@ use Rattle.chains.specs.Verdicts.{Judged, blocked_need, chosen_plan, good, held,
 use Rattle.chains.specs.Worlds.{IsVerdict, world_of}
 use Rattle.chains.proofs.GoodFacts.{candidate_inside, good_found, good_from}
 use Rattle.chains.proofs.StatusFacts.{candidate_gives, find_none, find_some, not_good, unblocked_good}
-use Rattle.chains.proofs.OrderFacts.{ascending_same, at_most_same, find_inside, find_least}
+use Rattle.listings.proofs.OrderFacts.{ascending_same, at_most_same, find_inside, find_least}
 
 -- ---- lists
 

@@ -1,25 +1,14 @@
--- A content and a zone as a world: what plans, picks and verdicts speak of.
-use Rattle.std.specs.Prelude.{◌≡◌, ℕ, ◌↔◌, true, List, Contains}
-use Rattle.std.specs.declared.cmp.Ordering.TheVariants.{Greater}
+-- What is good and what a verdict says, in the world of a content and a zone.
+use Rattle.std.specs.Prelude.{◌≡◌, ℕ, ◌↔◌, true, List}
 use Rattle.zone_lists.specs.declared.zones.ZoneRow.{ZoneRow}
 use Rattle.catalogue.specs.Content.{Content}
-use Rattle.catalogue.specs.Ids.{Ascend, id_cmp}
-use Rattle.supersede.specs.Giving.{is_candidate, needs_in}
-use Rattle.supersede.specs.Leading.{Gives, IsThere}
-use Rattle.requisites.specs.World.{IsChosenPlan, IsGood, IsHeldFor, World}
+use Rattle.catalogue.specs.Ids.{Ascend}
+use Rattle.supersede.specs.Giving.{is_candidate}
+use Rattle.requisites.specs.World.{IsChosenPlan, IsGood, IsHeldFor}
+pub use Rattle.listings.specs.ZoneNodes.{world_of}
 use Rattle.chains.specs.Judge.{status_of}
 use Rattle.chains.specs.Verdicts.{Judged, good, held, is_good, lack, verdict_of}
 use Rattle.chains.specs.declared.verdict.Status.TheVariants as status
-
--- the ids of a content, seen from a zone
-abbrev pub world_of : Content → List ZoneRow → World (List ℕ)
-world_of content rows = record {
-  Candidate = λ id. is_candidate content rows id ≡ true;
-  Needs = λ id need. Contains (needs_in content rows id) need;
-  There = λ need. IsThere content rows need;
-  Gives = λ id need. Gives content id need;
-  AtMost = λ a b. id_cmp a b ≡ Greater → ⊥;
-}
 
 -- an id is found good exactly where some plan of candidates holds it
 abbrev pub GoodIsPlanned : Type 0

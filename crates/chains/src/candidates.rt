@@ -12,16 +12,17 @@ ghost use Rattle.requisites.specs.Sources.{HasSource};
 ghost use Rattle.supersede.specs.Giving.{fmids_of, is_candidate};
 ghost use Rattle.chains.specs.Candidates.{candidates_unless_there};
 ghost use Rattle.chains.specs.Climbs.{AreFrom, IsAnswer, IsFound, with_source};
-ghost use Rattle.chains.specs.Cuts.{id_at};
-ghost use Rattle.chains.specs.Indices.{IsAt, MarksAre, RowsAre};
-ghost use Rattle.chains.specs.Marks.{IsAtHand};
+ghost use Rattle.listings.specs.Cuts.{id_at};
+ghost use Rattle.listings.specs.Indices.{IsAt, MarksAre, RowsAre};
+ghost use Rattle.listings.specs.Marks.{IsAtHand};
 
 use crate::climbing::{Climb, climb_from, that_says};
-use crate::cut::{has_source, source_at, there_marks};
-use crate::indices::{do_ascend, ids_at, index_of, sort_each_once};
-use crate::listing::{Listing, is_any_installed};
 use crate::walks::Walks;
 use catalogue::{Published, SourceFault, Sysmod};
+use listings::{
+    Listing, do_ascend, has_source, ids_at, index_of, is_any_installed, sort_each_once, source_at,
+    there_marks,
+};
 use mcs_reader::{Id, NoMemory};
 use requisites::{Rows, is_marked, least_sources};
 use std::alloc::Global;

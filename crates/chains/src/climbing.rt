@@ -7,15 +7,11 @@ ghost use Rattle.catalogue.specs.View.{MayAsk, Tells};
 ghost use Rattle.catalogue.specs.declared.fault.SourceFault.TheVariants.{Device};
 ghost use Rattle.requisites.specs.Nodes.{AreReversed};
 ghost use Rattle.chains.specs.Climbs.{AreAbove, AreListed};
-ghost use Rattle.chains.specs.FrameIndices.{AreIndexed};
-ghost use Rattle.chains.specs.Marks.{IsAtHand, SaysOf};
+ghost use Rattle.listings.specs.Indices.{AreIndexed};
+ghost use Rattle.listings.specs.Marks.{IsAtHand, SaysOf};
 
-use crate::found::{ids_found, next_unread};
-use crate::gathered::ascending;
-use crate::indices::put_indices;
-use crate::listing::Listing;
-use crate::renewing::is_marked;
 use catalogue::{Ids, Published, SourceFault};
+use listings::{Listing, ascending, ids_found, is_marked, next_unread, put_indices};
 use mcs_reader::{Id, NoMemory};
 use requisites::{Rows, turned};
 use std::alloc::Global;

@@ -4,15 +4,14 @@ ghost use Rattle.std.specs.BTreeMap.{keys, values};
 ghost use Rattle.std.specs.List.{list_any};
 ghost use Rattle.catalogue.specs.Content.{Content, IsInOrder};
 ghost use Rattle.catalogue.specs.Ids.{Ascend};
-ghost use Rattle.chains.specs.FrameIndices.{AreIndexed, has_conds};
+ghost use Rattle.listings.specs.Indices.{AreIndexed};
+ghost use Rattle.chains.specs.FrameIndices.{has_conds};
 ghost use Rattle.chains.specs.Frames.{IsClosed, IsFrame, ids_in};
-ghost use Rattle.chains.specs.Gathered.{AreNamed, IsGathered};
+ghost use Rattle.listings.specs.Gathered.{AreNamed, IsGathered};
 
-use crate::found::ids_found;
-use crate::gathered::Gathered;
-use crate::links::Links;
-use crate::nodes::nodes_of;
+use crate::frame_nodes::frame_nodes;
 use catalogue::{CondNeeds, Ids};
+use listings::{Gathered, Links, ids_found};
 use mcs_reader::{Id, NoMemory};
 use requisites::Rows;
 use std::alloc::Global;
@@ -80,7 +79,7 @@ impl Frame {
             supersedes,
             above,
         } = Links::of(alloc, &ids, &all)?;
-        let nodes = nodes_of(alloc, &ids, &all, &above)?;
+        let nodes = frame_nodes(alloc, &ids, &all, &above)?;
         let conditional = is_any_conditional(&nodes);
         Ok(Frame {
             nodes,

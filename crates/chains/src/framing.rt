@@ -5,8 +5,8 @@ ghost use Rattle.catalogue.specs.declared.fault.SourceFault.TheVariants.{Device}
 ghost use Rattle.chains.specs.Frames.{IsFrame};
 
 use crate::frames::Frame;
-use crate::gathered::gather;
 use catalogue::{Published, SourceFault};
+use listings::gather;
 use mcs_reader::Id;
 use std::alloc::Global;
 

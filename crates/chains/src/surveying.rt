@@ -4,20 +4,18 @@ ghost use Rattle.catalogue.specs.Content.{Content};
 ghost use Rattle.catalogue.specs.Ids.{Ascend};
 ghost use Rattle.catalogue.specs.View.{MayAsk, Tells};
 ghost use Rattle.catalogue.specs.declared.fault.SourceFault.TheVariants.{Device};
-ghost use Rattle.chains.specs.Indices.{AreNodesWithin};
+ghost use Rattle.listings.specs.Indices.{AreNodesWithin};
 ghost use Rattle.chains.specs.Judge as judge;
-ghost use Rattle.chains.specs.Sights.{IsListing};
+ghost use Rattle.listings.specs.Sights.{IsListing};
 ghost use Rattle.chains.specs.Surveys.{IsSurvey, status_by};
 ghost use Rattle.chains.specs.United.{united};
 ghost use Rattle.chains.specs.Verdicts.{verdict_of};
 ghost use Rattle.zone_lists.specs.declared.zones.ZoneRow.{ZoneRow};
 
-use crate::cut::Cut;
-use crate::indices::{by_ids, ids_at, index_of, put_indices};
-use crate::listing::Listing;
-use crate::reading::cut_of;
+use crate::node_verdicts::by_ids;
 use crate::{Status, Verdict};
 use catalogue::{Published, SourceFault};
+use listings::{Listing, ZoneNodes, ids_at, index_of, put_indices, zone_nodes_of};
 use mcs_reader::{Id, NoMemory};
 use requisites::{Resolution, chosen_plans, is_marked, resolve, verdict_of_node};
 use std::alloc::Global;
@@ -28,7 +26,7 @@ use supersede::Zone;
 /// long as what is published and the zone stay.
 #[derive(Debug, Drop)]
 pub struct Survey {
-    cut: Cut,
+    cut: ZoneNodes,
     resolution: Resolution,
 }
 
@@ -53,12 +51,12 @@ impl Survey {
         ensures { IfOk result (λ survey. (content : Content) → IsListing content listing.now
             → IsSurvey content zone.now survey) }
     {
-        let cut = Cut::of_listing(alloc, zone, listing)?;
+        let cut = ZoneNodes::of_listing(alloc, zone, listing)?;
         Survey::resolved(alloc, cut)
     }
 
     // By the nodes of a zone.
-    fn resolved(alloc: Global, cut: Cut) -> Result<Survey, NoMemory>
+    fn resolved(alloc: Global, cut: ZoneNodes) -> Result<Survey, NoMemory>
         requires ascend { Ascend cut.members.items }
         requires within { AreNodesWithin cut.members.items cut.nodes }
         ensures { IfOk result (λ survey. survey ≡ (record {
@@ -161,6 +159,6 @@ pub fn survey_of<P: Published>(
     ensures survey { IfOk result (λ survey. Tells P.content_view source.old source.new
         (λ content. IsSurvey content zone.now survey)) }
 {
-    let cut = cut_of(alloc, source, zone)?;
+    let cut = zone_nodes_of(alloc, source, zone)?;
     Ok(Survey::resolved(alloc, cut)?)
 }

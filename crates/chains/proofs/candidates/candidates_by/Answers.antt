@@ -4,10 +4,11 @@ use Rattle.catalogue.proofs.TellingFacts.{told_by_two}
 use Rattle.requisites.specs.Sources.{AreLeastSources, HasSource}
 use Rattle.supersede.specs.Giving.{is_candidate}
 use Rattle.chains.specs.Climbs.{IsFound}
-use Rattle.chains.specs.Cuts.{id_at}
-use Rattle.chains.specs.Indices.{AreThere, MarksAre}
+use Rattle.listings.specs.Cuts.{id_at}
+use Rattle.listings.specs.Indices.{AreThere, MarksAre}
+use Rattle.chains.proofs.AboveFacts.{unheld_above}
 use Rattle.chains.proofs.AnswerFacts.{AreMarked, found_is, one_inside}
-use Rattle.chains.proofs.SupersederFacts.{unheld, unheld_above, unheld_in_order}
+use Rattle.listings.proofs.SupersederFacts.{unheld, unheld_in_order}
 use Rattle.chains.proofs.candidates.candidates_by.Goals as goal
 
 pub returns-clause-candidates : goal.returns-clause-candidates

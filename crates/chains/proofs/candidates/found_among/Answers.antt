@@ -3,7 +3,7 @@ use Rattle.lemmas.proofs.ResultFacts.{ok_so}
 use Rattle.requisites.specs.Nodes.{row}
 use Rattle.chains.specs.Candidates.{candidates_unless_there}
 use Rattle.chains.specs.Climbs.{IsAnswer, with_source}
-use Rattle.chains.specs.Indices.{RowsAre}
+use Rattle.listings.specs.Indices.{RowsAre}
 use Rattle.chains.proofs.AnswerFacts.{answer_is, kept_answers}
 use Rattle.chains.proofs.candidates.found_among.Goals as goal
 

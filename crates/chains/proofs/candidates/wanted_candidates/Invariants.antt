@@ -2,9 +2,9 @@ use Rattle.std.proofs.Common.{◌≡◌, length}
 use Rattle.requisites.specs.Sources.{HasSource}
 use Rattle.supersede.specs.Giving.{is_candidate}
 use Rattle.catalogue.proofs.TellingFacts.{HasTold}
-use Rattle.chains.specs.Cuts.{id_at}
-use Rattle.chains.specs.Indices.{MarksAre}
-use Rattle.chains.specs.Marks.{IsAtHand}
+use Rattle.listings.specs.Cuts.{id_at}
+use Rattle.listings.specs.Indices.{MarksAre}
+use Rattle.listings.specs.Marks.{IsAtHand}
 use Rattle.chains.proofs.candidates.wanted_candidates.Given as goal
 
 abbrev pub invariant-loop-index : goal.invariant-loop-index

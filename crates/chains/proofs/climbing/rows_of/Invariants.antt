@@ -1,5 +1,4 @@
-use Rattle.chains.specs.FrameIndices.{list_at}
-use Rattle.chains.specs.Indices.{AreIndicesOf, RowsAre}
+use Rattle.listings.specs.Indices.{AreIndicesOf, RowsAre, list_at}
 use Rattle.chains.proofs.climbing.rows_of.Given as goal
 
 abbrev pub invariant-loop-index : goal.invariant-loop-index

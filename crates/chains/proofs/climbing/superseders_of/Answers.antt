@@ -3,9 +3,9 @@ use Rattle.std.specs.BTreeMap.{keys, values}
 use Rattle.catalogue.specs.Content.{superseders}
 use Rattle.catalogue.proofs.SourceFacts.{no_fault, told_both, told_so}
 use Rattle.catalogue.proofs.TellingFacts.{tells_on}
-use Rattle.chains.specs.Gathered.{AreRead}
+use Rattle.listings.specs.Gathered.{AreRead}
 use Rattle.chains.proofs.ClimbFacts.{above_now, asked_now, listed_ends, listed_now, starts_stay}
-use Rattle.chains.proofs.WalkFacts.{all_asked}
+use Rattle.listings.proofs.WalkFacts.{all_asked}
 use Rattle.chains.proofs.climbing.superseders_of.Goals as goal
 
 pub loop-at-preserved : goal.loop-at-preserved

@@ -5,8 +5,8 @@ use Rattle.catalogue.specs.Content.{ids_of, superseders}
 use Rattle.catalogue.specs.Ids.{Ascend}
 use Rattle.catalogue.proofs.TellingFacts.{HasTold}
 use Rattle.chains.specs.Climbs.{AreListed}
-use Rattle.chains.specs.Gathered.{AreRead}
-use Rattle.chains.specs.Marks.{IsAtHand}
+use Rattle.listings.specs.Gathered.{AreRead}
+use Rattle.listings.specs.Marks.{IsAtHand}
 use Rattle.chains.proofs.climbing.superseders_of.Given as goal
 
 -- the ids before `at` were read

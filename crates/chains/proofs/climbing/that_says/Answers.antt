@@ -5,8 +5,8 @@ use Rattle.lemmas.proofs.ResultFacts.{if_some, some_is}
 use Rattle.catalogue.specs.Ids.{same_id}
 use Rattle.catalogue.proofs.IdFacts.{itself}
 use Rattle.supersede.specs.Reach.{has}
-use Rattle.chains.specs.Marks.{IsListingBut, SaysOf}
-use Rattle.chains.specs.Sights.{ListingLists}
+use Rattle.listings.specs.Marks.{IsListingBut, SaysOf}
+use Rattle.listings.specs.Sights.{ListingLists}
 use Rattle.chains.proofs.climbing.that_says.Goals as goal
 
 pub returns : goal.returns

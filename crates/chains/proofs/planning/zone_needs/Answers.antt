@@ -1,6 +1,7 @@
 use Rattle.std.proofs.Common.{List, ℕ, [], ◌∷◌, ◌++◌, ◌∙◌, ◌≡◌, ◌<◌, ap, get_or, length, subst, sym, map}
 use Rattle.lemmas.proofs.ResultFacts.{ok_so}
-use Rattle.chains.specs.FrameIndices.{AreIndexed, node_needs}
+use Rattle.listings.specs.Indices.{AreIndexed}
+use Rattle.chains.specs.FrameIndices.{node_needs}
 use Rattle.chains.specs.Frames.{ids_in}
 use Rattle.chains.specs.declared.frames.FrameNode.{FrameNode}
 use Rattle.chains.proofs.PlanFacts.{needs_more, unconditional_indexed}

@@ -1,7 +1,7 @@
 use Rattle.std.proofs.Common.{map}
-use Rattle.chains.specs.FrameIndices.{list_at, node_needs}
+use Rattle.listings.specs.Indices.{AreIndicesOf, RowsAre, list_at}
+use Rattle.chains.specs.FrameIndices.{node_needs}
 use Rattle.chains.specs.Frames.{ids_in}
-use Rattle.chains.specs.Indices.{AreIndicesOf, RowsAre}
 use Rattle.chains.proofs.planning.zone_needs.Given as goal
 
 abbrev pub invariant-loop-index : goal.invariant-loop-index

@@ -4,7 +4,7 @@ use Rattle.catalogue.proofs.SourceFacts.{no_fault, told_both, told_so}
 use Rattle.catalogue.proofs.TellingFacts.{tells_on, told_by_two}
 use Rattle.chains.specs.Judge.{status_of}
 use Rattle.chains.specs.Verdicts.{verdict_of}
-use Rattle.chains.proofs.IndexFacts.{made_more}
+use Rattle.listings.proofs.IndexFacts.{made_more}
 use Rattle.chains.proofs.judge.Judge.statuses.Goals as goal
 
 pub loop-id-preserved : goal.loop-id-preserved

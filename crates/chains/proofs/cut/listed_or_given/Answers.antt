@@ -1,8 +1,0 @@
-use Rattle.requisites.specs.Sources.{HasSource}
-use Rattle.chains.proofs.IndexFacts.{there_more}
-use Rattle.chains.proofs.cut.listed_or_given.Goals as goal
-
-pub loop-index-preserved : goal.loop-index-preserved
-loop-index-preserved c =
-    there_more c.args.zone.now c.args.members.now (HasSource c.args.sources.now) c.loop-index.index c.index-members-index.result c.loop-index.marks.items _ c.is_there.result
-    c.loop-index-test.true c.index-members-index.is c.loop-index.invariant c.is_there.ensures c.in_ok-push.ensures.items

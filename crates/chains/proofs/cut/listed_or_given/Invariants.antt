@@ -1,6 +1,0 @@
-use Rattle.requisites.specs.Sources.{HasSource}
-use Rattle.chains.specs.Indices.{IsThereAt, MarksAre}
-use Rattle.chains.proofs.cut.listed_or_given.Given as goal
-
-abbrev pub invariant-loop-index : goal.invariant-loop-index
-invariant-loop-index l = MarksAre (IsThereAt l.zone l.members (HasSource l.sources)) l.index l.marks.items

@@ -1,6 +1,0 @@
-use Rattle.std.proofs.Common.{◌≡◌, ◌++◌, map}
-use Rattle.chains.specs.Marks.{sight_seen}
-use Rattle.chains.proofs.listing.push_entries.Given as goal
-
-abbrev pub invariant-loop-seen : goal.invariant-loop-seen
-invariant-loop-seen l = l.entries.items ≡ l.fn.entries.items ++ map sight_seen l.yielded

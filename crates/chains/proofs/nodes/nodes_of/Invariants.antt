@@ -1,5 +1,0 @@
-use Rattle.chains.specs.FrameIndices.{AreNodesOf}
-use Rattle.chains.proofs.nodes.nodes_of.Given as goal
-
-abbrev pub invariant-loop-index : goal.invariant-loop-index
-invariant-loop-index l = AreNodesOf l.ids l.all l.index l.nodes.items

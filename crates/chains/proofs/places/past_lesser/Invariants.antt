@@ -1,5 +1,0 @@
-use Rattle.chains.specs.Places.{AreLesser}
-use Rattle.chains.proofs.places.past_lesser.Given as goal
-
-abbrev pub invariant-loop-index : goal.invariant-loop-index
-invariant-loop-index l = AreLesser l.ids l.index l.id

@@ -1,7 +1,0 @@
-use Rattle.std.proofs.Common.{◌≡◌, take}
-use Rattle.std.specs.List.{filter_map}
-use Rattle.chains.specs.Places.{place_at}
-use Rattle.chains.proofs.places.put_moved.Given as goal
-
-abbrev pub invariant-loop-index : goal.invariant-loop-index
-invariant-loop-index l = l.indices.items ≡ filter_map (place_at l.places) (take l.index-index l.row)

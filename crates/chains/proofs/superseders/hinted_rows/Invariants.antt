@@ -1,6 +1,0 @@
-use Rattle.chains.specs.Indices.{RowsAre}
-use Rattle.chains.specs.Superseders.{AreIndicesOfAll, superseded_at}
-use Rattle.chains.proofs.superseders.hinted_rows.Given as goal
-
-abbrev pub invariant-loop-index : goal.invariant-loop-index
-invariant-loop-index l = RowsAre (λ p indices. AreIndicesOfAll l.superseded (superseded_at l.entries p) indices) l.index l.rows

@@ -1,0 +1,14 @@
+pub mod OrderFacts
+pub mod SightFacts
+pub mod IndexFacts
+pub mod WayFacts
+pub mod MarkFacts
+pub mod RenewFacts
+pub mod ConditionalFacts
+pub mod PlaceFacts
+pub mod SupFacts
+pub mod MadeCutFacts
+pub mod MemberRowFacts
+pub mod WalkFacts
+pub mod LinkFacts
+pub mod SupersederFacts

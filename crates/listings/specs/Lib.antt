@@ -1,0 +1,10 @@
+pub mod Cuts
+pub mod Sights
+pub mod Marks
+pub mod Superseders
+pub mod Indices
+pub mod Places
+pub mod MemberRows
+pub mod ZoneNodes
+pub mod Gathered
+pub mod Links

@@ -1,0 +1,160 @@
+//! All that a SYSMOD reaches, read once.
+ghost use Rattle.std.specs.Prelude.{◌≡◌, ◌++◌, ◌≤◌, ◌<◌, true, false, IfNone, IfOk, IfSome, IsSome, OnOk, length};
+ghost use Rattle.std.specs.BTreeMap.{insert_entry, keys, values};
+ghost use Rattle.catalogue.specs.Ids.{Ascend, id_cmp, in_order};
+ghost use Rattle.catalogue.specs.View.{IsOpen, MayAsk, Tells};
+ghost use Rattle.catalogue.specs.declared.fault.SourceFault.TheVariants.{Device};
+ghost use Rattle.listings.specs.Gathered as spec;
+ghost use Rattle.listings.specs.Gathered.{AreNamed, IsGathered, named_by};
+ghost use Rattle.listings.specs.Sights.{reasons_in};
+
+use crate::conditional::push_each_need;
+use crate::found::next_unread;
+use crate::indices::sort_each_once;
+use crate::listing::{append, push_reasons};
+use catalogue::{CondNeeds, Ids, Published, SourceFault, Sysmod};
+use holddata::Hold;
+use mcs_reader::{Id, NoMemory};
+use std::alloc::Global;
+use std::collections::BTreeMap;
+
+/// What is read of a SYSMOD that a frame has.
+#[derive(Debug, Drop)]
+pub struct Gathered {
+    pub catalogued: bool,
+    pub fmids: Ids,
+    pub needs: Ids,
+    pub conds: CondNeeds,
+    pub superseded: Ids,
+    // The SYSMODs that supersede it directly.
+    pub above: Ids,
+}
+
+/// What the source says of a SYSMOD, of all that it may need and all that supersedes it, of all that these may
+/// need, and so on. Each is read once. With a limit it gives up where there are more than so many.
+pub fn gather<P: Published>(
+    alloc: Global,
+    source: &mut P,
+    start: &Id,
+    most: Option<usize>,
+) -> Result<Option<BTreeMap<Id, Gathered>>, SourceFault>
+    ensures asks { MayAsk P.content_view Device source.old source.new result }
+    ensures gathered { IfOk result (λ found. IfSome found (λ found. Tells P.content_view source.old source.new
+        (λ content. IsGathered content start.now (keys found) (values found)))) }
+    ensures named { IfOk result (λ found. IfSome found (λ found. AreNamed (values found) (keys found))) }
+    ensures standing { IfOk result (λ found. IfSome found (λ found. IsOpen P.content_view source.new)) }
+    ensures whole { IfOk result (λ found. IfNone found (IsSome most)) }
+    ensures few { IfOk result (λ found. IfSome found
+        (λ found. IfSome most (λ most. length (keys found) ≤ most))) }
+{
+    let mut found = BTreeMap::new(alloc);
+    let mut order = Vec::new(alloc);
+    order.push(*start)?;
+    let mut at = 0;
+    while at < order.len() {
+        if is_full(&found, most) {
+            return Ok(None);
+        }
+        let id = order[at];
+        let gathered = gathered_of(alloc, source, &id)?;
+        add(&mut found, &mut order, id, gathered)?;
+        at = next_unread(&found, &order, at + 1);
+    }
+    Ok(Some(found))
+}
+
+// Whether there is no room for one more.
+fn is_full(found: &BTreeMap<Id, Gathered>, most: Option<usize>) -> bool
+    ensures full { result ≡ true → IsSome most }
+    ensures room { result ≡ false → IfSome most (λ most. length (keys found.now) < most) }
+{
+    match most {
+        Some(most) => found.len() >= most,
+        None => false,
+    }
+}
+
+// Puts what is read of an id among what was found, and the ids that it names at the end of the order.
+fn add(
+    found: &mut BTreeMap<Id, Gathered>,
+    order: &mut Vec<Id>,
+    id: Id,
+    gathered: Gathered,
+) -> Result<(), NoMemory>
+    ensures found { OnOk result (found.new.entries ≡ insert_entry id_cmp found.old.entries id gathered) }
+    ensures order { OnOk result (order.new.items ≡ order.old.items ++ named_by gathered) }
+{
+    order.extend_from_slice(gathered.needs.as_slice())?;
+    push_each_need(order, gathered.conds.as_slice())?;
+    order.extend_from_slice(gathered.above.as_slice())?;
+    found.insert(id, gathered)?;
+    Ok(())
+}
+
+fn gathered_of<P: Published>(
+    alloc: Global,
+    source: &mut P,
+    id: &Id,
+) -> Result<Gathered, SourceFault>
+    ensures asks { MayAsk P.content_view Device source.old source.new result }
+    ensures gathered { IfOk result (λ gathered. Tells P.content_view source.old source.new
+        (λ content. gathered ≡ spec.gathered_of content id.now)) }
+    ensures standing { IfOk result (λ gathered. IsOpen P.content_view source.new) }
+{
+    let sysmod = source.sysmod(id)?;
+    let holds = source.holds_on(id)?;
+    let above = source.superseders(id)?;
+    Ok(gathered_from(alloc, sysmod, &holds, above)?)
+}
+
+fn gathered_from(
+    alloc: Global,
+    sysmod: Option<Sysmod>,
+    holds: &[Hold],
+    above: Vec<Id>,
+) -> Result<Gathered, NoMemory>
+    requires { Ascend above.items }
+    ensures { IfOk result (λ gathered. gathered ≡ spec.gathered_from sysmod holds.now above.items) }
+{
+    let above = ascending(above);
+    let Some(sysmod) = sysmod else {
+        return Ok(Gathered {
+            catalogued: false,
+            fmids: Ids::new(alloc),
+            needs: with_reasons(Vec::new(alloc), holds)?,
+            conds: CondNeeds::new(alloc),
+            superseded: Ids::new(alloc),
+            above,
+        });
+    };
+    let needs = append(sysmod.pre.into_vec(), sysmod.req.into_vec())?;
+    Ok(Gathered {
+        catalogued: true,
+        fmids: sysmod.fmids,
+        needs: with_reasons(needs, holds)?,
+        conds: sysmod.conds,
+        superseded: sysmod.sup,
+        above,
+    })
+}
+
+// Requisites and the reasons of the ERROR holds, in ascending order, each once.
+fn with_reasons(requisites: Vec<Id>, holds: &[Hold]) -> Result<Ids, NoMemory>
+    ensures { IfOk result (λ needs. needs ≡ in_order (requisites.items ++ reasons_in holds.now)) }
+{
+    let mut needs = requisites;
+    push_reasons(&mut needs, holds)?;
+    sort_each_once(&mut needs)?;
+    Ok(ascending(needs))
+}
+
+/// Ids that ascend, each once, as a list of such. It takes no memory.
+pub fn ascending(ids: Vec<Id>) -> Ids
+    requires { Ascend ids.items }
+    ensures { result ≡ ids.items }
+{
+    match Ids::from_ascending(ids) {
+        Some(ids) => ids,
+        None => unreachable!(),
+    }
+}

@@ -1,0 +1,337 @@
+//! What a source says of all that is catalogued, read once.
+ghost use Rattle.std.specs.Prelude.{◌≡◌, ◌<◌, ◌≤◌, ◌++◌, length, map, IfOk, OnOk};
+ghost use Rattle.std.specs.List.{list_any};
+ghost use Rattle.zone_lists.specs.Installed.{is_installed};
+ghost use Rattle.catalogue.specs.Content.{Content, ids_of, superseders};
+ghost use Rattle.catalogue.specs.Ids.{Ascend};
+ghost use Rattle.catalogue.specs.View.{MayAsk, Tells};
+ghost use Rattle.catalogue.specs.declared.fault.SourceFault.TheVariants.{Device};
+ghost use Rattle.supersede.specs.Giving.{is_candidate};
+ghost use Rattle.catalogue.specs.Seen.{seen_in};
+ghost use Rattle.listings.specs.Marks.{IsListingBut, SaysOf, sight_seen};
+ghost use Rattle.listings.specs.Sights.{IsListing, reasons_in, sight_from, sight_of, unseen};
+ghost use Rattle.listings.specs.Superseders.{AreSuperseders};
+
+use crate::gathered::ascending;
+use crate::indices::{ids_at, index_of, sort_each_once};
+use crate::renewing::{found_entries, ids_now, unmarked_entries, woven};
+use crate::superseders::Superseders;
+use catalogue::{CondNeed, CondNeeds, Ids, Published, Seen, SourceFault, Sysmod};
+use holddata::{Hold, Kind};
+use mcs_reader::{Id, NoMemory};
+use std::alloc::Global;
+use std::marker::Model;
+use supersede::Zone;
+
+/// What is read of a SYSMOD. A contract sees it with its lists.
+#[derive(Debug, Drop)]
+pub(crate) struct Entry {
+    fmids: Ids,
+    needs: Vec<Id>,
+    conds: CondNeeds,
+    superseded: Vec<Id>,
+}
+
+impl Model for Entry {
+    ghost use Rattle.listings.specs.Sights.{Sight};
+
+    ghost Value = { Sight };
+
+    ghost view = { λ entry. record {
+      fmids = entry.fmids;
+      needs = entry.needs.items;
+      conds = entry.conds;
+      superseded = entry.superseded.items;
+    } };
+}
+
+impl Entry {
+    /// Of what isn't catalogued. It takes no memory.
+    pub(crate) fn unseen(alloc: Global) -> Self
+        ensures { result ≡ unseen }
+    {
+        Entry {
+            fmids: Ids::new(alloc),
+            needs: Vec::new(alloc),
+            conds: CondNeeds::new(alloc),
+            superseded: Vec::new(alloc),
+        }
+    }
+
+    /// Whether it may be installed in a zone: one of the functions that it is for is there.
+    pub(crate) fn is_candidate(&self, zone: &Zone) -> bool
+        ensures { result ≡ list_any (λ fmid. is_installed zone.now fmid) self.now.fmids }
+    {
+        is_any_installed(zone, &self.fmids)
+    }
+
+    /// What it needs in every zone.
+    pub(crate) fn needs(&self) -> &[Id]
+        ensures { result.now ≡ self.now.needs }
+    {
+        self.needs.as_slice()
+    }
+
+    /// What it needs where a function is installed.
+    pub(crate) fn conds(&self) -> &[CondNeed]
+        ensures { result.now ≡ self.now.conds }
+    {
+        self.conds.as_slice()
+    }
+
+    pub(crate) fn superseded(&self) -> &[Id]
+        ensures { result.now ≡ self.now.superseded }
+    {
+        self.superseded.as_slice()
+    }
+}
+
+/// All that is catalogued: of each SYSMOD the functions that it is for, what it needs and what it supersedes. It
+/// names no zone.
+#[derive(Debug, Drop)]
+pub struct Listing {
+    ids: Vec<Id>,
+    entries: Vec<Entry>,
+    superseders: Superseders,
+}
+
+impl Model for Listing {
+    ghost use Rattle.std.specs.Prelude.{◌≡◌, length};
+    ghost use Rattle.catalogue.specs.Ids.{Ascend};
+    ghost use Rattle.listings.specs.Sights.{ListingLists};
+    ghost use Rattle.listings.specs.Superseders.{AreSuperseders};
+
+    ghost Value = { ListingLists };
+
+    ghost view = { λ listing. record { ids = listing.ids.items; sights = listing.entries.items } };
+
+    ghost invariant = { λ listing. Ascend listing.ids.items
+        × (length listing.entries.items ≡ length listing.ids.items)
+        × AreSuperseders listing.entries.items listing.superseders.superseded.items
+        listing.superseders.below listing.superseders.above };
+}
+
+impl Listing {
+    /// What is catalogued, ascending.
+    pub(crate) fn ids(&self) -> &[Id]
+        ensures ids { result.now ≡ self.now.ids }
+        ensures ascend { Ascend result.now }
+    {
+        self.ids.as_slice()
+    }
+
+    /// What is read of each of them, in their order.
+    pub(crate) fn entries(&self) -> &[Entry]
+        ensures sights { result.now ≡ self.now.sights }
+        ensures len { length result.now ≡ length self.now.ids }
+    {
+        self.entries.as_slice()
+    }
+
+    /// The SUP of all of them, both ways.
+    pub(crate) fn all_superseders(&self) -> &Superseders
+        ensures { AreSuperseders self.now.sights result.now.superseded.items
+            result.now.below result.now.above }
+    {
+        &self.superseders
+    }
+
+    /// The SYSMODs whose SUP names an id, ascending.
+    pub fn superseders(&self, alloc: Global, id: &Id) -> Result<Ids, NoMemory>
+        ensures superseders { IfOk result (λ found. (content : Content) → SaysOf content id.now self.now
+            → found ≡ superseders content id.now) }
+        ensures ascend { (content : Content) → SaysOf content id.now self.now → Ascend (ids_of content) }
+    {
+        let mut found = ids_at(alloc, &self.ids, self.superseders.indices(id))?;
+        sort_each_once(&mut found)?;
+        Ok(ascending(found))
+    }
+
+    /// That of a later content, where this one is of it but for some marked ids, of which it is read anew. Only what is
+    /// marked is looked at; all else is taken over.
+    ///
+    /// # Errors
+    ///
+    /// `NoMemory` where memory ran out.
+    pub fn renewed(self, alloc: Global, marks: &[Id], read: Vec<Seen>) -> Result<Listing, NoMemory>
+        requires { Ascend marks.now }
+        ensures listing { IfOk result (λ renewed. (content : Content)
+            → IsListingBut content marks.now self → read.items ≡ map (seen_in content) marks.now
+            → IsListing content renewed) }
+        ensures ascend { IfOk result (λ renewed. Ascend renewed.ids) }
+    {
+        let Listing {
+            ids: listed,
+            entries,
+            superseders,
+        } = self;
+        let ids = ids_now(alloc, &listed, marks, &read)?;
+        let kept = unmarked_entries(alloc, &listed, entries, marks)?;
+        let found = found_entries(alloc, read)?;
+        let entries = woven(alloc, &ids, marks, kept, found)?;
+        let superseders = superseders.renewed(alloc, &listed, marks, &ids, &entries)?;
+        Ok(Listing {
+            ids,
+            entries,
+            superseders,
+        })
+    }
+
+    /// Whether an id is listed, and one of the functions that it is for is there.
+    pub fn is_candidate(&self, zone: &Zone, id: &Id) -> bool
+        ensures { (content : Content) → SaysOf content id.now self.now
+            → result ≡ is_candidate content zone.now id.now }
+    {
+        match index_of(&self.ids, id) {
+            Some(index) => self.entries[index].is_candidate(zone),
+            None => false,
+        }
+    }
+}
+
+// How many SYSMODs are read at once, at most: few enough that their records take little memory beside the listing.
+const RUN: usize = 4096;
+
+// How many of so many are read at once. Runs are as few as may be and of one length, since a store reads a short one
+// id by id.
+fn run_len(count: usize) -> usize
+    ensures some { 0 < result }
+    ensures most { result ≤ 4096 }
+{
+    let runs = count.div_ceil(RUN).max(1);
+    count.div_ceil(runs).max(1)
+}
+
+/// All that is catalogued, read once.
+///
+/// # Errors
+///
+/// `Memory` where memory ran out, `Device` where the source failed.
+pub fn listing_of<P: Published>(alloc: Global, source: &mut P) -> Result<Listing, SourceFault>
+    ensures asks { MayAsk P.content_view Device source.old source.new result }
+    ensures listing { IfOk result (λ listing. Tells P.content_view source.old source.new
+        (λ content. IsListing content listing)) }
+    ensures ascend { IfOk result (λ listing. Ascend listing.ids) }
+{
+    let ids = source.ids()?;
+    let entries = entries_of(alloc, source, &ids)?;
+    let superseders = Superseders::of(alloc, &entries)?;
+    Ok(Listing {
+        ids,
+        entries,
+        superseders,
+    })
+}
+
+/// What is read of some ids, in runs.
+pub(crate) fn entries_of<P: Published>(
+    alloc: Global,
+    source: &mut P,
+    ids: &[Id],
+) -> Result<Vec<Entry>, SourceFault>
+    ensures asks { MayAsk P.content_view Device source.old source.new result }
+    ensures entries { IfOk result (λ entries. Tells P.content_view source.old source.new
+        (λ content. entries.items ≡ map (sight_of content) ids.now)) }
+    ensures len { IfOk result (λ entries. length entries.items ≡ length ids.now) }
+{
+    let mut entries = Vec::with_capacity(alloc, ids.len())?;
+    for run in ids.chunks(run_len(ids.len())) {
+        read_run(alloc, source, run, &mut entries)?;
+    }
+    make_as_many(alloc, &mut entries, ids.len())?;
+    Ok(entries)
+}
+
+// Makes them so many. They are so many already, unless a disk returned what was never written.
+fn make_as_many(alloc: Global, entries: &mut Vec<Entry>, len: usize) -> Result<(), NoMemory>
+    ensures len { OnOk result (length entries.new.items ≡ len) }
+    ensures same { OnOk result (length entries.old.items ≡ len → entries.new.items ≡ entries.old.items) }
+{
+    entries.truncate(len);
+    for _ in entries.len()..len {
+        entries.push(Entry::unseen(alloc))?;
+    }
+    Ok(())
+}
+
+fn read_run<P: Published>(
+    alloc: Global,
+    source: &mut P,
+    run: &[Id],
+    entries: &mut Vec<Entry>,
+) -> Result<(), SourceFault>
+    ensures asks { MayAsk P.content_view Device source.old source.new result }
+    ensures entries { OnOk result (Tells P.content_view source.old source.new
+        (λ content. entries.new.items ≡ entries.old.items ++ map (sight_of content) run.now)) }
+{
+    let read = source.seen(alloc, run)?;
+    push_entries(alloc, entries, read)?;
+    Ok(())
+}
+
+/// Adds what was read, in its order.
+pub(crate) fn push_entries(
+    alloc: Global,
+    entries: &mut Vec<Entry>,
+    read: Vec<Seen>,
+) -> Result<(), NoMemory>
+    ensures { OnOk result (entries.new.items ≡ entries.old.items ++ map sight_seen read.items) }
+{
+    for seen in read {
+        entries.push(entry_from(alloc, seen.sysmod, &seen.holds)?)?;
+    }
+    Ok(())
+}
+
+fn entry_from(alloc: Global, sysmod: Option<Sysmod>, holds: &[Hold]) -> Result<Entry, NoMemory>
+    ensures { IfOk result (λ entry. entry ≡ sight_from sysmod holds.now) }
+{
+    let Some(sysmod) = sysmod else {
+        let mut needs = Vec::new(alloc);
+        push_reasons(&mut needs, holds)?;
+        return Ok(Entry {
+            fmids: Ids::new(alloc),
+            needs,
+            conds: CondNeeds::new(alloc),
+            superseded: Vec::new(alloc),
+        });
+    };
+    let mut needs = append(sysmod.pre.into_vec(), sysmod.req.into_vec())?;
+    push_reasons(&mut needs, holds)?;
+    Ok(Entry {
+        fmids: sysmod.fmids,
+        needs,
+        conds: sysmod.conds,
+        superseded: sysmod.sup.into_vec(),
+    })
+}
+
+/// The ids of two lists, one after the other. It takes no memory where the first is empty.
+pub(crate) fn append(mut first: Vec<Id>, second: Vec<Id>) -> Result<Vec<Id>, NoMemory>
+    ensures { IfOk result (λ both. both.items ≡ first.items ++ second.items) }
+{
+    if first.is_empty() {
+        return Ok(second);
+    }
+    first.extend_from_slice(second.as_slice())?;
+    Ok(first)
+}
+
+/// Whether one of these functions is installed.
+pub fn is_any_installed(zone: &Zone, fmids: &Ids) -> bool
+    ensures { result ≡ list_any (λ fmid. is_installed zone.now fmid) fmids.now }
+{
+    fmids.as_slice().iter().any(|fmid| zone.installed(fmid))
+}
+
+/// Adds the reasons of the ERROR holds.
+pub(crate) fn push_reasons(needs: &mut Vec<Id>, holds: &[Hold]) -> Result<(), NoMemory>
+    ensures { OnOk result (needs.new.items ≡ needs.old.items ++ reasons_in holds.now) }
+{
+    for hold in holds {
+        if hold.key.kind == Kind::ErrorHold {
+            needs.push(hold.key.reason)?;
+        }
+    }
+    Ok(())
+}

@@ -1,0 +1,75 @@
+//! Where the ids of one list stand in another: both ascend, and each is gone through once.
+ghost use Rattle.std.specs.Prelude.{◌≡◌, ◌<◌, IfOk, OnOk, filter_map, length};
+ghost use Rattle.std.specs.declared.cmp.Ordering.TheVariants.{Less};
+ghost use Rattle.catalogue.specs.Ids.{Ascend, id_cmp};
+ghost use Rattle.listings.specs.Cuts.{id_at};
+ghost use Rattle.listings.specs.Places as Places;
+ghost use Rattle.listings.specs.Places.{AreLesser, ArePlaces, IsPlace};
+
+use mcs_reader::{Id, NoMemory};
+use std::alloc::Global;
+
+/// For each id of one list where it stands in another, if it does.
+pub(crate) fn places(alloc: Global, from: &[Id], to: &[Id]) -> Result<Vec<Option<usize>>, NoMemory>
+    requires from { Ascend from.now }
+    requires to { Ascend to.now }
+    ensures { IfOk result (λ places. ArePlaces from.now to.now (length from.now) places.items) }
+{
+    let mut places = Vec::with_capacity(alloc, from.len())?;
+    let mut next = 0;
+    for id in from {
+        next = past_lesser(to, next, id);
+        places.push(place_here(to, next, id))?;
+    }
+    Ok(places)
+}
+
+// The first index at which no lesser id stands. Below an index all are known to be lesser.
+fn past_lesser(ids: &[Id], known: usize, id: &Id) -> usize
+    requires { AreLesser ids.now known id.now }
+    ensures lesser { AreLesser ids.now result id.now }
+    ensures next { result < length ids.now → id_cmp (id_at ids.now result) id.now ≡ Less → ⊥ }
+{
+    for index in known..ids.len() {
+        if !ids[index].cmp(id).is_lt() {
+            return index;
+        }
+    }
+    ids.len()
+}
+
+// Where an id stands, which can only be at one index.
+fn place_here(ids: &[Id], index: usize, id: &Id) -> Option<usize>
+    requires ascend { Ascend ids.now }
+    requires lesser { AreLesser ids.now index id.now }
+    requires next { index < length ids.now → id_cmp (id_at ids.now index) id.now ≡ Less → ⊥ }
+    ensures { IsPlace ids.now id.now result }
+{
+    if index < ids.len() && ids[index] == *id {
+        return Some(index);
+    }
+    None
+}
+
+/// Makes a list that of the places of indices, where they have one.
+pub(crate) fn put_moved(
+    indices: &mut Vec<usize>,
+    places: &[Option<usize>],
+    row: &[usize],
+) -> Result<(), NoMemory>
+    ensures { OnOk result (indices.new.items ≡ filter_map (Places.place_at places.now) row.now) }
+{
+    indices.clear();
+    for index in row {
+        if let Some(place) = place_at(places, *index) {
+            indices.push(place)?;
+        }
+    }
+    Ok(())
+}
+
+fn place_at(places: &[Option<usize>], index: usize) -> Option<usize>
+    ensures { result ≡ Places.place_at places.now index }
+{
+    places.get(index).copied().flatten()
+}
