@@ -13,8 +13,8 @@ use Rattle.sql_tables.specs.Stored.{Stored}
 use Rattle.sql_state.specs.Writing.{Changes}
 use Rattle.sql_writes.specs.Excused.{Takes}
 use Rattle.sql_writes.specs.Many.{AreNew}
-use Rattle.sql_writes.proofs.ChangeFacts.{alike, both}
-use Rattle.sql_writes.proofs.LoadFacts.{in_turn, told}
+use Rattle.sql_rows.proofs.ChangeFacts.{alike, both}
+use Rattle.sql_rows.proofs.TurnFacts.{in_turn, told}
 use Rattle.sql_writes.proofs.TakeFacts.{takes_as, takes_then}
 
 -- what goes next of a list, by a statement that takes so many rows at most

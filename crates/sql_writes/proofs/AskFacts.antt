@@ -34,7 +34,7 @@ use Rattle.sql_writes.specs.Room.{AreUpTo}
 use Rattle.sql_writes.proofs.NumberFacts.{raised_up_to}
 use Rattle.sql_writes.proofs.RefusalFacts.{unrun}
 use Rattle.sql_writes.proofs.TakeFacts.{stopped_first}
-use Rattle.sql_writes.proofs.StatementFacts.{same_value}
+use Rattle.sql_rows.proofs.StatementFacts.{same_value}
 
 kept_shown : (old new : State) (sql : List ℕ) (c : Compiled) (params : Row) (rows : List Row) (what : Option Returning) → IsTrue old.in_transaction → ShowsRows old new sql c params rows what → KeepsCommit old new
 kept_shown old new sql c params rows None inside h = kept_unchanged old new h.3

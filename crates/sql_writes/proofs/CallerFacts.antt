@@ -44,11 +44,12 @@ use Rattle.bureau_store.specs.declared.caller.CallerRow.{CallerRow}
 use Rattle.sql_tables.specs.Rows.{caller_row}
 use Rattle.sql_state.specs.Numbered.{IsNumbered}
 use Rattle.sql_writes.specs.Making.{AreApart, AreFit, caller_rows}
-use Rattle.sql_writes.proofs.RowidFacts.{all_below, put_next}
+use Rattle.sql_rows.proofs.RowidFacts.{all_below, put_next}
 use Rattle.sql_writes.proofs.RefusalFacts.{both}
-use Rattle.sql_writes.proofs.RuleFacts.{IsSound, plain_text, untyped, whole_number}
-use Rattle.sql_writes.proofs.StatementFacts.{cast_null}
-use Rattle.sql_writes.proofs.SoundFacts.{itself}
+use Rattle.sql_rows.proofs.FittingFacts.{plain_text, untyped, whole_number}
+use Rattle.sql_writes.proofs.RuleFacts.{IsSound}
+use Rattle.sql_rows.proofs.StatementFacts.{cast_null}
+use Rattle.sql_rows.proofs.AbsentFacts.{itself}
 use Rattle.sql_writes.proofs.NumberFacts.{one_more}
 
 -- ---- the rows of callers

@@ -22,10 +22,10 @@ use Rattle.sql_tables.specs.Values.{date_value, hold_kind_value, id_value, ids_v
 use Rattle.sql_state.specs.Ours.{held_by}
 use Rattle.sql_state.specs.Writing.{Changes}
 use Rattle.sql_writes.specs.Parts.{with_callers, with_conds, with_head, with_hold, with_last, with_received}
-use Rattle.sql_writes.specs.Running.{Ran}
-use Rattle.sql_writes.proofs.ChangeFacts.{changed_by}
-use Rattle.sql_writes.proofs.StatementFacts.{cast_int, cast_null, inserts}
-use Rattle.sql_writes.proofs.StoredFacts.{come, held_set, known_after}
+use Rattle.sql_rows.specs.Running.{Ran}
+use Rattle.sql_rows.proofs.ChangeFacts.{changed_by}
+use Rattle.sql_rows.proofs.StatementFacts.{cast_int, cast_null, inserts}
+use Rattle.sql_rows.proofs.StoredFacts.{come, held_set, known_after}
 
 -- ---- a value is of its column's type already
 

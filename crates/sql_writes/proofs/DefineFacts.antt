@@ -29,7 +29,7 @@ use Rattle.sqlite_schema.specs.declared.schema.Index.{Index}
 use Rattle.sqlite_value.specs.declared.value.Value.TheVariants.{Text}
 use Rattle.sql_texts.specs.Meaning.{MakesIndex, MakesTable}
 use Rattle.sql_writes.proofs.RefusalFacts.{both, gave, halts}
-use Rattle.sql_writes.proofs.StatementFacts.{on_table, same_value}
+use Rattle.sql_rows.proofs.StatementFacts.{on_table, same_value}
 
 -- ---- names that are new
 

@@ -26,7 +26,7 @@ use Rattle.sql_state.proofs.StopFacts.{was_clean}
 use Rattle.sql_writes.specs.Excused.{Excuses, IsExcused}
 use Rattle.sql_writes.specs.Many.{statement_by}
 use Rattle.sql_writes.specs.Making.{Leads}
-use Rattle.sql_writes.specs.Running.{FailsInside}
+use Rattle.sql_rows.specs.Running.{FailsInside}
 use Rattle.sql_writes.proofs.DefineFacts.{IsNew, IsNewIndex, index_stops, table_stops}
 use Rattle.sql_writes.proofs.RefusalFacts.{excused, writes}
 use Rattle.sql_writes.proofs.RuleFacts.{delete_stops, insert_stops, version_sound}

@@ -24,13 +24,13 @@ use Rattle.sql_tables.specs.Values.{id_value}
 use Rattle.sql_state.specs.Ours.{held_by}
 use Rattle.sql_writes.specs.Excused.{IsExcused}
 use Rattle.sql_writes.specs.Making.{AreFit, IsOpened, Leads}
-use Rattle.sql_writes.specs.Running.{FailsInside, Ran}
+use Rattle.sql_rows.specs.Running.{FailsInside, Ran}
 use Rattle.sql_writes.proofs.CallerFacts.{caller_sound, next_from, rows_more}
 use Rattle.sql_writes.proofs.ExcuseFacts.{excused_by}
 use Rattle.sql_writes.proofs.MakeFacts.{leads_by}
 use Rattle.sql_writes.proofs.RuleFacts.{insert_stops}
-use Rattle.sql_writes.proofs.StatementFacts.{cast_null, inserts}
-use Rattle.sql_writes.proofs.StoredFacts.{come, held_set, known_after}
+use Rattle.sql_rows.proofs.StatementFacts.{cast_null, inserts}
+use Rattle.sql_rows.proofs.StoredFacts.{come, held_set, known_after}
 
 module _ (text : List ℕ) (old new : State) (result : Result (Unit {0}) Error) (row : CallerRow) (a b : ValueRef) (at_a : owned a ≡ id_value row.name) (at_b : owned b ≡ Text row.token)
     (means : Means bureau text (insert_given 1 2) 2) (before : List CallerRow) where

@@ -26,7 +26,7 @@ use Rattle.sql_writes.specs.declared.records.SupRow.{SupRow}
 use Rattle.sql_writes.specs.declared.records.SysmodRow.{SysmodRow}
 use Rattle.sql_writes.proofs.AlikeFacts.{part, part_as}
 use Rattle.sql_writes.proofs.BoundFacts.{one_more}
-use Rattle.sql_writes.proofs.FindFacts.{none_filtered, none_gone}
+use Rattle.sql_rows.proofs.TableFacts.{none_filtered, none_gone}
 use Rattle.sql_writes.proofs.LeaveFacts.{same_order}
 use Rattle.sql_writes.proofs.TogetherFacts.{MakesOwn, all_gone, all_rest, cond_rows, conds_own, gone, in_turn, member_rows, members_new, members_own, none_in_both, none_made, published_in_turn, records_new, sysmods_own}
 

@@ -13,8 +13,8 @@ use Rattle.sql_state.specs.Writing.{Changes}
 use Rattle.bureau_store.specs.Effects.{effect_as, maker_of}
 use Rattle.sql_writes.specs.Parts.{with_last, without_last}
 use Rattle.bureau_store.specs.declared.effect.Effect.{Effect}
-use Rattle.sql_writes.proofs.ChangeFacts.{both, changes_then}
-use Rattle.sql_writes.proofs.StoredFacts.{replaced_then}
+use Rattle.sql_rows.proofs.ChangeFacts.{both, changes_then}
+use Rattle.sql_rows.proofs.StoredFacts.{replaced_then}
 
 -- what an effect changes, told of the same effect
 pub by_effect : {A F : Type 0} (old new : State) (result : Result A F) (effect same : Effect) → effect ≡ same

@@ -26,11 +26,7 @@ use Rattle.sql_texts.specs.Meaning.{Means}
 use Rattle.sql_texts.specs.Reads.{is_given}
 use Rattle.sql_texts.specs.Schema as schema
 use Rattle.sql_texts.specs.Schema.{bureau}
-use Rattle.sql_texts.specs.Writes.{by_id, by_zone, delete_of}
-use Rattle.sql_texts.specs.declared.write.TableById.{TableById}
-use Rattle.sql_texts.specs.declared.write.TableById.TheVariants.{LastChange, ReceivedList, Sysmod, SysmodCond, SysmodSup}
-use Rattle.sql_texts.specs.declared.write.TableByZone.{TableByZone}
-use Rattle.sql_texts.specs.declared.write.TableByZone.TheVariants.{ZoneHead, ZoneRow as OfZoneRow}
+use Rattle.sql_texts.specs.Writes.{delete_of}
 use Rattle.sql_tables.specs.Changes.{is_under, replaced}
 use Rattle.sql_tables.specs.Fit.{AreIds, AreZoneRows, IsCond}
 use Rattle.sql_tables.specs.Rows.{cond_row, sup_row, zone_row}
@@ -38,56 +34,15 @@ use Rattle.sql_tables.specs.Stored.{Stored, is_named, is_of, is_of_both}
 use Rattle.sql_tables.specs.Values.{hold_kind_value, id_value}
 use Rattle.sql_tables.proofs.ValueFacts.{named_value}
 use Rattle.sql_writes.specs.Excused.{Takes}
-use Rattle.sql_writes.specs.Parts.{is_of_three, with_conds, with_rows, without_conds, without_head, without_hold, without_last, without_received, without_rows}
-use Rattle.sql_writes.specs.Running.{FailsInside, Ran}
-use Rattle.sql_writes.proofs.AbsentFacts.{gone_and_come, gone_now, none_before}
+use Rattle.sql_rows.specs.Parts.{is_of_three}
+use Rattle.sql_writes.specs.Parts.{with_conds, with_rows, without_conds, without_head, without_hold, without_last, without_received, without_rows}
+use Rattle.sql_rows.specs.Running.{FailsInside, Ran}
+use Rattle.sql_rows.proofs.AbsentFacts.{gone_and_come, gone_now, none_before}
 use Rattle.sql_writes.proofs.StepFacts.{goes_takes}
 
 -- ---- rows that go
 
 module _ (old new : State) (text : List ℕ) (result : Result (Unit {0}) Error) where
-  -- the rows of an id
-  abbrev IdLeaves : ℕ → ℕ → Type 0
-  IdLeaves table_index tree = (id : List ℕ) (a : ValueRef) → owned a ≡ id_value id → Means bureau text (delete_of table_index tree (is_given 1 0 ∷ [])) 1
-      → Ran text (bound (a ∷ [])) old new result → FailsInside text (bound (a ∷ [])) old new result → Takes old new result 0 (λ stored. Unit {0})
-
-  given_id : (id : List ℕ) (a : ValueRef) → owned a ≡ id_value id → bound (a ∷ []) ≡ id_value id ∷ []
-  given_id id a at = λ i. bound_value (at i) ∷ []
-
-  pub ids_leave : (table : TableById) → IdLeaves (by_id table).table_index (by_id table).tree
-  ids_leave LastChange id a at means ran fails =
-      goes_takes text old new result 2 schema.last_change refl (λ database known. known.numbered.1.1.0) (λ most trees low. low.1.1.0) (is_given 1 0 ∷ []) 1 (id_value id ∷ []) means refl refl
-      (subst (λ row. Ran text row old new result) (given_id id a at) ran) (subst (λ row. FailsInside text row old new result) (given_id id a at) fails)
-  ids_leave Sysmod id a at means ran fails =
-      goes_takes text old new result 3 schema.sysmod refl (λ database known. known.numbered.1.1.1.0) (λ most trees low. low.1.1.1.0) (is_given 1 0 ∷ []) 1 (id_value id ∷ []) means refl refl
-      (subst (λ row. Ran text row old new result) (given_id id a at) ran) (subst (λ row. FailsInside text row old new result) (given_id id a at) fails)
-  ids_leave SysmodSup id a at means ran fails =
-      goes_takes text old new result 4 schema.sysmod_sup refl (λ database known. known.numbered.1.1.1.1.0) (λ most trees low. low.1.1.1.1.0) (is_given 1 0 ∷ []) 1 (id_value id ∷ []) means refl refl
-      (subst (λ row. Ran text row old new result) (given_id id a at) ran) (subst (λ row. FailsInside text row old new result) (given_id id a at) fails)
-  ids_leave SysmodCond id a at means ran fails =
-      goes_takes text old new result 9 schema.sysmod_cond refl (λ database known. known.numbered.1.1.1.1.1.1.1.1.1.0) (λ most trees low. low.1.1.1.1.1.1.1.1.1.0) (is_given 1 0 ∷ []) 1 (id_value id ∷ []) means refl refl
-      (subst (λ row. Ran text row old new result) (given_id id a at) ran) (subst (λ row. FailsInside text row old new result) (given_id id a at) fails)
-  ids_leave ReceivedList id a at means ran fails =
-      goes_takes text old new result 8 schema.received_list refl (λ database known. known.numbered.1.1.1.1.1.1.1.1.0) (λ most trees low. low.1.1.1.1.1.1.1.1.0) (is_given 1 0 ∷ []) 1 (id_value id ∷ []) means refl refl
-      (subst (λ row. Ran text row old new result) (given_id id a at) ran) (subst (λ row. FailsInside text row old new result) (given_id id a at) fails)
-
-  -- those of a client's zone
-  abbrev ZoneLeaves : ℕ → ℕ → Type 0
-  ZoneLeaves table_index tree = (client zone : List ℕ) (a b : ValueRef) → owned a ≡ id_value client → owned b ≡ id_value zone
-      → Means bureau text (delete_of table_index tree (is_given 1 0 ∷ is_given 2 1 ∷ [])) 2
-      → Ran text (bound (a ∷ b ∷ [])) old new result → FailsInside text (bound (a ∷ b ∷ [])) old new result → Takes old new result 0 (λ stored. Unit {0})
-
-  given_zone : (client zone : List ℕ) (a b : ValueRef) → owned a ≡ id_value client → owned b ≡ id_value zone → bound (a ∷ b ∷ []) ≡ id_value client ∷ id_value zone ∷ []
-  given_zone client zone a b at_a at_b = λ i. bound_value (at_a i) ∷ bound_value (at_b i) ∷ []
-
-  pub zones_leave : (table : TableByZone) → ZoneLeaves (by_zone table).table_index (by_zone table).tree
-  zones_leave ZoneHead client zone a b at_a at_b means ran fails =
-      goes_takes text old new result 6 schema.zone_head refl (λ database known. known.numbered.1.1.1.1.1.1.0) (λ most trees low. low.1.1.1.1.1.1.0) (is_given 1 0 ∷ is_given 2 1 ∷ []) 2 (id_value client ∷ id_value zone ∷ []) means refl refl
-      (subst (λ row. Ran text row old new result) (given_zone client zone a b at_a at_b) ran) (subst (λ row. FailsInside text row old new result) (given_zone client zone a b at_a at_b) fails)
-  zones_leave OfZoneRow client zone a b at_a at_b means ran fails =
-      goes_takes text old new result 7 schema.zone_row refl (λ database known. known.numbered.1.1.1.1.1.1.1.0) (λ most trees low. low.1.1.1.1.1.1.1.0) (is_given 1 0 ∷ is_given 2 1 ∷ []) 2 (id_value client ∷ id_value zone ∷ []) means refl refl
-      (subst (λ row. Ran text row old new result) (given_zone client zone a b at_a at_b) ran) (subst (λ row. FailsInside text row old new result) (given_zone client zone a b at_a at_b) fails)
-
   -- a hold
   pub holds_leave : (key : HoldKey) (a b c : ValueRef) → owned a ≡ id_value key.sysmod → owned b ≡ hold_kind_value key.kind → owned c ≡ id_value key.reason
       → Means bureau text (delete_of 5 11 (is_given 1 0 ∷ is_given 2 1 ∷ is_given 3 2 ∷ [])) 3 → Ran text (bound (a ∷ b ∷ c ∷ [])) old new result → FailsInside text (bound (a ∷ b ∷ c ∷ [])) old new result

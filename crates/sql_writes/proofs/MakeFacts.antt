@@ -22,12 +22,12 @@ use Rattle.sql_tables.specs.InTrees.{columns_of}
 use Rattle.sql_state.specs.Numbered.{IsNumbered}
 use Rattle.sql_state.specs.Ours.{version_rows}
 use Rattle.sql_writes.specs.Making.{IsMade, IsOpened, Leads}
-use Rattle.sql_writes.specs.Running.{Ran}
+use Rattle.sql_rows.specs.Running.{Ran}
 use Rattle.sql_state.proofs.StopFacts.{survives_both, was_clean}
-use Rattle.sql_writes.proofs.ChangeFacts.{keeps_both}
+use Rattle.sql_rows.proofs.ChangeFacts.{keeps_both}
 use Rattle.sql_writes.proofs.RefusalFacts.{whole_text}
-use Rattle.sql_writes.proofs.StatementFacts.{inserts_version, on_table, same_value, went}
-use Rattle.sql_writes.proofs.StoredFacts.{known_after}
+use Rattle.sql_rows.proofs.StatementFacts.{inserts_version, on_table, same_value, went}
+use Rattle.sql_rows.proofs.StoredFacts.{known_after}
 
 -- what CREATE TABLE leaves
 pub record HasTable (table : Table) (before after : Schema) (old new : Database) : Type 0 where

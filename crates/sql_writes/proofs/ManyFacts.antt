@@ -20,7 +20,7 @@ use Rattle.sqlite.specs.Table.{Table}
 use Rattle.sqlite.specs.Term.{Term}
 use Rattle.sqlite.specs.Tree.{Trees, put_row, rowid}
 use Rattle.sqlite.specs.declared.error.Error.{Error}
-use Rattle.sqlite.specs.declared.types.Value.TheVariants.{Int, Null}
+use Rattle.sqlite.specs.declared.types.Value.TheVariants.{Int}
 use Rattle.sqlite.proofs.Callers.{IsPlain, command_of, one_step, runs_as, statement_of}
 use Rattle.sqlite_rules.specs.Edit.{Edit, IsOversized, IsRefused, are_fresh}
 use Rattle.sqlite_rules.specs.Keys.{are_unique}
@@ -42,7 +42,6 @@ use Rattle.sqlite_trees.proofs.ListLemmas.{all_weaker}
 use Rattle.sqlite_trees.proofs.TreeLemmas.{IsShaped-put_row}
 use Rattle.sqlite_trees.specs.Tree.{with_tree}
 use Rattle.sqlite_trees.specs.View.{IsStorable, IsStorableRow, is_int}
-use Rattle.sqlite_typing.specs.Types.{accepts_terms}
 use Rattle.sql_texts.specs.Schema.{bureau, indexes, tables}
 use Rattle.sql_tables.specs.InTrees.{columns_of}
 use Rattle.sql_tables.specs.Stored.{Stored}
@@ -51,26 +50,19 @@ use Rattle.sql_state.specs.Ours.{held_by}
 use Rattle.sql_state.specs.Writing.{IsKnown}
 use Rattle.sql_state.proofs.StopFacts.{was_clean}
 use Rattle.sql_writes.specs.Excused.{IsExcused, Takes}
-use Rattle.sql_writes.specs.Many.{MeansBy}
+use Rattle.sql_writes.specs.Many.{IsGiven, MeansBy, unnumbered, with_next}
 use Rattle.sql_writes.specs.Room.{AreUpTo, IsRoomy, are_up_to}
-use Rattle.sql_writes.specs.Running.{FailsInside, Ran}
+use Rattle.sql_rows.specs.Fitting.{IsFitting}
+use Rattle.sql_rows.specs.Running.{FailsInside, Ran}
 use Rattle.sql_writes.proofs.ExcuseFacts.{excused_by}
 use Rattle.sql_writes.proofs.NumberFacts.{all_raised, next_is, one_more_up_to, raised_up_to, set_up_to}
 use Rattle.sql_writes.proofs.RefusalFacts.{both}
-use Rattle.sql_writes.proofs.RowidFacts.{put_next}
+use Rattle.sql_rows.proofs.RowidFacts.{put_next}
 use Rattle.sql_writes.proofs.RuleFacts.{IsSound, insert_stops}
-use Rattle.sql_writes.proofs.SoundFacts.{IsFitting, elsewhere, here_it_is, trees_apart}
-use Rattle.sql_writes.proofs.StatementFacts.{IsSet, chosen_for, on_table, same_value, uncounted_rows, went}
+use Rattle.sql_writes.proofs.SoundFacts.{elsewhere, here_it_is, trees_apart}
+use Rattle.sql_rows.proofs.StatementFacts.{IsSet, chosen_for, on_table, same_value, uncounted_rows, went}
 use Rattle.sql_writes.proofs.StepFacts.{From, keys_once}
-use Rattle.sql_writes.proofs.StoredFacts.{come}
-
--- what a statement is given for rows whose rowids are chosen
-abbrev pub unnumbered : List Row → List Row
-unnumbered all = map (λ values. Null ∷ values) all
-
--- a row under the next number
-abbrev pub with_next : List Row → Row → Row
-with_next rows values = Int (next_rowid rows) ∷ values
+use Rattle.sql_rows.proofs.StoredFacts.{come}
 
 -- rows under the numbers that follow one another from the next one on
 abbrev pub news : List Row → List Row → List Row
@@ -261,12 +253,6 @@ module _ (text : List ℕ) (old new : State) (table_index : ℕ) (table : Table)
         numbered = grown_numbered all rows ordered;
         others = subst (λ (every : ℕ → List Row). AllByRecursion (λ t. t.tree ≢ table.tree → every t.tree ≡ db t.tree) tables) (sym (ap (λ (d : Database). d.trees) now ∙ trees)) applied.tables;
       }
-
--- parameters that make these rows of a table, by the terms of a statement with so many of them
-pub record IsGiven (table : Table) (terms : List Term) (width : ℕ) (names : List (List ℕ)) (params : Row) (all : List Row) : Type 0 where
-  pub counted : length params ≡ length names
-  pub accepted : accepts_terms terms (stamped table params) ≡ true
-  pub source : value_rows (stamped table params) width (length terms / width) terms ≡ unnumbered all
 
 -- why it is refused, and which numbers the table has after it
 module _ (text : List ℕ) (old new : State) (result : Result (Unit {0}) Error) (table_index : ℕ) (table : Table) (at_index : slice_get tables table_index ≡ Some table) (uncounted : table.is_counted ≡ false)

@@ -21,10 +21,10 @@ use Rattle.sql_state.specs.Numbered.{IsNumbered}
 use Rattle.sql_state.specs.Ours.{version_rows}
 use Rattle.sql_writes.specs.Making.{Leads}
 use Rattle.sql_writes.specs.Migrating.{HeldEarlier, HoldsAll}
-use Rattle.sql_writes.specs.Running.{Ran}
+use Rattle.sql_rows.specs.Running.{Ran}
 use Rattle.sql_writes.proofs.MakeFacts.{leads_by, makes_table, one_more}
-use Rattle.sql_writes.proofs.StatementFacts.{deletes, inserts_version}
-use Rattle.sql_writes.proofs.StoredFacts.{held_set, known_after}
+use Rattle.sql_rows.proofs.StatementFacts.{deletes, inserts_version}
+use Rattle.sql_rows.proofs.StoredFacts.{held_set, known_after}
 
 numbered_still : (old new : Trees) (all : List Table) → AllByRecursion (λ table. IsNumbered (old table.tree)) all → KeepsRows all old new
     → AllByRecursion (λ table. IsNumbered (new table.tree)) all

@@ -15,7 +15,7 @@ use Rattle.sqlite.specs.declared.types.Value.TheVariants.{Blob, Int, Null, Real,
 use Rattle.sqlite_rules.proofs.ListLemmas.{has_filtered, test_from, test_has, test_push}
 use Rattle.sql_texts.specs.Schema.{tables}
 use Rattle.sql_writes.specs.Room.{AreUpTo, are_up_to, is_up_to}
-use Rattle.sql_writes.proofs.StatementFacts.{IsSet}
+use Rattle.sql_rows.proofs.StatementFacts.{IsSet}
 
 up_to_is : (most : ℕ) (value : Value) → is_up_to most value ≡ true → (n : ℕ) × (value ≡ Int (pos n)) × (n ≤ most)
 up_to_is most (Int (pos n)) low = (n, refl, grind (arith, nat_tests, low))

@@ -28,20 +28,20 @@ use Rattle.sql_state.specs.Numbered.{IsNumbered}
 use Rattle.sql_state.specs.Ours.{held_by}
 use Rattle.sql_state.specs.Writing.{Changes}
 use Rattle.sql_writes.specs.Excused.{Takes}
-use Rattle.sql_writes.specs.Many.{MeansBy, insert_alike, parameters_to, rows_alike}
+use Rattle.sql_writes.specs.Many.{IsGiven, MeansBy, insert_alike, parameters_to, rows_alike, unnumbered, with_next}
 use Rattle.sql_writes.specs.Records.{AreNewRecords, record_rows, values_of, with_sysmods}
 use Rattle.sql_writes.specs.Room.{are_short_ids, is_short_change}
-use Rattle.sql_writes.specs.Running.{FailsInside, Ran}
+use Rattle.sql_rows.specs.Running.{FailsInside, Ran}
 use Rattle.sql_writes.specs.declared.records.SysmodRow.{SysmodRow}
-use Rattle.sql_writes.proofs.AbsentFacts.{unique_sysmod}
+use Rattle.sql_rows.proofs.AbsentFacts.{unique_sysmod}
 use Rattle.sql_writes.proofs.BoundFacts.{bound_more, one_more}
-use Rattle.sql_writes.proofs.ChangeFacts.{changed_by}
-use Rattle.sql_writes.proofs.FittingFacts.{fits_sysmod}
-use Rattle.sql_writes.proofs.ManyFacts.{AreFree, IsGiven, all_take, columns_more, grown_columns, inserts_all, numbered_more, unnumbered, with_next}
+use Rattle.sql_rows.proofs.ChangeFacts.{changed_by}
+use Rattle.sql_rows.proofs.FittingFacts.{fits_sysmod}
+use Rattle.sql_writes.proofs.ManyFacts.{AreFree, all_take, columns_more, grown_columns, inserts_all, numbered_more}
 use Rattle.sql_writes.proofs.RoomFacts.{few, short_enough, sysmod_kind_low}
-use Rattle.sql_writes.proofs.SoundFacts.{IsFitting}
-use Rattle.sql_writes.proofs.StatementFacts.{cast_int, cast_null}
-use Rattle.sql_writes.proofs.StoredFacts.{held_set, known_after}
+use Rattle.sql_rows.specs.Fitting.{IsFitting}
+use Rattle.sql_rows.proofs.StatementFacts.{cast_int, cast_null}
+use Rattle.sql_rows.proofs.StoredFacts.{held_set, known_after}
 use Rattle.sql_writes.proofs.TakeFacts.{takes_as}
 
 -- ---- what is bound

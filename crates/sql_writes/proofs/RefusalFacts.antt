@@ -18,7 +18,7 @@ use Rattle.sqlite_trees.specs.declared.error.StoreError.TheVariants.{Broken, Cor
 use Rattle.lemmas.proofs.TestFacts.{low_itself}
 use Rattle.sql_writes.specs.Many.{statement_by}
 use Rattle.sql_writes.specs.Excused.{Excuses}
-use Rattle.sql_writes.proofs.StatementFacts.{same_value}
+use Rattle.sql_rows.proofs.StatementFacts.{same_value}
 
 -- ---- a part of a statement that stops
 

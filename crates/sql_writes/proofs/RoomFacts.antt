@@ -32,11 +32,11 @@ use Rattle.sql_tables.specs.Rows.{change_row, cond_row, head_row, received_row}
 use Rattle.sql_tables.specs.Stored.{is_of, is_of_both}
 use Rattle.sql_tables.specs.Values.{date_value, hold_kind_value, id_value, ids_value, optional_id_value, state_order, sysmod_kind_order, texts_value}
 use Rattle.sql_writes.specs.Excused.{Takes}
-use Rattle.sql_writes.specs.Parts.{is_of_three}
+use Rattle.sql_rows.specs.Parts.{is_of_three}
 use Rattle.sql_writes.specs.Room.{are_short, are_short_ids, is_short}
-use Rattle.sql_writes.specs.Running.{FailsInside, Ran}
-use Rattle.sql_writes.proofs.AbsentFacts.{unique_cond, unique_head, unique_hold, unique_last, unique_received}
-use Rattle.sql_writes.proofs.FittingFacts.{fits_cond, fits_head, fits_hold, fits_last_change, fits_received}
+use Rattle.sql_rows.specs.Running.{FailsInside, Ran}
+use Rattle.sql_rows.proofs.AbsentFacts.{unique_cond, unique_head, unique_hold, unique_last, unique_received}
+use Rattle.sql_rows.proofs.FittingFacts.{fits_cond, fits_head, fits_hold, fits_last_change, fits_received}
 use Rattle.sql_writes.proofs.StepFacts.{comes_takes}
 
 -- ---- lengths and numbers
@@ -96,7 +96,7 @@ module _ (old new : State) (text : List ℕ) (result : Result (Unit {0}) Error) 
       let given : bound (a ∷ b ∷ c ∷ []) ≡ change_row name last = λ i. bound_value (at_a i) ∷ bound_value (at_b i) ∷ bound_value (at_c i) ∷ [] in
       comes_takes text old new result 2 schema.last_change refl (λ database known. known.numbered.1.1.0) (λ most trees low. low.1.1.0) 3 (change_row name last) (λ stored. list_any (is_of name) stored.changes ≡ false)
       means refl refl refl refl (fits_last_change (text_of name) last.number last.reply (few name is) (short_enough last.reply short) some)
-      (λ database known none. unique_last database known name (Int (pos last.number) ∷ Blob last.reply ∷ []) is none)
+      (λ database known none. unique_last database.trees (database.trees 4) name (Int (pos last.number) ∷ Blob last.reply ∷ []) is none)
       (subst (λ row. Ran text row old new result) given ran) (subst (λ row. FailsInside text row old new result) given fails)
 
   pub cond_takes : (id : List ℕ) (cond : CondNeed) (a b c : ValueRef) → IsId id → IsId cond.fmid → IsId cond.need → owned a ≡ id_value id → owned b ≡ id_value cond.fmid → owned c ≡ id_value cond.need
@@ -106,7 +106,7 @@ module _ (old new : State) (text : List ℕ) (result : Result (Unit {0}) Error) 
       let given : bound (a ∷ b ∷ c ∷ []) ≡ cond_row id cond = λ i. bound_value (at_a i) ∷ bound_value (at_b i) ∷ bound_value (at_c i) ∷ [] in
       comes_takes text old new result 9 schema.sysmod_cond refl (λ database known. known.numbered.1.1.1.1.1.1.1.1.1.0) (λ most trees low. low.1.1.1.1.1.1.1.1.1.0) 3 (cond_row id cond) (λ stored. list_any (is_of_three id cond.fmid cond.need) stored.conds ≡ false)
       means refl refl refl refl (fits_cond (text_of id) (text_of cond.fmid) (text_of cond.need) (few id is) (few cond.fmid is_fmid) (few cond.need is_need))
-      (λ database known none. unique_cond database known id cond.fmid cond.need is is_fmid is_need none)
+      (λ database known none. unique_cond database.trees (database.trees 19) id cond.fmid cond.need [] is is_fmid is_need none)
       (subst (λ row. Ran text row old new result) given ran) (subst (λ row. FailsInside text row old new result) given fails)
 
   pub hold_takes : (hold : Hold) (a b c d e f h k : ValueRef) → owned a ≡ id_value hold.key.sysmod → owned b ≡ hold_kind_value hold.key.kind → owned c ≡ id_value hold.key.reason → owned d ≡ optional_id_value hold.fmid → owned e ≡ optional_id_value hold.class → owned f ≡ date_value hold.dated → owned h ≡ optional_id_value hold.resolver → owned k ≡ texts_value hold.categories
@@ -130,7 +130,7 @@ module _ (old new : State) (text : List ℕ) (result : Result (Unit {0}) Error) 
       let given : bound (a ∷ b ∷ c ∷ []) ≡ head_row client zone patterns = λ i. bound_value (at_a i) ∷ bound_value (at_b i) ∷ bound_value (at_c i) ∷ [] in
       comes_takes text old new result 6 schema.zone_head refl (λ database known. known.numbered.1.1.1.1.1.1.0) (λ most trees low. low.1.1.1.1.1.1.0) 3 (head_row client zone patterns) (λ stored. list_any (is_of_both client zone) stored.heads ≡ false)
       means refl refl refl refl (fits_head (text_of client) (text_of zone) _ (few client is) (few zone is_zone) (short_enough _ short))
-      (λ database known none. unique_head database known client zone (texts_value patterns ∷ []) is is_zone none)
+      (λ database known none. unique_head database.trees (database.trees 13) client zone (texts_value patterns ∷ []) is is_zone none)
       (subst (λ row. Ran text row old new result) given ran) (subst (λ row. FailsInside text row old new result) given fails)
 
   pub received_takes : (client : List ℕ) (ids : List (List ℕ)) (a b : ValueRef) → IsId client → owned a ≡ id_value client → owned b ≡ ids_value ids
@@ -139,5 +139,5 @@ module _ (old new : State) (text : List ℕ) (result : Result (Unit {0}) Error) 
   received_takes client ids a b is at_a at_b means ran fails short =
       let given : bound (a ∷ b ∷ []) ≡ received_row client ids = λ i. bound_value (at_a i) ∷ bound_value (at_b i) ∷ [] in
       comes_takes text old new result 8 schema.received_list refl (λ database known. known.numbered.1.1.1.1.1.1.1.1.0) (λ most trees low. low.1.1.1.1.1.1.1.1.0) 2 (received_row client ids) (λ stored. list_any (is_of client) stored.received ≡ false)
-      means refl refl refl refl (fits_received (text_of client) _ (few client is) (short_enough _ short)) (λ database known none. unique_received database known client (ids_value ids ∷ []) is none)
+      means refl refl refl refl (fits_received (text_of client) _ (few client is) (short_enough _ short)) (λ database known none. unique_received database.trees (database.trees 17) client (ids_value ids ∷ []) is none)
       (subst (λ row. Ran text row old new result) given ran) (subst (λ row. FailsInside text row old new result) given fails)

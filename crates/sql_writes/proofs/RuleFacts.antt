@@ -1,12 +1,10 @@
 -- No rule of the bureau's tables speaks against a statement that writes sound rows.
-use Rattle.std.proofs.Common.{◌≡◌, ◌≢◌, ℕ, Bool, true, false, List, [], ◌∷◌, Option, Some, None, Err, length, refl, sym, ◌∙◌, ap, subst, inl, inr, arith, zero, suc, ℤ, pos, negsuc}
+use Rattle.std.proofs.Common.{◌≡◌, ◌≢◌, ℕ, Bool, true, false, List, [], ◌∷◌, Option, Some, None, Err, length, refl, sym, ◌∙◌, ap, subst, inl, inr, arith, zero, suc, ℤ, pos}
 use Rattle.std.specs.Prelude.{IsSome, ◌/◌, nat_lt, not, slice_get}
 use Rattle.std.specs.List.{AllByRecursion}
 use Rattle.std.specs.Float.{NotNan}
-use Rattle.std.specs.Int.{bit_at}
 use lib.Ieee.{is_nan}
 use Rattle.std.proofs.lemmas.List.Elements.{All-from_recursion}
-use Rattle.std.proofs.lemmas.Nat.Bits.{bit_at-zero}
 use Rattle.std.proofs.lemmas.Bool.{false≢true}
 use Rattle.std.proofs.lemmas.List.{length-append}
 use Rattle.sqlite.specs.Command.TheVariants.{Insert}
@@ -43,13 +41,14 @@ use Rattle.sqlite_trees.specs.View.{IsStorable, IsStorableRow}
 use Rattle.sqlite.specs.Cast.{cast_row}
 use Rattle.sqlite.specs.Ops.{binary}
 use Rattle.sqlite_value.specs.Order.{number, value_cmp}
-use Rattle.sqlite_value.specs.declared.value.Value.TheVariants.{Int, Null, Text}
+use Rattle.sqlite_value.specs.declared.value.Value.TheVariants.{Int, Null}
 use Rattle.lemmas.proofs.TestFacts.{or_true}
 use Rattle.sql_texts.specs.Reads.{from_table}
 use Rattle.sql_texts.specs.Schema.{bureau, bureau_version, indexes}
 use Rattle.sql_texts.specs.Writes.{delete_of}
+use Rattle.sql_rows.proofs.FittingFacts.{no_value, untyped, whole_number}
 use Rattle.sql_writes.proofs.RefusalFacts.{both, gave, halts}
-use Rattle.sql_writes.proofs.StatementFacts.{cast_int, cast_null, on_table}
+use Rattle.sql_rows.proofs.StatementFacts.{cast_int, cast_null, on_table}
 
 -- ---- rows
 
@@ -161,25 +160,6 @@ delete_stops old text ours keeps stop h =
     unasked (Some e) (inl mismatch) = absurd (false≢true (sym mismatch.1))
     unasked (Some e) (inr (inl overflows)) = absurd (elim overflows.1 [ inl none ↦ none | inr some ↦ some.4 ])
     unasked (Some e) (inr (inr limited)) = limited.1
-
--- ---- a row that can be stored
-
-pub whole_number : (n : ℤ) → NotNan (number (Int n))
-unfolding is_nan
-whole_number (pos n) = tt
-whole_number (negsuc n) = tt
-
-pub plain_text : (t : List ℕ) → NotNan (number (Text t))
-unfolding is_nan
-plain_text t = tt
-
-no_value : NotNan (number Null)
-unfolding is_nan
-no_value = tt
-
--- the columns of no table here are REAL
-pub untyped : (c : ℕ) → bit_at 0 c ≡ 1 → ⊥
-untyped c one = let none = bit_at-zero c in omega (arith, one, none)
 
 -- ---- the version
 

@@ -14,7 +14,7 @@ use Rattle.sql_texts.specs.Schema.{bureau, bureau_1, sysmod_cond}
 use Rattle.sql_texts.specs.Writes.{delete_of, this_version}
 use Rattle.sql_writes.specs.Making.{Leads}
 use Rattle.sql_writes.specs.Migrating.{IsMigration, IsRunOf, IsWithConditions, IsWithoutVersion}
-use Rattle.sql_writes.specs.Running.{Ran}
+use Rattle.sql_rows.specs.Running.{Ran}
 use Rattle.sql_writes.proofs.MakeFacts.{leads_by}
 
 done_by : (old new : State) (returning : Option Returning) (command : Command) (text : List ℕ) (params : Row) (count : ℕ) → IsWrite command → Runs old new returning command text params count

@@ -1,20 +1,16 @@
 -- No rule of the bureau's tables speaks against rows that go, or against a row with a key of its own that comes.
 use Rattle.std.proofs.Common.{◌≡◌, ◌≢◌, ◌&&◌, ◌<◌, ◌+◌, ◌==◌, ℕ, ℤ, Bool, true, false, cond, List, [], ◌∷◌, Some, Err, Option, None, length, map, refl, sym, ◌∙◌, ap, subst, inl, inr, arith}
-use Rattle.std.specs.Prelude.{IsSome, ◌^◌, filter, nat_lt, not, slice_get}
-use Rattle.std.specs.List.{AllByRecursion, list_all, list_any}
-use Rattle.std.specs.Ordering.{is_ne}
-use Rattle.std.proofs.lemmas.Bool.{and_parts, both_ways, eq-eqb, false_from_ne_true, false≢true, lt-ltb, ne_eqb}
-use Rattle.std.proofs.lemmas.Cmp.{tied_itself}
-use Rattle.sqlite.specs.Cast.{cast_row}
+use Rattle.std.specs.Prelude.{IsSome, ◌^◌, nat_lt, not, slice_get}
+use Rattle.std.specs.List.{AllByRecursion, list_all}
+use Rattle.std.proofs.lemmas.Bool.{and_parts, eq-eqb, false≢true, lt-ltb, ne_eqb}
 use Rattle.sqlite.specs.Does.{Does, OnRows}
 use Rattle.sqlite.specs.Edit.{next_rowid, numbered}
-use Rattle.sqlite.specs.Ops.{binary, from_truth, is_true}
 use Rattle.sqlite.specs.Order.{Row}
 use Rattle.sqlite.specs.Rows.{Queried}
 use Rattle.sqlite.specs.State.{State, mode_of}
 use Rattle.sqlite.specs.Table.{Table}
 use Rattle.sqlite.specs.Term.{Term}
-use Rattle.sqlite.specs.Tree.{IsTable, Trees, put_row, rowid}
+use Rattle.sqlite.specs.Tree.{IsTable, Trees, put_row}
 use Rattle.sqlite.specs.declared.error.Error.{Error}
 use Rattle.sqlite.specs.declared.types.Value.TheVariants.{Int, Null}
 use Rattle.sqlite_rules.specs.Calls.{ids_of}
@@ -25,11 +21,11 @@ use Rattle.sqlite_rules.specs.declared.error.Refusal.{Refusal}
 use Rattle.sqlite_rules.specs.declared.error.Refusal.TheVariants as rule
 use Rattle.sqlite_rules.specs.declared.error.Refusal.TheVariants.{BadReference, Mismatch, NoRowid, TooDeep}
 use Rattle.sqlite_rules.specs.declared.error.Rowids.TheVariants.{Chosen, Given}
-use Rattle.sqlite_rules.proofs.ListLemmas.{has_got, has_kept, some_from, some_has, test_from}
+use Rattle.sqlite_rules.proofs.ListLemmas.{has_got, has_kept, test_from}
 use Rattle.sqlite_rules.proofs.PlaceLemmas.{left_or_taken, next_is_free}
 use Rattle.sqlite_rules.proofs.RuleLemmas.{Turns, unique_kept}
 use Rattle.sqlite_rules.proofs.TableLemmas.{has_put, put_all_keeps, put_has, without_all_has}
-use Rattle.sqlite_schema.specs.Rules.{Keeps, agree, clashes, differ, guards, index_reals, is_key_of, passes, table_reals}
+use Rattle.sqlite_schema.specs.Rules.{Keeps, guards, index_reals, is_key_of, table_reals}
 use Rattle.sqlite_schema.specs.declared.schema.Constraint.TheVariants.{Check, Datatype, ForeignKey, NotNull, PrimaryKey, Unique}
 use Rattle.sqlite_schema.specs.declared.schema.Index.{Index}
 use Rattle.sqlite_schema.specs.declared.schema.Keys.TheVariants.{Enforced}
@@ -38,18 +34,17 @@ use Rattle.sqlite_sql.specs.Ops.{fits_i64}
 use Rattle.sqlite_trees.specs.Tree.{IsAscending, with_tree}
 use Rattle.sqlite_trees.specs.View.{IsStorable, IsStorableRow}
 use Rattle.sqlite_typing.specs.Types.{accepts_program}
-use Rattle.sqlite_value.proofs.OrderLemmas.{value_cmp_total}
-use Rattle.sqlite_value.specs.Keys.{plain}
 use Rattle.lemmas.proofs.TestFacts.{or_true}
 use Rattle.sql_texts.specs.Reads.{from_table}
 use Rattle.sql_texts.specs.Schema.{bureau, indexes, tables}
 use Rattle.sql_texts.specs.Writes.{delete_of}
 use Rattle.sql_state.specs.Numbered.{IsNumbered}
 use Rattle.sql_writes.specs.Room.{are_up_to}
+use Rattle.sql_rows.specs.Fitting.{IsFitting}
 use Rattle.sql_writes.proofs.NumberFacts.{next_is}
 use Rattle.sql_writes.proofs.RefusalFacts.{both, gave, halts}
 use Rattle.sql_writes.proofs.RuleFacts.{IsSound, concluded, unedited}
-use Rattle.sql_writes.proofs.StatementFacts.{on_table}
+use Rattle.sql_rows.proofs.StatementFacts.{on_table}
 
 -- ---- each table has a tree of its own
 
@@ -136,33 +131,6 @@ deletion_stops old text table_index table tests params at ours ordered keeps acc
     unasked (Some e) (inr (inr limited)) = limited.1
 
 -- ---- a row that comes
-
-pub itself : (n : ℤ) → differ (Int n) (Int n) ≡ false
-unfolding binary
-itself n = ap (λ o. is_true (from_truth (Some (is_ne o)))) (tied_itself value_cmp_total (Int n))
-
--- none of the rows has the new one's key
-pub unclashed : (places : List ℕ) (rows : List Row) (n : ℤ) (values : Row) → list_any (λ other. agree plain places other places (Int n ∷ values)) rows ≡ false
-    → clashes plain places (put_row (Int n ∷ values) rows) (Int n ∷ values) ≡ false
-unclashed places rows n values none = false_from_ne_true _ (λ any.
-    let new = Int n ∷ values in
-    let other = some_has (λ other. agree plain places other places new && differ (rowid other) (rowid new)) (put_row new rows) any in
-    let parts = and_parts _ _ other.2 in
-    elim (put_has new rows other.0 other.1) [
-      | inl same ↦ both_ways _ (itself n) (subst (λ (r : Row). differ (rowid r) (Int n) ≡ true) same parts.1)
-      | inr was ↦ both_ways _ none (some_from (λ (other : Row). agree plain places other places new) rows other.0 was parts.0)
-    ])
-
--- what one row needs of its table, whatever number it gets
-pub record IsFitting (table : Table) (values : Row) : Type 0 where
-  pub cast : cast_row table (Null ∷ values) ≡ Null ∷ values
-  pub alone : table.references ≡ []
-  pub typed : (db : Trees) (n : ℤ) → passes Datatype bureau db table (Int n ∷ values) ≡ true
-  pub present : (db : Trees) (n : ℤ) → passes NotNull bureau db table (Int n ∷ values) ≡ true
-  pub checked : (db : Trees) (n : ℤ) → passes Check bureau db table (Int n ∷ values) ≡ true
-  pub storable : (n : ℤ) → IsStorableRow (table_reals table) (Int n ∷ values)
-  pub keys : (n : ℤ) (index : Index) → Has (filter (λ (i : Index). i.table == table.tree) indexes) index
-      → IsStorable (index_reals (table_reals table) index.columns) (entry_of index.columns (Int n ∷ values))
 
 module _ (table : Table) (values : Row) (listed : Has bureau.tables table) (fits : IsFitting table values) (db : Trees) (most : ℕ) (ordered : IsNumbered (db table.tree))
     (low : are_up_to most (db table.tree) ≡ true) (room : most + 1 < 2 ^ 63) (keeps : Keeps Unique bureau db) where

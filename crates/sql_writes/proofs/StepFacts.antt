@@ -32,13 +32,16 @@ use Rattle.sql_state.specs.Writing.{IsKnown}
 use Rattle.sql_state.proofs.StopFacts.{was_clean}
 use Rattle.sql_writes.specs.Excused.{IsExcused, Takes}
 use Rattle.sql_writes.specs.Room.{AreUpTo, IsRoomy, are_up_to}
-use Rattle.sql_writes.specs.Running.{FailsInside, Ran}
+use Rattle.sql_rows.specs.Fitting.{IsFitting}
+use Rattle.sql_rows.specs.Running.{FailsInside, Ran}
 use Rattle.sql_writes.proofs.ExcuseFacts.{excused_by}
 use Rattle.sql_writes.proofs.NumberFacts.{one_more_up_to, raised_up_to, set_up_to, still_up_to}
 use Rattle.sql_writes.proofs.RefusalFacts.{unrun}
 use Rattle.sql_writes.proofs.RuleFacts.{insert_stops}
-use Rattle.sql_writes.proofs.SoundFacts.{IsFitting, comes_soundly, deletion_stops}
-use Rattle.sql_writes.proofs.StatementFacts.{deletes, inserts}
+use Rattle.sql_writes.proofs.SoundFacts.{comes_soundly, deletion_stops}
+use Rattle.sql_rows.specs.Standing.{Stands}
+use Rattle.sql_rows.proofs.StatementFacts.{deletes, inserts}
+use Rattle.sql_rows.proofs.TableFacts.{at_index, numbered_so}
 
 -- the rules of the tables hold, and their rows are numbered
 pub keys_once : (database : Database) → IsKnown database → Keeps Unique bureau database.trees
@@ -47,6 +50,10 @@ keys_once database known = subst (λ s. Keeps Unique s database.trees) known.sch
 -- what is known of the tables and of what they hold
 abbrev pub From : ℕ → (Stored → Type 0) → Database → Type 0
 From most Fits database = IsRoomy most database × Fits (held_by database)
+
+-- each table has numbers up to the one that all have
+pub low_so : (index : ℕ) (table : Table) → slice_get tables index ≡ Some table → (most : ℕ) (trees : Trees) → AreUpTo most trees → are_up_to most (trees table.tree) ≡ true
+low_so index table at most trees low = at_index (λ (t : Table). are_up_to most (trees t.tree) ≡ true) tables index table at low
 
 module _ (text : List ℕ) (old new : State) (result : Result (Unit {0}) Error) (table_index : ℕ) (table : Table) (at : slice_get tables table_index ≡ Some table)
     (numbered : (database : Database) → IsKnown database → IsNumbered (database.trees table.tree)) (low : (most : ℕ) (trees : Trees) → AreUpTo most trees → are_up_to most (trees table.tree) ≡ true) where
@@ -100,6 +107,14 @@ module _ (text : List ℕ) (old new : State) (result : Result (Unit {0}) Error) 
           let it = (went clean inside).2 in
           let set = inserts text table_index table columns values values old new it.0 (means (was_clean old new _ ran.survives clean)) at uncounted source fitting.cast from.0.schema (numbered old.now from.0) it.1 in
           set_up_to (most + 1) table.tree _ old.now new.now set (one_more_up_to most values (old.now.trees table.tree) (low most old.now.trees from.1)) (raised_up_to most 1 old.now.trees from.1)
+
+-- the rows of a key go from a table, whichever it is
+pub rows_go_takes : (text : List ℕ) (old new : State) (result : Result (Unit {0}) Error) (index : ℕ) (table : Table) (rows : Stored → List Row) (with_rows : List Row → Stored → Stored)
+    → Stands index table rows with_rows → (tests : List Term) (parameters : ℕ) (params : Row) → Means bureau text (delete_of index table.tree tests) parameters
+    → length params ≡ length (map parameter (range_with_len 1 parameters)) → accepts_program bureau [] (from_table table.tree tests (0 ∷ []) []) params ≡ true
+    → Ran text params old new result → FailsInside text params old new result → Takes old new result 0 (λ stored. Unit {0})
+rows_go_takes text old new result index table rows with_rows stands tests parameters params means given accepted ran fails =
+    goes_takes text old new result index table stands.placed (numbered_so index table rows with_rows stands) (low_so index table stands.placed) tests parameters params means given accepted ran fails
 
 mapped_alike : {X Y Z : Type 0} (f : X → Y) (g : X → Z) (xs : List X) → length (map f xs) ≡ length (map g xs)
 mapped_alike f g [] = refl

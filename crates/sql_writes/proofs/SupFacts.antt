@@ -19,19 +19,19 @@ use Rattle.sql_state.specs.Numbered.{IsNumbered}
 use Rattle.sql_state.specs.Ours.{held_by}
 use Rattle.sql_state.specs.Writing.{Changes}
 use Rattle.sql_writes.specs.Excused.{Takes}
-use Rattle.sql_writes.specs.Many.{MeansBy, insert_alike, parameters_to, rows_alike}
+use Rattle.sql_writes.specs.Many.{IsGiven, MeansBy, insert_alike, parameters_to, rows_alike, with_next}
 use Rattle.sql_writes.specs.Records.{AreNewMembers, member_values, with_members}
-use Rattle.sql_writes.specs.Running.{FailsInside, Ran}
+use Rattle.sql_rows.specs.Running.{FailsInside, Ran}
 use Rattle.sql_writes.specs.declared.records.SupRow.{SupRow}
-use Rattle.sql_writes.proofs.AbsentFacts.{unique_sup}
+use Rattle.sql_rows.proofs.AbsentFacts.{unique_sup}
 use Rattle.sql_writes.proofs.AlikeFacts.{Comes}
 use Rattle.sql_writes.proofs.BoundFacts.{one_more}
-use Rattle.sql_writes.proofs.ChangeFacts.{changed_by}
-use Rattle.sql_writes.proofs.FittingFacts.{fits_sup}
-use Rattle.sql_writes.proofs.ManyFacts.{AreFree, IsGiven, all_take, cast_all, columns_more, grown_columns, inserts_all, numbered_more, with_next}
+use Rattle.sql_rows.proofs.ChangeFacts.{changed_by}
+use Rattle.sql_rows.proofs.FittingFacts.{fits_sup}
+use Rattle.sql_writes.proofs.ManyFacts.{AreFree, all_take, cast_all, columns_more, grown_columns, inserts_all, numbered_more}
 use Rattle.sql_writes.proofs.RoomFacts.{few}
-use Rattle.sql_writes.proofs.SoundFacts.{IsFitting}
-use Rattle.sql_writes.proofs.StoredFacts.{held_set, known_after}
+use Rattle.sql_rows.specs.Fitting.{IsFitting}
+use Rattle.sql_rows.proofs.StoredFacts.{held_set, known_after}
 use Rattle.sql_writes.proofs.TakeFacts.{takes_as}
 
 -- rows of what records supersede come after those that are there
@@ -82,7 +82,7 @@ free_sups : (db : Trees) (news : List SupRow) → HaveIds news → (rows : List 
 free_sups db [] are rows ordered none = tt
 free_sups db (row ∷ news) are rows ordered none =
     let values = member_values row in (
-      unique_sup db rows row.id row.member are.0.0 are.0.1 none.0,
+      unique_sup db rows row.id row.member [] are.0.0 are.0.1 none.0,
       free_sups db news are.1 (put_row (with_next rows values) rows) (numbered_more rows values ordered)
           (subst (AreNewMembers news) (sym (columns_more rows values ordered)) none.1),
     )

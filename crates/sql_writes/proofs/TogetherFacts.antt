@@ -27,13 +27,13 @@ use Rattle.sql_writes.specs.Records.{AreApart, AreNewMembers, AreNewRecords, Beg
 use Rattle.sql_writes.specs.Room.{rows_of_change}
 use Rattle.sql_writes.specs.declared.records.SupRow.{SupRow}
 use Rattle.sql_writes.specs.declared.records.SysmodRow.{SysmodRow}
-use Rattle.sql_writes.proofs.AbsentFacts.{gone_now}
+use Rattle.sql_rows.proofs.AbsentFacts.{gone_now}
 use Rattle.sql_writes.proofs.AlikeFacts.{each_new}
 use Rattle.sql_writes.proofs.BoundFacts.{one_more}
-use Rattle.sql_writes.proofs.FindFacts.{none_filtered, none_gone}
+use Rattle.sql_rows.proofs.TableFacts.{none_filtered, none_gone}
 use Rattle.sql_writes.proofs.LeaveFacts.{named, next_sup}
-use Rattle.sql_writes.proofs.LoadFacts.{ComesInTurn}
-use Rattle.sql_writes.proofs.StoredFacts.{replaced_then}
+use Rattle.sql_rows.proofs.TurnFacts.{ComesInTurn}
+use Rattle.sql_rows.proofs.StoredFacts.{replaced_then}
 
 -- ---- the rows of one table
 

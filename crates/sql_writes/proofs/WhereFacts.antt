@@ -10,8 +10,8 @@ use Rattle.sql_state.specs.Writing.{Changes, IsKnown}
 use Rattle.sql_writes.specs.Altering.{ChangesWhere}
 use Rattle.sql_writes.specs.Excused.{IsExcused, Takes}
 use Rattle.sql_writes.specs.Room.{IsRoomy}
-use Rattle.sql_writes.proofs.ChangeFacts.{alike_here, changes_then, refused, stopped, untouched}
-use Rattle.sql_writes.proofs.LoadFacts.{told}
+use Rattle.sql_rows.proofs.ChangeFacts.{alike_here, changes_then, refused, stopped, untouched}
+use Rattle.sql_rows.proofs.TurnFacts.{told}
 use Rattle.sql_writes.proofs.TakeFacts.{takes_then}
 
 -- a change that is this one where such a thing is true

@@ -23,19 +23,20 @@ use Rattle.sql_state.specs.Numbered.{IsNumbered}
 use Rattle.sql_state.specs.Ours.{held_by}
 use Rattle.sql_state.specs.Writing.{Changes}
 use Rattle.sql_writes.specs.Excused.{Takes}
-use Rattle.sql_writes.specs.Many.{AreNewRows, MeansBy, insert_alike, parameters_to, rows_alike}
-use Rattle.sql_writes.specs.Parts.{is_of_three, with_rows, without_rows}
-use Rattle.sql_writes.specs.Running.{FailsInside, Ran}
-use Rattle.sql_writes.proofs.AbsentFacts.{unique_zone_row}
+use Rattle.sql_writes.specs.Many.{AreNewRows, IsGiven, MeansBy, insert_alike, parameters_to, rows_alike, with_next}
+use Rattle.sql_rows.specs.Parts.{is_of_three}
+use Rattle.sql_writes.specs.Parts.{with_rows, without_rows}
+use Rattle.sql_rows.specs.Running.{FailsInside, Ran}
+use Rattle.sql_rows.proofs.AbsentFacts.{unique_zone_row}
 use Rattle.sql_writes.proofs.AlikeFacts.{Comes, each_new}
 use Rattle.sql_writes.proofs.BoundFacts.{one_more}
-use Rattle.sql_writes.proofs.ChangeFacts.{changed_by}
-use Rattle.sql_writes.proofs.FittingFacts.{fits_zone_row}
+use Rattle.sql_rows.proofs.ChangeFacts.{changed_by}
+use Rattle.sql_rows.proofs.FittingFacts.{fits_zone_row}
 use Rattle.sql_writes.proofs.LeaveFacts.{next_row}
-use Rattle.sql_writes.proofs.ManyFacts.{AreFree, IsGiven, all_take, cast_all, columns_more, grown_columns, inserts_all, numbered_more, with_next}
+use Rattle.sql_writes.proofs.ManyFacts.{AreFree, all_take, cast_all, columns_more, grown_columns, inserts_all, numbered_more}
 use Rattle.sql_writes.proofs.RoomFacts.{few, state_low}
-use Rattle.sql_writes.proofs.SoundFacts.{IsFitting}
-use Rattle.sql_writes.proofs.StoredFacts.{held_set, known_after}
+use Rattle.sql_rows.specs.Fitting.{IsFitting}
+use Rattle.sql_rows.proofs.StoredFacts.{held_set, known_after}
 use Rattle.sql_writes.proofs.TakeFacts.{takes_as}
 
 -- a list of SYSMODs of a zone comes after what was there

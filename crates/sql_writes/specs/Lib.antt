@@ -8,4 +8,3 @@ pub mod Migrating
 pub mod Parts
 pub mod Records
 pub mod Room
-pub mod Running

@@ -1,6 +1,11 @@
 -- Several rows that one statement inserts.
-use Rattle.std.specs.Prelude.{◌≡◌, ◌+◌, ◌++◌, ◌*◌, ◌/◌, ◌%◌, if◌then◌else◌, ℕ, Bool, false, List, [], ◌∷◌, None, Ok, flat_map, length, map, nat_lt}
+use Rattle.std.specs.Prelude.{◌≡◌, ◌+◌, ◌++◌, ◌*◌, ◌/◌, ◌%◌, if◌then◌else◌, ℕ, Bool, false, true, List, [], ◌∷◌, None, Ok, flat_map, length, map, nat_lt}
 use Rattle.std.specs.List.{list_any, range_with_len}
+use Rattle.sqlite.specs.Edit.{next_rowid}
+use Rattle.sqlite.specs.Effect.{value_rows}
+use Rattle.sqlite.specs.Rows.{stamped}
+use Rattle.sqlite.specs.Table.{Table}
+use Rattle.sqlite_typing.specs.Types.{accepts_terms}
 use Rattle.sqlite.specs.Command.{Command}
 use Rattle.sqlite.specs.Command.TheVariants.{Insert}
 use Rattle.sqlite.specs.Listing.{understood}
@@ -8,11 +13,11 @@ use Rattle.sqlite.specs.Order.{Row}
 use Rattle.sqlite.specs.Schema.{Schema}
 use Rattle.sqlite.specs.Source.TheVariants.{Values}
 use Rattle.sqlite.specs.Term.{Term, lit, col}
-use Rattle.sqlite.specs.declared.types.Value.TheVariants.{Null}
+use Rattle.sqlite.specs.declared.types.Value.TheVariants.{Int, Null}
 use Rattle.sqlite_resolve.specs.declared.compiled.Compiled.{Compiled}
 use Rattle.zone_lists.specs.declared.zones.ZoneRow.{ZoneRow}
 use Rattle.sql_tables.specs.Rows.{zone_row}
-use Rattle.sql_writes.specs.Parts.{is_of_three}
+use Rattle.sql_rows.specs.Parts.{is_of_three}
 
 -- parameters are written ?1 to ?99
 abbrev pub parameter : ℕ → List ℕ
@@ -48,6 +53,26 @@ abbrev pub insert_alike : ℕ → ℕ → ℕ → ℕ → Command
 insert_alike table_index shared own count = Insert table_index (Values (rows_alike shared own count) (1 + (shared + own)))
 
 -- ---- No part of what is promised: private contracts cite it.
+
+-- what a statement is given for rows whose rowids are chosen
+abbrev pub unnumbered : List Row → List Row
+unnumbered all = map (λ values. Null ∷ values) all
+
+-- a row under the next number
+abbrev pub with_next : List Row → Row → Row
+with_next rows values = Int (next_rowid rows) ∷ values
+
+-- parameters that make these rows of a table, by the terms of a statement with so many of them
+pub record IsGiven (table : Table) (terms : List Term) (width : ℕ) (names : List (List ℕ)) (params : Row) (all : List Row) : Type 0 where
+  pub counted : length params ≡ length names
+  pub accepted : accepts_terms terms (stamped table params) ≡ true
+  pub source : value_rows (stamped table params) width (length terms / width) terms ≡ unnumbered all
+
+-- the parameters of a statement for so many things make their rows: after those of a key come those of each thing
+abbrev pub AreGiven : {X : Type 0} → Table → ℕ → ℕ → Row → (X → Row) → (X → Row) → List X → Type 0
+AreGiven table shared own key values_of row_of things =
+    IsGiven table (rows_alike shared own (length things)) (1 + (shared + own)) (parameters_to (shared + own * length things))
+    (key ++ flat_map values_of things) (map row_of things)
 
 -- none of these is told among the rows, nor comes twice: each is told by such a test, and makes such a row
 abbrev pub AreNew : {X : Type 0} → (X → Row → Bool) → (X → Row) → List X → List Row → Type 0

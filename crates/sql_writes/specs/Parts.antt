@@ -1,23 +1,14 @@
 -- What one statement makes of the rows: those of a table that have a key go, or one more comes after those of a table.
-use Rattle.std.specs.Prelude.{ℕ, ◌++◌, ◌&&◌, Bool, List, [], ◌∷◌, map}
+use Rattle.std.specs.Prelude.{ℕ, ◌++◌, List, [], ◌∷◌, map}
 use Rattle.holddata.specs.declared.hold.Hold.{Hold}
 use Rattle.holddata.specs.declared.key.HoldKey.{HoldKey}
 use Rattle.catalogue.specs.declared.conditional.CondNeed.{CondNeed}
 use Rattle.zone_lists.specs.declared.zones.ZoneRow.{ZoneRow}
 use Rattle.bureau_store.specs.Tables.{LastChange}
 use Rattle.bureau_store.specs.declared.caller.CallerRow.{CallerRow}
-use Rattle.sql_texts.specs.declared.write.TableById.{TableById}
-use Rattle.sql_texts.specs.declared.write.TableById.TheVariants as by_id
-use Rattle.sql_texts.specs.declared.write.TableByZone.{TableByZone}
-use Rattle.sql_texts.specs.declared.write.TableByZone.TheVariants as by_zone
 use Rattle.sql_tables.specs.Changes.{is_under, replaced}
 use Rattle.sql_tables.specs.Rows.{caller_row, change_row, cond_row, head_row, hold_row, received_row, zone_row}
-use Rattle.sqlite_value.specs.Order.{Row, column}
-use Rattle.sql_tables.specs.Stored.{Stored, is_named, is_of, is_of_both}
-
--- whether the first three columns are these names
-abbrev pub is_of_three : List ℕ → List ℕ → List ℕ → Row → Bool
-is_of_three first second third row = is_of first row && (is_named second (column row 1) && is_named third (column row 2))
+use Rattle.sql_tables.specs.Stored.{Stored, is_of, is_of_both}
 
 -- ---- what goes
 
@@ -45,29 +36,11 @@ without_rows client zone stored = record stored { rows = replaced (is_of_both cl
 abbrev pub without_received : List ℕ → Stored → Stored
 without_received client stored = record stored { received = replaced (is_of client) [] stored.received }
 
--- the rows of an id leave a table
-abbrev pub without_id : TableById → List ℕ → Stored → Stored
-without_id by_id.LastChange = without_last
-without_id by_id.Sysmod = without_sysmod
-without_id by_id.SysmodSup = without_sups
-without_id by_id.SysmodCond = without_conds
-without_id by_id.ReceivedList = without_received
-
--- the rows of a client's zone leave a table
-abbrev pub without_zone : TableByZone → List ℕ → List ℕ → Stored → Stored
-without_zone by_zone.ZoneHead = without_head
-without_zone by_zone.ZoneRow = without_rows
-
 abbrev pub without_heads_of : List ℕ → Stored → Stored
 without_heads_of client stored = record stored { heads = replaced (is_of client) [] stored.heads }
 
 abbrev pub without_rows_of : List ℕ → Stored → Stored
 without_rows_of client stored = record stored { rows = replaced (is_of client) [] stored.rows }
-
--- the rows of all zones of a client leave a table
-abbrev pub without_client : TableByZone → List ℕ → Stored → Stored
-without_client by_zone.ZoneHead = without_heads_of
-without_client by_zone.ZoneRow = without_rows_of
 
 abbrev pub without_callers : Stored → Stored
 without_callers stored = record stored { callers = [] }

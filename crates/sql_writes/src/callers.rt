@@ -7,7 +7,7 @@ ghost use Rattle.sql_writes.specs.Parts.{without_callers};
 use crate::{delete, insert};
 use bureau_store::CallerRow;
 use mcs_reader::Id;
-use sql_texts::write::{TableById, TableByZone};
+use sql_rows::{Heads, LastChanges, Received, ZoneRows};
 use sqlite::{Alter, Error, Transaction};
 
 /// The caller of this name leaves nothing: its last change, its zones and what it has received go.
@@ -16,10 +16,10 @@ fn leave_nothing<S: Alter>(tx: &mut Transaction<'_, S>, name: &Id) -> Result<(),
     ensures changes { Alters S.Store tx.old.conn.now tx.new.conn.now result
         (λ stored. without_caller stored name.now) }
 {
-    delete::by_id(tx, TableById::LastChange, name)?;
-    delete::by_client(tx, TableByZone::ZoneHead, name)?;
-    delete::by_client(tx, TableByZone::ZoneRow, name)?;
-    delete::by_id(tx, TableById::ReceivedList, name)
+    delete::rows_of::<Id, LastChanges, S>(tx, name)?;
+    delete::any_of::<Id, Heads, S>(tx, name)?;
+    delete::any_of::<Id, ZoneRows, S>(tx, name)?;
+    delete::rows_of::<Id, Received, S>(tx, name)
 }
 
 /// No caller is left, and those of these names leave nothing.

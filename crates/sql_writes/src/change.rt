@@ -15,7 +15,7 @@ use crate::zone::keep_head;
 use crate::{delete, insert, load};
 use bureau_store::Effect;
 use mcs_reader::Id;
-use sql_texts::write::{TableById, TableByZone};
+use sql_rows::{Heads, LastChanges, Received, Zone, ZoneRows};
 use sqlite::{Alter, Error, Transaction};
 use std::alloc::Global;
 
@@ -40,11 +40,15 @@ fn change<S: Alter>(
             load::zone_rows(tx, client, zone, rows)
         }
         Effect::ZoneDropped { client, zone } => {
-            delete::by_zone(tx, TableByZone::ZoneHead, client, zone)?;
-            delete::by_zone(tx, TableByZone::ZoneRow, client, zone)
+            let key = Zone {
+                client: *client,
+                zone: *zone,
+            };
+            delete::any_of::<Zone, Heads, S>(tx, &key)?;
+            delete::any_of::<Zone, ZoneRows, S>(tx, &key)
         }
         Effect::ReceivedPut { client, ids } => {
-            delete::by_id(tx, TableById::ReceivedList, client)?;
+            delete::rows_of::<Id, Received, S>(tx, client)?;
             insert::received(alloc, tx, client, ids)
         }
         Effect::PatternsPut {
@@ -52,7 +56,11 @@ fn change<S: Alter>(
             zone,
             patterns,
         } => {
-            delete::by_zone(tx, TableByZone::ZoneHead, client, zone)?;
+            let key = Zone {
+                client: *client,
+                zone: *zone,
+            };
+            delete::any_of::<Zone, Heads, S>(tx, &key)?;
             insert::head(alloc, tx, client, zone, patterns)
         }
     }
@@ -100,6 +108,6 @@ pub fn write<S: Alter>(
 {
     change(alloc, tx, effect)?;
     let name = name(effect);
-    delete::by_id(tx, TableById::LastChange, &name)?;
+    delete::rows_of::<Id, LastChanges, S>(tx, &name)?;
     insert::last_change(tx, &name, number, reply)
 }

@@ -1,55 +1,64 @@
 //! Rows that go, by one statement. Rows that aren't there are no fault.
 ghost use Rattle.std.specs.Prelude.{◌≡◌, IfOk, fold};
 ghost use Rattle.catalogue.specs.declared.change.Change.TheVariants.{Whole};
+ghost use Rattle.sql_rows.specs.Parts.{going};
 ghost use Rattle.sql_writes.specs.Altering.{Alters, TakesRoom};
-ghost use Rattle.sql_writes.specs.Asking.{FindsId};
-ghost use Rattle.sql_writes.specs.Parts.{without_callers, without_client, without_hold, without_id, without_sups, without_sysmod, without_zone};
+ghost use Rattle.sql_writes.specs.Asking.{FindsAny};
+ghost use Rattle.sql_writes.specs.Parts.{without_callers, without_hold, without_sups, without_sysmod};
 ghost use Rattle.sql_writes.specs.Records.{record_gone};
 
 use crate::run::run;
-use crate::texts;
-use crate::values::id_of;
+use crate::table::{Asked, Deletes};
 use catalogue::{Change, Sysmod};
 use holddata::HoldKey;
 use mcs_reader::Id;
+use sql_rows::{Key, Sups, Sysmods, id_of};
 use sql_tables::hold_kind_value;
 use sql_texts::write;
-use sql_texts::write::{TableById, TableByZone};
 use sqlite::{Alter, Error, Transaction};
 
-/// Whether an id has rows.
-fn has_id<S: Alter>(tx: &mut Transaction<'_, S>, table: TableById, id: &Id) -> Result<bool, Error>
+/// Whether a key has rows.
+pub(crate) fn has_rows_of<K: Key, T: Asked<K>, S: Alter>(
+    tx: &mut Transaction<'_, S>,
+    key: &K,
+) -> Result<bool, Error>
     ensures same { tx.new.conn.ghost_name ≡ tx.old.conn.ghost_name }
     ensures changes { Alters S.Store tx.old.conn.now tx.new.conn.now result (λ stored. stored) }
     ensures takes { TakesRoom S.Store tx.old.conn.now tx.new.conn.now result 0 (λ stored. Unit {0}) }
-    ensures found { IfOk result (FindsId S.Store tx.old.conn.now tx.new.conn.now table id.now) }
+    ensures found { IfOk result (FindsAny S.Store tx.old.conn.now tx.new.conn.now T.rows (K.has key.now)) }
 {
-    let rows = tx.query_all(texts::ids_of(table), &[id_of(id)])?;
+    let params = key.params();
+    let rows = tx.query_all(<T as Asked<K>>::question(), &params[..K::count()])?;
     let found = rows.as_slice();
     Ok(!found.is_empty())
 }
 
-/// The rows of an id, whether there are any or not.
-fn any_by_id<S: Alter>(tx: &mut Transaction<'_, S>, table: TableById, id: &Id) -> Result<(), Error>
-    ensures same { tx.new.conn.ghost_name ≡ tx.old.conn.ghost_name }
-    ensures changes { Alters S.Store tx.old.conn.now tx.new.conn.now result (without_id table id.now) }
-    ensures takes { TakesRoom S.Store tx.old.conn.now tx.new.conn.now result 0 (λ stored. Unit {0}) }
-{
-    run(tx, table.deletion(), &[id_of(id)])
-}
-
-/// The rows of an id. Mostly there are none, which a read tells sooner than a statement that deletes.
-pub(crate) fn by_id<S: Alter>(
+/// The rows of a key, whether there are any or not.
+pub(crate) fn any_of<K: Key, T: Deletes<K>, S: Alter>(
     tx: &mut Transaction<'_, S>,
-    table: TableById,
-    id: &Id,
+    key: &K,
 ) -> Result<(), Error>
     ensures same { tx.new.conn.ghost_name ≡ tx.old.conn.ghost_name }
-    ensures changes { Alters S.Store tx.old.conn.now tx.new.conn.now result (without_id table id.now) }
+    ensures changes { Alters S.Store tx.old.conn.now tx.new.conn.now result
+        (going T.rows T.with_rows (K.has key.now)) }
     ensures takes { TakesRoom S.Store tx.old.conn.now tx.new.conn.now result 0 (λ stored. Unit {0}) }
 {
-    if has_id(tx, table, id)? {
-        return any_by_id(tx, table, id);
+    let params = key.params();
+    run(tx, <T as Deletes<K>>::deletion(), &params[..K::count()])
+}
+
+/// The rows of a key. Where mostly there are none, a read tells it sooner than a statement that deletes.
+pub(crate) fn rows_of<K: Key, T: Asked<K>, S: Alter>(
+    tx: &mut Transaction<'_, S>,
+    key: &K,
+) -> Result<(), Error>
+    ensures same { tx.new.conn.ghost_name ≡ tx.old.conn.ghost_name }
+    ensures changes { Alters S.Store tx.old.conn.now tx.new.conn.now result
+        (going T.rows T.with_rows (K.has key.now)) }
+    ensures takes { TakesRoom S.Store tx.old.conn.now tx.new.conn.now result 0 (λ stored. Unit {0}) }
+{
+    if has_rows_of::<K, T, S>(tx, key)? {
+        return any_of::<K, T, S>(tx, key);
     }
     Ok(())
 }
@@ -61,8 +70,8 @@ fn record<S: Alter>(tx: &mut Transaction<'_, S>, id: &Id) -> Result<(), Error>
         (λ stored. without_sups id.now (without_sysmod id.now stored)) }
     ensures takes { TakesRoom S.Store tx.old.conn.now tx.new.conn.now result 0 (λ stored. Unit {0}) }
 {
-    by_id(tx, TableById::Sysmod, id)?;
-    by_id(tx, TableById::SysmodSup, id)
+    rows_of::<Id, Sysmods, S>(tx, id)?;
+    rows_of::<Id, Sups, S>(tx, id)
 }
 
 /// The rows of this record and of those that come with it, and those of what they supersede.
@@ -84,34 +93,6 @@ pub(crate) fn records<S: Alter>(
         }
     }
     Ok(())
-}
-
-/// The rows of a client's zone.
-pub(crate) fn by_zone<S: Alter>(
-    tx: &mut Transaction<'_, S>,
-    table: TableByZone,
-    client: &Id,
-    zone: &Id,
-) -> Result<(), Error>
-    ensures same { tx.new.conn.ghost_name ≡ tx.old.conn.ghost_name }
-    ensures changes { Alters S.Store tx.old.conn.now tx.new.conn.now result
-        (without_zone table client.now zone.now) }
-    ensures takes { TakesRoom S.Store tx.old.conn.now tx.new.conn.now result 0 (λ stored. Unit {0}) }
-{
-    run(tx, table.deletion(), &[id_of(client), id_of(zone)])
-}
-
-/// The rows of all zones of a client.
-pub(crate) fn by_client<S: Alter>(
-    tx: &mut Transaction<'_, S>,
-    table: TableByZone,
-    client: &Id,
-) -> Result<(), Error>
-    ensures same { tx.new.conn.ghost_name ≡ tx.old.conn.ghost_name }
-    ensures changes { Alters S.Store tx.old.conn.now tx.new.conn.now result
-        (without_client table client.now) }
-{
-    run(tx, table.client_deletion(), &[id_of(client)])
 }
 
 /// All callers.

@@ -8,21 +8,21 @@ ghost use Rattle.sql_writes.specs.Altering.{Alters, TakesRoom};
 ghost use Rattle.sql_writes.specs.Asking.{FindsBare, FindsFree, FindsRows};
 ghost use Rattle.sql_writes.specs.Records.{AreApart, ids_in};
 
-use crate::texts;
+use crate::table::Bare;
 use catalogue::{Change, NoMemory};
 use mcs_reader::Id;
-use sql_texts::write::TableById;
+use sql_rows::{Conds, Sups, Sysmods};
 use sqlite::{Alter, Error, Transaction};
 use std::alloc::Global;
 
 /// Whether a table has rows.
-fn has_rows<S: Alter>(tx: &mut Transaction<'_, S>, table: TableById) -> Result<bool, Error>
+fn has_rows<T: Bare, S: Alter>(tx: &mut Transaction<'_, S>) -> Result<bool, Error>
     ensures same { tx.new.conn.ghost_name ≡ tx.old.conn.ghost_name }
     ensures changes { Alters S.Store tx.old.conn.now tx.new.conn.now result (λ stored. stored) }
     ensures takes { TakesRoom S.Store tx.old.conn.now tx.new.conn.now result 0 (λ stored. Unit {0}) }
-    ensures found { IfOk result (FindsRows S.Store tx.old.conn.now tx.new.conn.now table) }
+    ensures found { IfOk result (FindsRows S.Store tx.old.conn.now tx.new.conn.now T.rows) }
 {
-    let rows = tx.query_all(texts::first_of(table), &[])?;
+    let rows = tx.query_all(T::first(), &[])?;
     let found = rows.as_slice();
     Ok(!found.is_empty())
 }
@@ -34,13 +34,13 @@ fn is_bare<S: Alter>(tx: &mut Transaction<'_, S>) -> Result<bool, Error>
     ensures takes { TakesRoom S.Store tx.old.conn.now tx.new.conn.now result 0 (λ stored. Unit {0}) }
     ensures bare { IfOk result (FindsBare S.Store tx.old.conn.now tx.new.conn.now) }
 {
-    if has_rows(tx, TableById::Sysmod)? {
+    if has_rows::<Sysmods, S>(tx)? {
         return Ok(false);
     }
-    if has_rows(tx, TableById::SysmodSup)? {
+    if has_rows::<Sups, S>(tx)? {
         return Ok(false);
     }
-    let conds = has_rows(tx, TableById::SysmodCond)?;
+    let conds = has_rows::<Conds, S>(tx)?;
     Ok(!conds)
 }
 

@@ -12,16 +12,18 @@ ghost use Rattle.sql_writes.specs.Many.{AreNewRows};
 ghost use Rattle.sql_writes.specs.Records.{AreNewMembers, AreNewRecords, record_rows, values_of, with_members, with_sysmods};
 ghost use Rattle.bureau_store.specs.declared.caller.CallerRow.{CallerRow};
 ghost use Rattle.sql_writes.specs.Room.{are_short, are_short_ids, is_short, is_short_change};
-ghost use Rattle.sql_writes.specs.Parts.{is_of_three, with_callers, with_conds, with_head, with_hold, with_last, with_received, with_rows};
+ghost use Rattle.sql_rows.specs.Parts.{is_of_three};
+ghost use Rattle.sql_writes.specs.Parts.{with_callers, with_conds, with_head, with_hold, with_last, with_received, with_rows};
 
 use crate::records::{SupRow, SysmodRow};
 use crate::run::{run, run_prepared};
 use crate::texts;
-use crate::values::{id_of, number_of};
+use crate::values::number_of;
 use bureau_store::CallerRow;
 use catalogue::CondNeed;
 use holddata::Hold;
 use mcs_reader::Id;
+use sql_rows::id_of;
 use sql_tables::{
     categories_value, date_value, hold_kind_value, joined_ids, joined_patterns, optional_id_value,
     state_value, sysmod_kind_value,

@@ -20,6 +20,7 @@ mod migration;
 mod publication;
 mod records;
 mod run;
+mod table;
 mod tables;
 mod texts;
 mod values;

@@ -13,7 +13,7 @@ use crate::records::{SupRow, SysmodRow};
 use crate::{delete, insert};
 use catalogue::CondNeed;
 use mcs_reader::Id;
-use sql_texts::write::{TableById, TableByZone};
+use sql_rows::{Conds, Zone, ZoneRows};
 use sqlite::{Alter, Error, Statement, Transaction};
 use zone_lists::ZoneRow;
 
@@ -31,7 +31,11 @@ pub(crate) fn zone_rows<S: Alter>(
         → TakesRoom S.Store tx.old.conn.now tx.new.conn.now result
         (length rows.now) (λ stored. Unit {0}) }
 {
-    delete::by_zone(tx, TableByZone::ZoneRow, client, zone)?;
+    let key = Zone {
+        client: *client,
+        zone: *zone,
+    };
+    delete::any_of::<Zone, ZoneRows, S>(tx, &key)?;
     let mut at = 0;
     while at < rows.len() {
         let count = (rows.len() - at).min(8);
@@ -82,7 +86,7 @@ pub(crate) fn conditional<S: Alter>(
         → TakesRoom S.Store tx.old.conn.now tx.new.conn.now result
         (length conds.now) (λ stored. Unit {0}) }
 {
-    delete::by_id(tx, TableById::SysmodCond, id)?;
+    delete::rows_of::<Id, Conds, S>(tx, id)?;
     for cond in conds {
         insert::cond_row(tx, statement, id, cond)?;
     }

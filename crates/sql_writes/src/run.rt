@@ -7,7 +7,7 @@ ghost use Rattle.sqlite.specs.Values.{bound};
 ghost use Rattle.sql_texts.specs.Meaning.{Means};
 ghost use Rattle.sql_texts.specs.Schema.{bureau};
 ghost use Rattle.sql_writes.specs.Altering.{Alters, TakesRoom};
-ghost use Rattle.sql_writes.specs.Running.{FailsInside, Ran};
+ghost use Rattle.sql_rows.specs.Running.{FailsInside, Ran};
 
 use sqlite::types::ValueRef;
 use sqlite::{Alter, Error, Statement, Transaction};

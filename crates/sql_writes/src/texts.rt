@@ -1,13 +1,9 @@
-//! The texts that insert several rows into one table at once, and those that ask whether an id or a table has rows.
+//! The texts that insert several rows into one table at once.
 #![tactic(auto, unfolding(sqlite::specs::Listing::understood, sqlite_tied::specs::Compute::everything))]
 
 ghost use Rattle.std.specs.Prelude.{◌≡◌, ◌⊎◌, ◌<◌, ◌≤◌, ◌+◌, ◌*◌, ◌∷◌, []};
-ghost use Rattle.sql_texts.specs.Meaning.{Reads};
 ghost use Rattle.sql_texts.specs.Schema.{bureau};
-ghost use Rattle.sql_writes.specs.Asking.{first_of, id_name, ids_of};
 ghost use Rattle.sql_writes.specs.Many.{MeansBy, insert_alike, parameters_to};
-
-use sql_texts::write::TableById;
 
 /// One row of a record, or eight: the SYSMOD ?1, its kind ?2, its functions ?3, its PRE ?4 and its REQ ?5, and so on.
 pub(crate) fn sysmods(count: usize) -> &'static str
@@ -96,31 +92,5 @@ pub(crate) fn zone_rows(count: usize) -> &'static str
              (?1, ?2, ?9, ?10), (?1, ?2, ?11, ?12), (?1, ?2, ?13, ?14), \
              (?1, ?2, ?15, ?16), (?1, ?2, ?17, ?18)"
         }
-    }
-}
-
-/// The id ?1, once for each of its rows.
-pub(crate) fn ids_of(table: TableById) -> &'static str
-    ensures { Reads bureau result.now (ids_of table) (id_name table ∷ []) 1 }
-{
-    match table {
-        TableById::LastChange => "SELECT caller FROM last_change WHERE caller = ?1",
-        TableById::Sysmod => "SELECT id FROM sysmod WHERE id = ?1",
-        TableById::SysmodSup => "SELECT id FROM sysmod_sup WHERE id = ?1",
-        TableById::SysmodCond => "SELECT id FROM sysmod_cond WHERE id = ?1",
-        TableById::ReceivedList => "SELECT client FROM received_list WHERE client = ?1",
-    }
-}
-
-/// The id of one row, if the table has any.
-pub(crate) fn first_of(table: TableById) -> &'static str
-    ensures { Reads bureau result.now (first_of table) (id_name table ∷ []) 0 }
-{
-    match table {
-        TableById::LastChange => "SELECT caller FROM last_change LIMIT 1",
-        TableById::Sysmod => "SELECT id FROM sysmod LIMIT 1",
-        TableById::SysmodSup => "SELECT id FROM sysmod_sup LIMIT 1",
-        TableById::SysmodCond => "SELECT id FROM sysmod_cond LIMIT 1",
-        TableById::ReceivedList => "SELECT client FROM received_list LIMIT 1",
     }
 }

@@ -2,8 +2,9 @@ use Rattle.std.proofs.Common.{◌∙◌, arith, take}
 use Rattle.std.specs.Prelude.{fold}
 use Rattle.sql_tables.specs.Changes.{without_caller}
 use Rattle.sql_writes.specs.Parts.{without_callers}
-use Rattle.sql_writes.proofs.ChangeFacts.{stopped}
-use Rattle.sql_writes.proofs.LoadFacts.{begun, ended, more, leaving_turn}
+use Rattle.sql_rows.proofs.ChangeFacts.{stopped}
+use Rattle.sql_rows.proofs.TurnFacts.{begun, ended, more}
+use Rattle.sql_writes.proofs.LoadFacts.{leaving_turn}
 use Rattle.sql_writes.proofs.callers.remove_callers.Goals as goal
 
 pub loop-name-init : goal.loop-name-init

@@ -1,7 +1,8 @@
 use Rattle.std.proofs.Common.{◌∙◌, arith, take}
 use Rattle.sql_tables.specs.Changes.{with_callers}
-use Rattle.sql_writes.proofs.ChangeFacts.{stopped}
-use Rattle.sql_writes.proofs.LoadFacts.{begun, ended, more, callers_turn}
+use Rattle.sql_rows.proofs.ChangeFacts.{stopped}
+use Rattle.sql_rows.proofs.TurnFacts.{begun, ended, more}
+use Rattle.sql_writes.proofs.LoadFacts.{callers_turn}
 use Rattle.sql_writes.proofs.callers.set_callers.Goals as goal
 
 pub loop-caller-init : goal.loop-caller-init

@@ -7,8 +7,8 @@ use Rattle.sqlite.specs.declared.error.Error.{Error}
 use Rattle.sql_tables.specs.Stored.{Stored}
 use Rattle.sql_state.specs.Writing.{Changes}
 use Rattle.sql_writes.specs.Records.{record_gone}
-use Rattle.sql_writes.proofs.ChangeFacts.{alike}
-use Rattle.sql_writes.proofs.LoadFacts.{begun, more}
+use Rattle.sql_rows.proofs.ChangeFacts.{alike}
+use Rattle.sql_rows.proofs.TurnFacts.{begun, more}
 use Rattle.sql_writes.proofs.TakeFacts.{stopped_first, takes_then}
 use Rattle.sql_writes.proofs.TogetherFacts.{gone_turn, hold_spared}
 use Rattle.sql_writes.proofs.delete.records.Goals.{in-Whole+in_ok-record-in-Whole, in-OfHold}

@@ -1,7 +1,7 @@
 use Rattle.std.proofs.Common.{arith}
-use Rattle.sql_writes.proofs.ChangeFacts.{refused}
+use Rattle.sql_rows.proofs.ChangeFacts.{refused}
 use Rattle.sql_writes.proofs.FreeFacts.{free_where_bare}
-use Rattle.sql_writes.proofs.LoadFacts.{told}
+use Rattle.sql_rows.proofs.TurnFacts.{told}
 use Rattle.sql_writes.proofs.TakeFacts.{stopped_first, takes_told}
 use Rattle.sql_writes.proofs.free.are_free.Goals as goal
 

@@ -1,33 +1,39 @@
-use Rattle.std.proofs.Common.{List, Ok, Err, sym, ◌∙◌, [], refl}
+use Rattle.std.proofs.Common.{List, Ok, Err, ap, inl, inr, refl, sym, ◌∙◌, []}
 use Rattle.sqlite.specs.Order.{Row}
-use Rattle.sql_writes.proofs.AskFacts.{asked, asked_same, asked_takes}
-use Rattle.sql_writes.proofs.ChangeFacts.{refused}
-use Rattle.sql_writes.proofs.FirstFacts.{denied, first_stopped, none_first}
-use Rattle.sql_writes.proofs.LoadFacts.{told}
+use Rattle.sqlite.specs.Held.{state}
+use Rattle.sql_tables.specs.InTrees.{columns_of}
+use Rattle.sql_rows.proofs.ChangeFacts.{refused}
+use Rattle.sql_rows.proofs.TurnFacts.{told}
+use Rattle.sql_writes.specs.Asking.{first_in}
+use Rattle.sql_writes.proofs.AskFacts.{asked, asked_same, asked_stopped, asked_takes}
+use Rattle.sql_writes.proofs.FirstFacts.{denied, first_read}
 use Rattle.sql_writes.proofs.free.has_rows.Goals as goal
 
 pub returns-in_err-rows-clause-changes : goal.returns-in_err-rows-clause-changes
 returns-in_err-rows-clause-changes g c =
     refused _ _ _ _ (λ stored. stored) _ c.from_residual.ensures.0
-    (asked {A = List Row} (λ rows. rows) _ _ _ _ _ _ 0 (Err c.in_err-rows.field-0.0) c.first_of.ensures (λ clean. tt) c.in_err-rows.ensures.err c.query_all.ensures.survives)
+    (asked {A = List Row} (λ rows. rows) _ _ _ _ _ _ 0 (Err c.in_err-rows.field-0.0) c.first.ensures (λ clean. tt) c.in_err-rows.ensures.err c.query_all.ensures.survives)
 
 pub returns-clause-changes : goal.returns-clause-changes
 returns-clause-changes g c =
-    told _ _ _ _ _ (asked {A = List Row} (λ rows. rows) _ _ _ _ _ _ 0 (Ok c.in_ok-rows.rows.items) c.first_of.ensures c.in_ok-rows.ensures.ok (λ clean. tt) c.query_all.ensures.survives)
+    told _ _ _ _ _ (asked {A = List Row} (λ rows. rows) _ _ _ _ _ _ 0 (Ok c.in_ok-rows.rows.items) c.first.ensures c.in_ok-rows.ensures.ok (λ clean. tt) c.query_all.ensures.survives)
 
 pub returns-clause-found : goal.returns-clause-found
 returns-clause-found g c clean known =
     let rows = c.in_ok-rows.rows.items in
-    let here = c.in_ok-rows.ensures.ok clean in (
-      asked_same _ _ _ _ _ _ 0 rows c.first_of.ensures known.schema here,
-      λ none. none_first _ _ _ rows c.args.table c.first_of.ensures known here (sym c.as_slice-found.ensures.value ∙ denied c.as_slice-found.result.now _ c.is_empty.ensures none),
+    let here = c.in_ok-rows.ensures.ok clean in
+    let old = state g.S.Store c.args.tx.now.conn.now in (
+      asked_same _ _ _ _ _ _ 0 rows c.first.ensures known.schema here,
+      λ none. g.T.Table.stands.here old.now.trees
+          ∙ ap columns_of (first_read _ g.T.Table.table.tree _ old _ rows c.first.ensures known.schema here (sym c.as_slice-found.ensures.value ∙ denied c.as_slice-found.result.now _ c.is_empty.ensures none)),
     )
 
 pub returns-in_err-rows-clause-takes : goal.returns-in_err-rows-clause-takes
 returns-in_err-rows-clause-takes g c =
-    first_stopped _ _ _ c.args.table c.first_of.ensures c.in_err-rows.field-0.0 _ c.from_residual.ensures.1 c.in_err-rows.ensures.err
+    asked_stopped _ _ _ (first_in g.T.Table.table.tree) _ 0 [] [] refl c.first.ensures
+    c.in_err-rows.field-0.0 _ refl g.met.T.Bare.takes (λ trees overflows. elim overflows [ inl none ↦ none | inr some ↦ some.4 ]) c.from_residual.ensures.1 c.in_err-rows.ensures.err
 
 pub returns-clause-takes : goal.returns-clause-takes
 returns-clause-takes g c =
-    asked_takes _ _ _ _ _ 0 [] [] refl c.first_of.ensures
+    asked_takes _ _ _ _ _ 0 [] [] refl c.first.ensures
     _ c.in_ok-rows.rows.items c.in_ok-rows.ensures.ok

@@ -4,8 +4,8 @@ use Rattle.sqlite.specs.Effect.{Database}
 use Rattle.sql_state.specs.Ours.{held_by}
 use Rattle.sql_state.specs.Writing.{IsKnown}
 use Rattle.sql_state.proofs.StopFacts.{survives_both, was_clean}
-use Rattle.sql_writes.proofs.ChangeFacts.{changes_then, refused, stopped}
-use Rattle.sql_writes.proofs.LoadFacts.{told}
+use Rattle.sql_rows.proofs.ChangeFacts.{changes_then, refused, stopped}
+use Rattle.sql_rows.proofs.TurnFacts.{told}
 use Rattle.sql_writes.proofs.TakeFacts.{stopped_first, takes_then, takes_told}
 use Rattle.sql_writes.proofs.free.is_bare.Goals as goal
 

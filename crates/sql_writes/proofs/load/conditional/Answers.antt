@@ -5,18 +5,19 @@ use Rattle.sqlite.specs.Held.{state}
 use Rattle.sql_writes.specs.Excused.{Takes}
 use Rattle.sql_writes.specs.Parts.{with_conds, without_conds}
 use Rattle.sql_state.proofs.StopFacts.{was_clean}
-use Rattle.sql_writes.proofs.ChangeFacts.{stopped}
-use Rattle.sql_writes.proofs.LoadFacts.{begun, ended, more, conds_turn}
+use Rattle.sql_rows.proofs.ChangeFacts.{stopped}
+use Rattle.sql_rows.proofs.TurnFacts.{begun, ended, more}
+use Rattle.sql_writes.proofs.LoadFacts.{conds_turn}
 use Rattle.sql_writes.proofs.LeaveFacts.{next_cond}
 use Rattle.sql_writes.proofs.TakeFacts.{one_longer, still_fewer, stopped_first, takes_as, takes_then}
 use Rattle.sql_writes.proofs.load.conditional.Goals as goal
 
 pub loop-cond-init : goal.loop-cond-init
 loop-cond-init g c = record {
-  same = c.by_id.ensures.same;
-  changes = begun _ _ (λ conds stored. with_conds c.args.id.now conds (without_conds c.args.id.now stored)) (conds_turn c.args.id.now) c.args.conds.now _ _ _ tt c.in_ok-by_id.ensures.changes;
-  takes = λ ids up. c.in_ok-by_id.ensures.takes;
-  clean = λ clean. was_clean _ _ _ c.by_id.ensures.changes.survives clean;
+  same = c.rows_of.ensures.same;
+  changes = begun _ _ (λ conds stored. with_conds c.args.id.now conds (without_conds c.args.id.now stored)) (conds_turn c.args.id.now) c.args.conds.now _ _ _ tt c.in_ok-rows_of.ensures.changes;
+  takes = λ ids up. c.in_ok-rows_of.ensures.takes;
+  clean = λ clean. was_clean _ _ _ c.rows_of.ensures.changes.survives clean;
 }
 
 pub cond_row-requires : goal.cond_row-requires
@@ -43,9 +44,9 @@ pub returns-clause-changes : goal.returns-clause-changes
 returns-clause-changes g c =
     ended _ _ (λ conds stored. with_conds c.args.id.now conds (without_conds c.args.id.now stored)) (conds_turn c.args.id.now) c.args.conds.now _ _ tt c.loop-cond.cond-index (omega (arith, c.loop-cond-test.false)) c.loop-cond.invariant.changes
 
-pub returns-in_err-by_id-clause-takes : goal.returns-in_err-by_id-clause-takes
-returns-in_err-by_id-clause-takes g c ids up =
-    stopped_first _ _ c.in_err-by_id.field-0.0 _ 0 _ (λ stored. Unit {0}) (λ stored. Unit {0}) c.from_residual.ensures.1 (λ stored u. tt) c.in_err-by_id.ensures.takes (omega arith)
+pub returns-in_err-rows_of-clause-takes : goal.returns-in_err-rows_of-clause-takes
+returns-in_err-rows_of-clause-takes g c ids up =
+    stopped_first _ _ c.in_err-rows_of.field-0.0 _ 0 _ (λ stored. Unit {0}) (λ stored. Unit {0}) c.from_residual.ensures.1 (λ stored u. tt) c.in_err-rows_of.ensures.takes (omega arith)
 
 pub returns-in_err-cond_row-clause-takes : goal.returns-in_err-cond_row-clause-takes
 returns-in_err-cond_row-clause-takes g c ids up =

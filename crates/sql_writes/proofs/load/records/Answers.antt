@@ -2,7 +2,7 @@ use Rattle.std.proofs.Common.{◌+◌, Err, Ok, length, arith, take, ◌∙◌}
 use Rattle.sql_tables.specs.Stored.{Stored, is_of_both}
 use Rattle.sql_writes.specs.Records.{AreNewMembers, AreNewRecords, with_members, with_sysmods}
 use Rattle.sql_writes.proofs.AlikeFacts.{part_is, part_length, parts_begun, parts_ended, parts_fit, parts_longer}
-use Rattle.sql_writes.proofs.ChangeFacts.{stopped}
+use Rattle.sql_rows.proofs.ChangeFacts.{stopped}
 use Rattle.sql_writes.proofs.SupFacts.{members_come_so}
 use Rattle.sql_writes.proofs.TakeFacts.{stopped_first, takes_more}
 use Rattle.sql_writes.proofs.load.records.Goals as goal

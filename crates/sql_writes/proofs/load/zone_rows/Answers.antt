@@ -2,18 +2,19 @@ use Rattle.std.proofs.Common.{◌+◌, ◌≡◌, Err, Ok, ℕ, arith, length, s
 use Rattle.sqlite.specs.Held.{state}
 use Rattle.sql_writes.specs.Excused.{Takes}
 use Rattle.sql_writes.proofs.AlikeFacts.{part_is, part_length, parts_begun, parts_ended, parts_longer, parts_take}
-use Rattle.sql_writes.proofs.ChangeFacts.{stopped}
+use Rattle.sql_rows.proofs.ChangeFacts.{stopped}
 use Rattle.sql_writes.proofs.TakeFacts.{stopped_first}
-use Rattle.sql_writes.specs.Parts.{is_of_three, with_rows, without_rows}
+use Rattle.sql_rows.specs.Parts.{is_of_three}
+use Rattle.sql_writes.specs.Parts.{with_rows, without_rows}
 use Rattle.sql_writes.proofs.ZoneRowFacts.{rows_come_so, rows_new}
 use Rattle.sql_writes.proofs.load.zone_rows.Goals as goal
 
 pub loop-at-init : goal.loop-at-init
 loop-at-init g c = record {
-  same = c.by_zone.ensures.same;
+  same = c.any_of.ensures.same;
   within = omega arith;
-  changes = parts_begun _ _ _ (rows_come_so c.args.client.now c.args.zone.now) (without_rows c.args.client.now c.args.zone.now) c.args.rows.now _ _ _ c.in_ok-by_zone.ensures.changes;
-  takes = λ are. c.in_ok-by_zone.ensures.takes;
+  changes = parts_begun _ _ _ (rows_come_so c.args.client.now c.args.zone.now) (without_rows c.args.client.now c.args.zone.now) c.args.rows.now _ _ _ c.in_ok-any_of.ensures.changes;
+  takes = λ are. c.in_ok-any_of.ensures.takes;
 }
 
 pub zone_rows-requires : goal.zone_rows-requires
@@ -42,9 +43,9 @@ pub returns-clause-changes : goal.returns-clause-changes
 returns-clause-changes g c =
     parts_ended _ _ _ (rows_come_so c.args.client.now c.args.zone.now) (without_rows c.args.client.now c.args.zone.now) c.args.rows.now c.loop-at.at _ _ (omega (arith, c.loop-at-test.false)) c.loop-at.invariant.changes
 
-pub returns-in_err-by_zone-clause-takes : goal.returns-in_err-by_zone-clause-takes
-returns-in_err-by_zone-clause-takes g c are =
-    stopped_first _ _ c.in_err-by_zone.field-0.0 _ 0 _ (λ stored. Unit {0}) (λ stored. Unit {0}) c.from_residual.ensures.1 (λ stored u. tt) c.in_err-by_zone.ensures.takes (omega arith)
+pub returns-in_err-any_of-clause-takes : goal.returns-in_err-any_of-clause-takes
+returns-in_err-any_of-clause-takes g c are =
+    stopped_first _ _ c.in_err-any_of.field-0.0 _ 0 _ (λ stored. Unit {0}) (λ stored. Unit {0}) c.from_residual.ensures.1 (λ stored u. tt) c.in_err-any_of.ensures.takes (omega arith)
 
 pub returns-in_err-zone_rows-clause-takes : goal.returns-in_err-zone_rows-clause-takes
 returns-in_err-zone_rows-clause-takes g c are =

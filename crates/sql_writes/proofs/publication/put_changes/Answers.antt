@@ -10,9 +10,10 @@ use Rattle.sql_state.proofs.StopFacts.{was_clean}
 use Rattle.sql_writes.specs.Records.{FreeIf, IsTogether}
 use Rattle.sql_writes.specs.Room.{is_short_change, rows_of_change}
 use Rattle.sql_writes.proofs.AlikeFacts.{folded_longer, part, part_all, part_as, part_passes, summed_fewer, summed_longer}
-use Rattle.sql_writes.proofs.ChangeFacts.{changes_then, refused, stopped}
+use Rattle.sql_rows.proofs.ChangeFacts.{changes_then, refused, stopped}
 use Rattle.sql_writes.proofs.FreeFacts.{free_next}
-use Rattle.sql_writes.proofs.LoadFacts.{begun, published_turn}
+use Rattle.sql_rows.proofs.TurnFacts.{begun}
+use Rattle.sql_writes.proofs.LoadFacts.{published_turn}
 use Rattle.sql_writes.proofs.TakeFacts.{stopped_first, takes_as, takes_more, takes_then, takes_told}
 use Rattle.sql_writes.proofs.WhereFacts.{takes_known, takes_where, where_alike, where_any, where_both, where_known}
 use Rattle.sql_writes.proofs.publication.put_changes.Goals as goal

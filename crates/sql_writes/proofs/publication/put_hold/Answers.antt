@@ -3,8 +3,8 @@ use Rattle.std.specs.Prelude.{◌∷◌, []}
 use Rattle.sql_tables.specs.Changes.{is_under}
 use Rattle.sql_tables.specs.Rows.{hold_row}
 use Rattle.sql_writes.specs.Parts.{with_hold, without_hold}
-use Rattle.sql_writes.proofs.ChangeFacts.{both, refused}
-use Rattle.sql_writes.proofs.StoredFacts.{replaced_then}
+use Rattle.sql_rows.proofs.ChangeFacts.{both, refused}
+use Rattle.sql_rows.proofs.StoredFacts.{replaced_then}
 use Rattle.sql_writes.proofs.LeaveFacts.{none_hold}
 use Rattle.sql_writes.proofs.TakeFacts.{stopped_first, takes_then}
 use Rattle.sql_writes.proofs.publication.put_hold.Goals as goal

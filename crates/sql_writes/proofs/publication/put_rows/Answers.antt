@@ -2,7 +2,7 @@ use Rattle.std.proofs.Common.{◌≡◌, ◌⊎◌, ◌+◌, ◌-◌, ap, drop, 
 use Rattle.std.specs.Prelude.{fold}
 use Rattle.catalogue.specs.declared.change.Change.TheVariants.{Whole}
 use Rattle.sql_writes.specs.Records.{AreNewMembers, AreNewRecords, FreeIf, record_gone, with_members, with_sysmods}
-use Rattle.sql_writes.proofs.ChangeFacts.{alike, changes_then, refused}
+use Rattle.sql_rows.proofs.ChangeFacts.{alike, changes_then, refused}
 use Rattle.sql_writes.proofs.FreeFacts.{free_new, spared}
 use Rattle.sql_writes.proofs.TakeFacts.{stopped_first, takes_as, takes_more, takes_then}
 use Rattle.sql_writes.proofs.TogetherFacts.{gone_from_first, members_after_all, new_after_all, rows_so_many}

@@ -1,4 +1,4 @@
-use Rattle.sql_writes.proofs.ChangeFacts.{prepared}
+use Rattle.sql_rows.proofs.ChangeFacts.{prepared}
 use Rattle.sql_writes.proofs.StepFacts.{prepared_takes}
 use Rattle.sql_writes.proofs.run.prepare.Goals as goal
 

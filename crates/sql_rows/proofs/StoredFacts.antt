@@ -16,8 +16,8 @@ use Rattle.sql_state.specs.Numbered.{AreNumbered, IsNumbered}
 use Rattle.sql_state.specs.Ours.{held_by}
 use Rattle.sql_state.specs.Writing.{IsKnown}
 use Rattle.sqlite_trees.proofs.ListLemmas.{all_weaker}
-use Rattle.sql_writes.proofs.RowidFacts.{kept_alike}
-use Rattle.sql_writes.proofs.StatementFacts.{IsSet}
+use Rattle.sql_rows.proofs.RowidFacts.{kept_alike}
+use Rattle.sql_rows.proofs.StatementFacts.{IsSet}
 
 numbered_after : (tree : ℕ) (old new : Trees) (all : List Table) → IsNumbered (new tree) → AllByRecursion (λ table. IsNumbered (old table.tree)) all
     → AllByRecursion (λ table. table.tree ≢ tree → new table.tree ≡ old table.tree) all → AllByRecursion (λ table. IsNumbered (new table.tree)) all

@@ -1,16 +1,18 @@
 -- The rows that the bureau writes break no rule that speaks of one row, and can be stored.
-use Rattle.std.proofs.Common.{◌≡◌, ◌≤◌, ◌<◌, ◌+◌, ◌&&◌, ℕ, ℤ, zero, suc, pos, Bool, true, false, List, [], ◌∷◌, Some, length, refl, sym, ◌∙◌, ap, subst, inl, inr, arith, int_cmp}
+use Rattle.std.proofs.Common.{◌≡◌, ◌≤◌, ◌<◌, ◌+◌, ◌&&◌, ℕ, ℤ, zero, suc, pos, negsuc, Bool, true, false, List, [], ◌∷◌, Some, length, refl, sym, ◌∙◌, ap, subst, inl, inr, arith, int_cmp}
 use Rattle.std.specs.Prelude.{not}
 use Rattle.std.specs.Float.{NotNan}
+use Rattle.std.specs.Int.{bit_at}
 use Rattle.std.specs.Ordering.{is_gt}
 use lib.Ieee.{is_nan}
 use Rattle.std.proofs.lemmas.Bool.Decides.{nat_tests}
 use Rattle.std.proofs.lemmas.Int.{ints}
+use Rattle.std.proofs.lemmas.Nat.Bits.{bit_at-zero}
 use Rattle.std.proofs.lemmas.List.Elements.{All-from_recursion}
 use Rattle.sqlite.specs.Collation.TheVariants.{Binary}
 use Rattle.sqlite.specs.Ops.{binary, from_truth}
 use Rattle.sqlite.specs.Order.{value_cmp}
-use Rattle.sqlite.specs.declared.types.Value.TheVariants.{Blob, Int, Text}
+use Rattle.sqlite.specs.declared.types.Value.TheVariants.{Blob, Int, Null, Text}
 use Rattle.sqlite_schema.specs.Rules.{index_reals, table_reals}
 use Rattle.sqlite_schema.specs.declared.schema.Index.{Index}
 use Rattle.sqlite_sql.specs.Catalog.{entry_of}
@@ -21,9 +23,27 @@ use Rattle.sqlite_trees.specs.View.{IsStorable}
 use Rattle.sqlite_value.proofs.OrderLemmas.{value_cmp-Int}
 use Rattle.sqlite_value.specs.Order.{number}
 use Rattle.sql_texts.specs.Schema as schema
-use Rattle.sql_writes.proofs.RuleFacts.{plain_text, untyped, whole_number}
-use Rattle.sql_writes.proofs.SoundFacts.{IsFitting}
-use Rattle.sql_writes.proofs.StatementFacts.{cast_int, cast_null}
+use Rattle.sql_rows.specs.Fitting.{IsFitting}
+use Rattle.sql_rows.proofs.StatementFacts.{cast_int, cast_null}
+
+-- ---- one value
+
+pub whole_number : (n : ℤ) → NotNan (number (Int n))
+unfolding is_nan
+whole_number (pos n) = tt
+whole_number (negsuc n) = tt
+
+pub plain_text : (t : List ℕ) → NotNan (number (Text t))
+unfolding is_nan
+plain_text t = tt
+
+pub no_value : NotNan (number Null)
+unfolding is_nan
+no_value = tt
+
+-- the columns of no table here are REAL
+pub untyped : (c : ℕ) → bit_at 0 c ≡ 1 → ⊥
+untyped c one = let none = bit_at-zero c in omega (arith, one, none)
 
 plain_blob : (b : List ℕ) → NotNan (number (Blob b))
 unfolding is_nan

@@ -1,23 +1,27 @@
 -- Where no row has a key: as the database compares keys, and after rows with it went.
 use Rattle.std.proofs.Common.{◌≡◌, ◌<◌, ◌&&◌, ◌||◌, ◌++◌, ℕ, zero, suc, ℤ, Bool, true, false, List, [], ◌∷◌, length, take, get_or, map, Less, Ordering, refl, sym, ◌∙◌, ap, ap₂, subst, inl, inr, arith}
-use Rattle.std.specs.Prelude.{None, drop, filter, not}
+use Rattle.std.specs.Prelude.{None, Some, drop, filter, not}
 use Rattle.std.specs.List.{AllByRecursion, list_any}
 use Rattle.std.specs.List.Sorted.{IsStrictlySortedBy}
-use Rattle.std.specs.Ordering.{is_eq}
+use Rattle.std.specs.Ordering.{is_eq, is_ne}
 use Rattle.std.proofs.Math.Bool.{and-true}
 use Rattle.std.proofs.lemmas.Bool.{and_parts, both_ways, false_from_ne_true, false≢true, not-true}
+use Rattle.std.proofs.lemmas.Cmp.{tied_itself}
 use Rattle.std.proofs.lemmas.List.{append-nil}
 use Rattle.holddata.specs.declared.key.HoldKey.{HoldKey}
 use Rattle.mcs_reader.specs.Id.{IsId}
 use Rattle.sqlite.specs.Effect.{Database}
 use Rattle.sqlite.specs.Order.{Row}
 use Rattle.sqlite.specs.Edit.{next_rowid}
-use Rattle.sqlite.specs.Tree.{Trees, put_row}
+use Rattle.sqlite.specs.Ops.{binary, from_truth, is_true}
+use Rattle.sqlite.specs.Tree.{Trees, put_row, rowid}
 use Rattle.sqlite.specs.declared.types.Value.TheVariants.{Int}
 use Rattle.sqlite_rules.specs.Keys.{are_unique}
 use Rattle.sqlite_rules.specs.Lists.{Has}
 use Rattle.sqlite_rules.proofs.ListLemmas.{all_has, has_either, has_filtered, some_from, some_has}
-use Rattle.sqlite_schema.specs.Rules.{Keeps, agree, are_typed}
+use Rattle.sqlite_rules.proofs.TableLemmas.{put_has}
+use Rattle.sqlite_value.proofs.OrderLemmas.{value_cmp_total}
+use Rattle.sqlite_schema.specs.Rules.{Keeps, agree, are_typed, clashes, differ}
 use Rattle.sqlite_schema.specs.declared.schema.Constraint.TheVariants.{Datatype}
 use Rattle.sqlite_trees.proofs.ListLemmas.{all_weaker}
 use Rattle.sqlite_trees.specs.Tree.{with_tree}
@@ -27,15 +31,31 @@ use Rattle.sql_texts.specs.Schema as schema
 use Rattle.sql_texts.specs.Schema.{bureau}
 use Rattle.sql_tables.specs.Changes.{is_under, replaced}
 use Rattle.sql_tables.specs.InTrees.{columns_of}
-use Rattle.sql_tables.specs.Rows.{sup_row}
 use Rattle.sql_tables.specs.Stored.{is_of, is_of_both}
 use Rattle.sql_tables.specs.Values.{hold_kind_value, id_value}
 use Rattle.sql_state.specs.Writing.{IsKnown}
 use Rattle.sql_state.proofs.TextFacts.{text_given}
-use Rattle.sql_writes.specs.Parts.{is_of_three}
-use Rattle.sql_writes.proofs.KindFacts.{key_given}
-use Rattle.sql_writes.proofs.RowidFacts.{any_mapped}
-use Rattle.sql_writes.proofs.SoundFacts.{unclashed}
+use Rattle.sql_rows.specs.Parts.{is_of_three}
+use Rattle.sql_rows.proofs.KindFacts.{key_given}
+use Rattle.sql_rows.proofs.RowidFacts.{any_mapped}
+
+-- ---- no row has the key of a new one
+
+pub itself : (n : ℤ) → differ (Int n) (Int n) ≡ false
+unfolding binary
+itself n = ap (λ o. is_true (from_truth (Some (is_ne o)))) (tied_itself value_cmp_total (Int n))
+
+-- none of the rows has the new one's key
+pub unclashed : (places : List ℕ) (rows : List Row) (n : ℤ) (values : Row) → list_any (λ other. agree plain places other places (Int n ∷ values)) rows ≡ false
+    → clashes plain places (put_row (Int n ∷ values) rows) (Int n ∷ values) ≡ false
+unclashed places rows n values none = false_from_ne_true _ (λ any.
+    let new = Int n ∷ values in
+    let other = some_has (λ other. agree plain places other places new && differ (rowid other) (rowid new)) (put_row new rows) any in
+    let parts = and_parts _ _ other.2 in
+    elim (put_has new rows other.0 other.1) [
+      | inl same ↦ both_ways _ (itself n) (subst (λ (r : Row). differ (rowid r) (Int n) ≡ true) same parts.1)
+      | inr was ↦ both_ways _ none (some_from (λ (other : Row). agree plain places other places new) rows other.0 was parts.0)
+    ])
 
 -- ---- how the database compares keys
 
@@ -77,79 +97,75 @@ module _ (places : List ℕ) (test : Row → Bool) (n : ℤ) (values : Row) (row
       → list_any (λ other. agree plain places other places (Int n ∷ values)) rows ≡ false
   none_agree_so alike none = none_agrees (every (λ other. agree plain places other places (Int n ∷ values) ≡ test (drop 1 other)) alike rows) none
 
--- what a record supersedes, among any rows of its table
-pub unique_sup : (db : Trees) (rows : List Row) (id member : List ℕ) → IsId id → IsId member → list_any (is_of_both id member) (columns_of rows) ≡ false
-    → are_unique bureau.indexes (with_tree db 8 (put_row (Int (next_rowid rows) ∷ sup_row id member) rows)) schema.sysmod_sup ((Int (next_rowid rows) ∷ sup_row id member) ∷ []) ≡ true
-unique_sup db rows id member is is_member none =
-    ap (λ b. not (b || false) && true)
-    (unclashed (1 ∷ 2 ∷ []) rows (next_rowid rows) (sup_row id member)
-    (none_agree_so (1 ∷ 2 ∷ []) (is_of_both id member) (next_rowid rows) (sup_row id member) rows (λ other. agree_two (next_rowid rows) other id member [] is is_member) none))
+-- ---- a new row keeps the keys of its table apart, among any rows of it
 
--- a row of a zone, among any rows of its table
-pub unique_zone_row : (db : Trees) (rows : List Row) (client zone sysmod : List ℕ) (rest : Row) → IsId client → IsId zone → IsId sysmod → list_any (is_of_three client zone sysmod) (columns_of rows) ≡ false
-    → are_unique bureau.indexes (with_tree db 15 (put_row (Int (next_rowid rows) ∷ id_value client ∷ id_value zone ∷ id_value sysmod ∷ rest) rows)) schema.zone_row
-    ((Int (next_rowid rows) ∷ id_value client ∷ id_value zone ∷ id_value sysmod ∷ rest) ∷ []) ≡ true
-unique_zone_row db rows client zone sysmod rest is is_zone is_sysmod none =
+-- a caller's last change
+pub unique_last : (db : Trees) (rows : List Row) (name : List ℕ) (rest : Row) → IsId name → list_any (is_of name) (columns_of rows) ≡ false
+    → are_unique bureau.indexes (with_tree db 4 (put_row (Int (next_rowid rows) ∷ id_value name ∷ rest) rows)) schema.last_change ((Int (next_rowid rows) ∷ id_value name ∷ rest) ∷ []) ≡ true
+unique_last db rows name rest is_name none =
     ap (λ b. not (b || false) && true)
-    (unclashed (1 ∷ 2 ∷ 3 ∷ []) rows (next_rowid rows) (id_value client ∷ id_value zone ∷ id_value sysmod ∷ rest)
-    (none_agree_so (1 ∷ 2 ∷ 3 ∷ []) (is_of_three client zone sysmod) (next_rowid rows) (id_value client ∷ id_value zone ∷ id_value sysmod ∷ rest) rows
-    (λ other. agree_three (next_rowid rows) other client zone sysmod rest is is_zone is_sysmod) none))
+    (unclashed (1 ∷ []) rows (next_rowid rows) (id_value name ∷ rest)
+    (none_agree_so (1 ∷ []) (is_of name) (next_rowid rows) (id_value name ∷ rest) rows (λ other. agree_one (next_rowid rows) other name rest is_name) none))
 
--- the row of a record, among any rows of its table
+-- the record of a SYSMOD
 pub unique_sysmod : (db : Trees) (rows : List Row) (id : List ℕ) (rest : Row) → IsId id → list_any (is_of id) (columns_of rows) ≡ false
     → are_unique bureau.indexes (with_tree db 6 (put_row (Int (next_rowid rows) ∷ id_value id ∷ rest) rows)) schema.sysmod ((Int (next_rowid rows) ∷ id_value id ∷ rest) ∷ []) ≡ true
-unique_sysmod db rows id rest is none =
+unique_sysmod db rows id rest is_id none =
     ap (λ b. not (b || false) && true)
     (unclashed (1 ∷ []) rows (next_rowid rows) (id_value id ∷ rest)
-    (none_agree_so (1 ∷ []) (is_of id) (next_rowid rows) (id_value id ∷ rest) rows (λ other. agree_one (next_rowid rows) other id rest is) none))
+    (none_agree_so (1 ∷ []) (is_of id) (next_rowid rows) (id_value id ∷ rest) rows (λ other. agree_one (next_rowid rows) other id rest is_id) none))
 
--- ---- a new row keeps the keys of its table apart
+-- what a client has received
+pub unique_received : (db : Trees) (rows : List Row) (client : List ℕ) (rest : Row) → IsId client → list_any (is_of client) (columns_of rows) ≡ false
+    → are_unique bureau.indexes (with_tree db 17 (put_row (Int (next_rowid rows) ∷ id_value client ∷ rest) rows)) schema.received_list ((Int (next_rowid rows) ∷ id_value client ∷ rest) ∷ []) ≡ true
+unique_received db rows client rest is_client none =
+    ap (λ b. not (b || false) && true)
+    (unclashed (1 ∷ []) rows (next_rowid rows) (id_value client ∷ rest)
+    (none_agree_so (1 ∷ []) (is_of client) (next_rowid rows) (id_value client ∷ rest) rows (λ other. agree_one (next_rowid rows) other client rest is_client) none))
 
-module _ (database : Database) (known : IsKnown database) where
-  abbrev db : Trees
-  db = database.trees
+-- what a record supersedes
+pub unique_sup : (db : Trees) (rows : List Row) (id member : List ℕ) (rest : Row) → IsId id → IsId member → list_any (is_of_both id member) (columns_of rows) ≡ false
+    → are_unique bureau.indexes (with_tree db 8 (put_row (Int (next_rowid rows) ∷ id_value id ∷ id_value member ∷ rest) rows)) schema.sysmod_sup ((Int (next_rowid rows) ∷ id_value id ∷ id_value member ∷ rest) ∷ []) ≡ true
+unique_sup db rows id member rest is_id is_member none =
+    ap (λ b. not (b || false) && true)
+    (unclashed (1 ∷ 2 ∷ []) rows (next_rowid rows) (id_value id ∷ id_value member ∷ rest)
+    (none_agree_so (1 ∷ 2 ∷ []) (is_of_both id member) (next_rowid rows) (id_value id ∷ id_value member ∷ rest) rows (λ other. agree_two (next_rowid rows) other id member rest is_id is_member) none))
 
-  pub unique_last : (name : List ℕ) (rest : Row) → IsId name → list_any (is_of name) (columns_of (db 4)) ≡ false
-      → are_unique bureau.indexes (with_tree db 4 (put_row (Int (next_rowid (db 4)) ∷ id_value name ∷ rest) (db 4))) schema.last_change ((Int (next_rowid (db 4)) ∷ id_value name ∷ rest) ∷ []) ≡ true
-  unique_last name rest is none =
-      ap (λ b. not (b || false) && true)
-      (unclashed (1 ∷ []) (db 4) (next_rowid (db 4)) (id_value name ∷ rest)
-      (none_agree_so (1 ∷ []) (is_of name) (next_rowid (db 4)) (id_value name ∷ rest) (db 4) (λ other. agree_one (next_rowid (db 4)) other name rest is) none))
+-- the head of a zone
+pub unique_head : (db : Trees) (rows : List Row) (client zone : List ℕ) (rest : Row) → IsId client → IsId zone → list_any (is_of_both client zone) (columns_of rows) ≡ false
+    → are_unique bureau.indexes (with_tree db 13 (put_row (Int (next_rowid rows) ∷ id_value client ∷ id_value zone ∷ rest) rows)) schema.zone_head ((Int (next_rowid rows) ∷ id_value client ∷ id_value zone ∷ rest) ∷ []) ≡ true
+unique_head db rows client zone rest is_client is_zone none =
+    ap (λ b. not (b || false) && true)
+    (unclashed (1 ∷ 2 ∷ []) rows (next_rowid rows) (id_value client ∷ id_value zone ∷ rest)
+    (none_agree_so (1 ∷ 2 ∷ []) (is_of_both client zone) (next_rowid rows) (id_value client ∷ id_value zone ∷ rest) rows (λ other. agree_two (next_rowid rows) other client zone rest is_client is_zone) none))
 
-  pub unique_received : (client : List ℕ) (rest : Row) → IsId client → list_any (is_of client) (columns_of (db 17)) ≡ false
-      → are_unique bureau.indexes (with_tree db 17 (put_row (Int (next_rowid (db 17)) ∷ id_value client ∷ rest) (db 17))) schema.received_list ((Int (next_rowid (db 17)) ∷ id_value client ∷ rest) ∷ []) ≡ true
-  unique_received client rest is none =
-      ap (λ b. not (b || false) && true)
-      (unclashed (1 ∷ []) (db 17) (next_rowid (db 17)) (id_value client ∷ rest)
-      (none_agree_so (1 ∷ []) (is_of client) (next_rowid (db 17)) (id_value client ∷ rest) (db 17) (λ other. agree_one (next_rowid (db 17)) other client rest is) none))
+-- a SYSMOD of a zone
+pub unique_zone_row : (db : Trees) (rows : List Row) (client zone sysmod : List ℕ) (rest : Row) → IsId client → IsId zone → IsId sysmod → list_any (is_of_three client zone sysmod) (columns_of rows) ≡ false
+    → are_unique bureau.indexes (with_tree db 15 (put_row (Int (next_rowid rows) ∷ id_value client ∷ id_value zone ∷ id_value sysmod ∷ rest) rows)) schema.zone_row ((Int (next_rowid rows) ∷ id_value client ∷ id_value zone ∷ id_value sysmod ∷ rest) ∷ []) ≡ true
+unique_zone_row db rows client zone sysmod rest is_client is_zone is_sysmod none =
+    ap (λ b. not (b || false) && true)
+    (unclashed (1 ∷ 2 ∷ 3 ∷ []) rows (next_rowid rows) (id_value client ∷ id_value zone ∷ id_value sysmod ∷ rest)
+    (none_agree_so (1 ∷ 2 ∷ 3 ∷ []) (is_of_three client zone sysmod) (next_rowid rows) (id_value client ∷ id_value zone ∷ id_value sysmod ∷ rest) rows (λ other. agree_three (next_rowid rows) other client zone sysmod rest is_client is_zone is_sysmod) none))
 
-  pub unique_head : (client zone : List ℕ) (rest : Row) → IsId client → IsId zone → list_any (is_of_both client zone) (columns_of (db 13)) ≡ false
-      → are_unique bureau.indexes (with_tree db 13 (put_row (Int (next_rowid (db 13)) ∷ id_value client ∷ id_value zone ∷ rest) (db 13))) schema.zone_head
-      ((Int (next_rowid (db 13)) ∷ id_value client ∷ id_value zone ∷ rest) ∷ []) ≡ true
-  unique_head client zone rest is is_zone none =
-      ap (λ b. not (b || false) && true)
-      (unclashed (1 ∷ 2 ∷ []) (db 13) (next_rowid (db 13)) (id_value client ∷ id_value zone ∷ rest)
-      (none_agree_so (1 ∷ 2 ∷ []) (is_of_both client zone) (next_rowid (db 13)) (id_value client ∷ id_value zone ∷ rest) (db 13) (λ other. agree_two (next_rowid (db 13)) other client zone rest is is_zone) none))
+-- what a record requires under a condition
+pub unique_cond : (db : Trees) (rows : List Row) (id fmid need : List ℕ) (rest : Row) → IsId id → IsId fmid → IsId need → list_any (is_of_three id fmid need) (columns_of rows) ≡ false
+    → are_unique bureau.indexes (with_tree db 19 (put_row (Int (next_rowid rows) ∷ id_value id ∷ id_value fmid ∷ id_value need ∷ rest) rows)) schema.sysmod_cond ((Int (next_rowid rows) ∷ id_value id ∷ id_value fmid ∷ id_value need ∷ rest) ∷ []) ≡ true
+unique_cond db rows id fmid need rest is_id is_fmid is_need none =
+    ap (λ b. not (b || false) && true)
+    (unclashed (1 ∷ 2 ∷ 3 ∷ []) rows (next_rowid rows) (id_value id ∷ id_value fmid ∷ id_value need ∷ rest)
+    (none_agree_so (1 ∷ 2 ∷ 3 ∷ []) (is_of_three id fmid need) (next_rowid rows) (id_value id ∷ id_value fmid ∷ id_value need ∷ rest) rows (λ other. agree_three (next_rowid rows) other id fmid need rest is_id is_fmid is_need) none))
 
-  pub unique_cond : (id fmid need : List ℕ) → IsId id → IsId fmid → IsId need → list_any (is_of_three id fmid need) (columns_of (db 19)) ≡ false
-      → are_unique bureau.indexes (with_tree db 19 (put_row (Int (next_rowid (db 19)) ∷ id_value id ∷ id_value fmid ∷ id_value need ∷ []) (db 19))) schema.sysmod_cond
-      ((Int (next_rowid (db 19)) ∷ id_value id ∷ id_value fmid ∷ id_value need ∷ []) ∷ []) ≡ true
-  unique_cond id fmid need is is_fmid is_need none =
-      ap (λ b. not (b || false) && true)
-      (unclashed (1 ∷ 2 ∷ 3 ∷ []) (db 19) (next_rowid (db 19)) (id_value id ∷ id_value fmid ∷ id_value need ∷ [])
-      (none_agree_so (1 ∷ 2 ∷ 3 ∷ []) (is_of_three id fmid need) (next_rowid (db 19)) (id_value id ∷ id_value fmid ∷ id_value need ∷ []) (db 19)
-      (λ other. agree_three (next_rowid (db 19)) other id fmid need [] is is_fmid is_need) none))
-
-  pub unique_hold : (key : HoldKey) (rest : Row) → IsId key.sysmod → IsId key.reason → list_any (is_under key) (columns_of (db 11)) ≡ false
-      → are_unique bureau.indexes (with_tree db 11 (put_row (Int (next_rowid (db 11)) ∷ id_value key.sysmod ∷ hold_kind_value key.kind ∷ id_value key.reason ∷ rest) (db 11))) schema.hold_row
-      ((Int (next_rowid (db 11)) ∷ id_value key.sysmod ∷ hold_kind_value key.kind ∷ id_value key.reason ∷ rest) ∷ []) ≡ true
-  unique_hold key rest is_sysmod is_reason none =
-      let values = id_value key.sysmod ∷ hold_kind_value key.kind ∷ id_value key.reason ∷ rest in
-      let sound = subst (λ s. Keeps Datatype s db) known.schema (known.sound.obeys.rules Datatype) in
-      let alike = all_weaker _ (λ other. agree plain (1 ∷ 2 ∷ 3 ∷ []) other (1 ∷ 2 ∷ 3 ∷ []) (Int (next_rowid (db 11)) ∷ values) ≡ is_under key (drop 1 other))
-      (λ other ok. agree_hold (next_rowid (db 11)) other key rest is_sysmod is_reason (and_parts _ _ ok).0) (db 11) sound.1.1.1.1.1.0 in
-      ap (λ b. not (b || false) && true)
-      (unclashed (1 ∷ 2 ∷ 3 ∷ []) (db 11) (next_rowid (db 11)) values (none_agrees (1 ∷ 2 ∷ 3 ∷ []) (is_under key) (next_rowid (db 11)) values (db 11) alike none))
+-- a hold, whose kind is a whole number by the rules of its table
+pub unique_hold : (database : Database) → IsKnown database → (key : HoldKey) (rest : Row) → IsId key.sysmod → IsId key.reason → list_any (is_under key) (columns_of (database.trees 11)) ≡ false
+    → are_unique bureau.indexes (with_tree database.trees 11 (put_row (Int (next_rowid (database.trees 11)) ∷ id_value key.sysmod ∷ hold_kind_value key.kind ∷ id_value key.reason ∷ rest) (database.trees 11))) schema.hold_row
+    ((Int (next_rowid (database.trees 11)) ∷ id_value key.sysmod ∷ hold_kind_value key.kind ∷ id_value key.reason ∷ rest) ∷ []) ≡ true
+unique_hold database known key rest is_sysmod is_reason none =
+    let values = id_value key.sysmod ∷ hold_kind_value key.kind ∷ id_value key.reason ∷ rest in
+    let sound = subst (λ s. Keeps Datatype s database.trees) known.schema (known.sound.obeys.rules Datatype) in
+    let alike = all_weaker _ (λ other. agree plain (1 ∷ 2 ∷ 3 ∷ []) other (1 ∷ 2 ∷ 3 ∷ []) (Int (next_rowid (database.trees 11)) ∷ values) ≡ is_under key (drop 1 other))
+    (λ other ok. agree_hold (next_rowid (database.trees 11)) other key rest is_sysmod is_reason (and_parts _ _ ok).0) (database.trees 11) sound.1.1.1.1.1.0 in
+    ap (λ b. not (b || false) && true)
+    (unclashed (1 ∷ 2 ∷ 3 ∷ []) (database.trees 11) (next_rowid (database.trees 11)) values (none_agrees (1 ∷ 2 ∷ 3 ∷ []) (is_under key) (next_rowid (database.trees 11)) values (database.trees 11) alike none))
 
 -- ---- after rows went
 

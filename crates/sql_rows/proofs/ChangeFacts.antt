@@ -10,7 +10,7 @@ use Rattle.sql_tables.specs.Stored.{Stored}
 use Rattle.sql_state.specs.Ours.{held_by}
 use Rattle.sql_state.specs.Writing.{Changes, IsKnown}
 use Rattle.sql_state.proofs.StopFacts.{kept_then, kept_unchanged, kept_unrun, no_read, survives_both, was_clean}
-use Rattle.sql_writes.specs.Running.{Ran}
+use Rattle.sql_rows.specs.Running.{Ran}
 
 -- one statement is a change
 pub changed_by : {A F : Type 0} (old new : State) (text : List ℕ) (params : Row) (result : Result A F) (change : Stored → Stored) → Ran text params old new result

@@ -1,0 +1,22 @@
+-- What is so of short lists, whatever they have, is shown for each length.
+use Rattle.std.proofs.Common.{◌≡◌, ◌≤◌, List, [], ◌∷◌, length, arith}
+
+module _ {X : Type 0} (P : List X → Type 0) where
+  pub one_only : ((a : X) → P (a ∷ [])) → (xs : List X) → length xs ≡ 1 → P xs
+  one_only one [] is = absurd (omega (arith, is))
+  one_only one (a ∷ []) is = one a
+  one_only one (a ∷ b ∷ more) is = absurd (omega (arith, is))
+
+  pub up_to_eight : P [] → ((a : X) → P (a ∷ [])) → ((a b : X) → P (a ∷ b ∷ [])) → ((a b c : X) → P (a ∷ b ∷ c ∷ [])) → ((a b c d : X) → P (a ∷ b ∷ c ∷ d ∷ []))
+      → ((a b c d e : X) → P (a ∷ b ∷ c ∷ d ∷ e ∷ [])) → ((a b c d e f : X) → P (a ∷ b ∷ c ∷ d ∷ e ∷ f ∷ [])) → ((a b c d e f g : X) → P (a ∷ b ∷ c ∷ d ∷ e ∷ f ∷ g ∷ []))
+      → ((a b c d e f g h : X) → P (a ∷ b ∷ c ∷ d ∷ e ∷ f ∷ g ∷ h ∷ [])) → (xs : List X) → length xs ≤ 8 → P xs
+  up_to_eight p0 p1 p2 p3 p4 p5 p6 p7 p8 [] low = p0
+  up_to_eight p0 p1 p2 p3 p4 p5 p6 p7 p8 (a ∷ []) low = p1 a
+  up_to_eight p0 p1 p2 p3 p4 p5 p6 p7 p8 (a ∷ b ∷ []) low = p2 a b
+  up_to_eight p0 p1 p2 p3 p4 p5 p6 p7 p8 (a ∷ b ∷ c ∷ []) low = p3 a b c
+  up_to_eight p0 p1 p2 p3 p4 p5 p6 p7 p8 (a ∷ b ∷ c ∷ d ∷ []) low = p4 a b c d
+  up_to_eight p0 p1 p2 p3 p4 p5 p6 p7 p8 (a ∷ b ∷ c ∷ d ∷ e ∷ []) low = p5 a b c d e
+  up_to_eight p0 p1 p2 p3 p4 p5 p6 p7 p8 (a ∷ b ∷ c ∷ d ∷ e ∷ f ∷ []) low = p6 a b c d e f
+  up_to_eight p0 p1 p2 p3 p4 p5 p6 p7 p8 (a ∷ b ∷ c ∷ d ∷ e ∷ f ∷ g ∷ []) low = p7 a b c d e f g
+  up_to_eight p0 p1 p2 p3 p4 p5 p6 p7 p8 (a ∷ b ∷ c ∷ d ∷ e ∷ f ∷ g ∷ h ∷ []) low = p8 a b c d e f g h
+  up_to_eight p0 p1 p2 p3 p4 p5 p6 p7 p8 (a ∷ b ∷ c ∷ d ∷ e ∷ f ∷ g ∷ h ∷ k ∷ more) low = absurd (omega (arith, low))

@@ -1,0 +1,10 @@
+pub mod AbsentFacts
+pub mod ChangeFacts
+pub mod CountFacts
+pub mod FittingFacts
+pub mod KindFacts
+pub mod RowidFacts
+pub mod StatementFacts
+pub mod StoredFacts
+pub mod TableFacts
+pub mod TurnFacts

@@ -1,0 +1,201 @@
+//! The tables that have a key: where each stands in the schema and in the store.
+ghost use Rattle.std.specs.Prelude.{refl};
+ghost use Rattle.sql_texts.specs.Schema as schema;
+
+use crate::Table;
+
+/// The last changes of callers: the columns `caller`, `number` and `body`.
+pub enum LastChanges {}
+
+impl Table for LastChanges {
+    ghost use Rattle.std.specs.Prelude.{refl};
+    ghost use Rattle.sql_texts.specs.Schema as schema;
+    ghost use Rattle.sql_rows.specs.Standing.{Stands};
+
+    ghost index = { 2 };
+
+    ghost table = { schema.last_change };
+
+    ghost rows = { λ stored. stored.changes };
+
+    ghost with_rows = { λ rows stored. record stored { changes = rows } };
+
+    ghost stands = { record {
+      placed = refl;
+      uncounted = refl;
+      apart = refl;
+      here = λ trees. refl;
+      set = λ trees news. refl;
+      got = λ news stored. refl;
+      again = λ news others stored. refl;
+      kept = λ stored. refl;
+    } };
+}
+
+/// Records without what they supersede and require under a condition: the columns `id`, `kind`, `fmids`, `pre` and `req`.
+pub enum Sysmods {}
+
+impl Table for Sysmods {
+    ghost use Rattle.std.specs.Prelude.{refl};
+    ghost use Rattle.sql_texts.specs.Schema as schema;
+    ghost use Rattle.sql_rows.specs.Standing.{Stands};
+
+    ghost index = { 3 };
+
+    ghost table = { schema.sysmod };
+
+    ghost rows = { λ stored. stored.sysmods };
+
+    ghost with_rows = { λ rows stored. record stored { sysmods = rows } };
+
+    ghost stands = { record {
+      placed = refl;
+      uncounted = refl;
+      apart = refl;
+      here = λ trees. refl;
+      set = λ trees news. refl;
+      got = λ news stored. refl;
+      again = λ news others stored. refl;
+      kept = λ stored. refl;
+    } };
+}
+
+/// What records supersede: the columns `id` and `member`.
+pub enum Sups {}
+
+impl Table for Sups {
+    ghost use Rattle.std.specs.Prelude.{refl};
+    ghost use Rattle.sql_texts.specs.Schema as schema;
+    ghost use Rattle.sql_rows.specs.Standing.{Stands};
+
+    ghost index = { 4 };
+
+    ghost table = { schema.sysmod_sup };
+
+    ghost rows = { λ stored. stored.sups };
+
+    ghost with_rows = { λ rows stored. record stored { sups = rows } };
+
+    ghost stands = { record {
+      placed = refl;
+      uncounted = refl;
+      apart = refl;
+      here = λ trees. refl;
+      set = λ trees news. refl;
+      got = λ news stored. refl;
+      again = λ news others stored. refl;
+      kept = λ stored. refl;
+    } };
+}
+
+/// The zones of clients, with the patterns that are asked for: the columns `client`, `zone` and `patterns`.
+pub enum Heads {}
+
+impl Table for Heads {
+    ghost use Rattle.std.specs.Prelude.{refl};
+    ghost use Rattle.sql_texts.specs.Schema as schema;
+    ghost use Rattle.sql_rows.specs.Standing.{Stands};
+
+    ghost index = { 6 };
+
+    ghost table = { schema.zone_head };
+
+    ghost rows = { λ stored. stored.heads };
+
+    ghost with_rows = { λ rows stored. record stored { heads = rows } };
+
+    ghost stands = { record {
+      placed = refl;
+      uncounted = refl;
+      apart = refl;
+      here = λ trees. refl;
+      set = λ trees news. refl;
+      got = λ news stored. refl;
+      again = λ news others stored. refl;
+      kept = λ stored. refl;
+    } };
+}
+
+/// The SYSMODs of zones with their states: the columns `client`, `zone`, `sysmod` and `state`.
+pub enum ZoneRows {}
+
+impl Table for ZoneRows {
+    ghost use Rattle.std.specs.Prelude.{refl};
+    ghost use Rattle.sql_texts.specs.Schema as schema;
+    ghost use Rattle.sql_rows.specs.Standing.{Stands};
+
+    ghost index = { 7 };
+
+    ghost table = { schema.zone_row };
+
+    ghost rows = { λ stored. stored.rows };
+
+    ghost with_rows = { λ rows stored. record stored { rows = rows } };
+
+    ghost stands = { record {
+      placed = refl;
+      uncounted = refl;
+      apart = refl;
+      here = λ trees. refl;
+      set = λ trees news. refl;
+      got = λ news stored. refl;
+      again = λ news others stored. refl;
+      kept = λ stored. refl;
+    } };
+}
+
+/// What clients have received: the columns `client` and `ids`.
+pub enum Received {}
+
+impl Table for Received {
+    ghost use Rattle.std.specs.Prelude.{refl};
+    ghost use Rattle.sql_texts.specs.Schema as schema;
+    ghost use Rattle.sql_rows.specs.Standing.{Stands};
+
+    ghost index = { 8 };
+
+    ghost table = { schema.received_list };
+
+    ghost rows = { λ stored. stored.received };
+
+    ghost with_rows = { λ rows stored. record stored { received = rows } };
+
+    ghost stands = { record {
+      placed = refl;
+      uncounted = refl;
+      apart = refl;
+      here = λ trees. refl;
+      set = λ trees news. refl;
+      got = λ news stored. refl;
+      again = λ news others stored. refl;
+      kept = λ stored. refl;
+    } };
+}
+
+/// What records require where a function is installed: the columns `id`, `fmid` and `member`.
+pub enum Conds {}
+
+impl Table for Conds {
+    ghost use Rattle.std.specs.Prelude.{refl};
+    ghost use Rattle.sql_texts.specs.Schema as schema;
+    ghost use Rattle.sql_rows.specs.Standing.{Stands};
+
+    ghost index = { 9 };
+
+    ghost table = { schema.sysmod_cond };
+
+    ghost rows = { λ stored. stored.conds };
+
+    ghost with_rows = { λ rows stored. record stored { conds = rows } };
+
+    ghost stands = { record {
+      placed = refl;
+      uncounted = refl;
+      apart = refl;
+      here = λ trees. refl;
+      set = λ trees news. refl;
+      got = λ news stored. refl;
+      again = λ news others stored. refl;
+      kept = λ stored. refl;
+    } };
+}

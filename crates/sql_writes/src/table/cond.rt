@@ -1,0 +1,40 @@
+//! The table `sysmod_cond`: what a record requires under a condition.
+#![tactic(auto, unfolding(sqlite::specs::Listing::understood, sqlite_tied::specs::Compute::everything))]
+
+use super::{Asked, Bare, Deletes};
+use mcs_reader::Id;
+use sql_rows::Conds;
+
+impl Deletes<Id> for Conds {
+    ghost use Rattle.std.specs.Prelude.{refl};
+
+    fn deletion() -> &'static str {
+        "DELETE FROM sysmod_cond WHERE id = ?1"
+    }
+
+    ghost accepts = { λ id. refl };
+}
+
+impl Asked<Id> for Conds {
+    ghost use Rattle.std.specs.Prelude.{codes, refl};
+
+    ghost name = { codes "id" };
+
+    fn question() -> &'static str {
+        "SELECT id FROM sysmod_cond WHERE id = ?1"
+    }
+
+    ghost takes = { λ id. refl };
+}
+
+impl Bare for Conds {
+    ghost use Rattle.std.specs.Prelude.{codes, refl};
+
+    ghost name = { codes "id" };
+
+    fn first() -> &'static str {
+        "SELECT id FROM sysmod_cond LIMIT 1"
+    }
+
+    ghost takes = { refl };
+}
