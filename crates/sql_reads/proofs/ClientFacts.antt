@@ -6,30 +6,26 @@ use Rattle.std.specs.List.Sorted.{IsPermutation}
 use Rattle.std.proofs.lemmas.List.Sorted.{IsPermutation-map, IsPermutation-refl, length_permutation}
 use Rattle.sqlite_trees.proofs.ListLemmas.{IsPermutation-filter}
 use Rattle.mcs_reader.specs.Id.{IsId, text_of}
-use Rattle.zone_lists.specs.ZoneList.{RowsAscend}
 use Rattle.zone_lists.specs.declared.zones.ZoneRow.{ZoneRow}
 use Rattle.sqlite.specs.Query.{IsAnswer}
 use Rattle.sqlite.specs.Tree.{Trees}
-use Rattle.sqlite_value.specs.Order.{Row, column}
+use Rattle.sqlite_value.specs.Order.{Row}
 use Rattle.sqlite_value.specs.declared.value.Value.TheVariants.{Text}
-use Rattle.bureau_store.specs.Tables as tables
 use Rattle.bureau_store.specs.Tables.{LastChange, ZoneTable, no_change, zone_named}
 use Rattle.bureau_store.specs.Caller.{IsProper, is_publisher, publisher_name}
 use Rattle.bureau_store.specs.declared.caller.Caller.{Caller}
 use Rattle.bureau_store.specs.declared.caller.Caller.TheVariants.{Client}
 use Rattle.catalogue.proofs.IdFacts.{one_id}
 use Rattle.sql_tables.specs.InTrees.{columns_of, stored_in}
-use Rattle.sql_tables.specs.Rows.{change_found, zone_row_found}
+use Rattle.sql_tables.specs.Rows.{change_found}
 use Rattle.sql_tables.specs.Stored.{Stored, first, is_of, is_of_both, name_of, tables_of, zone_of, zone_rows_of}
-use Rattle.sql_tables.specs.Values.{ids_in, patterns_in}
 use Rattle.sql_tables.proofs.ClientFacts.{zone_found}
 use Rattle.sql_tables.proofs.ListFacts.{any_first}
-use Rattle.sql_tables.proofs.ReadFacts.{zone_rows_read}
 use Rattle.sql_texts.specs.Found.{shown}
 use Rattle.sql_texts.specs.Reads as read
 use Rattle.sql_reads.specs.Answering.{one_of}
 use Rattle.sql_reads.proofs.TableFacts.{one_case, table_found}
-use Rattle.sql_state.proofs.TextFacts.{both_given, of_given}
+use Rattle.sql_state.proofs.TextFacts.{of_given}
 
 pub proper_name : (caller : Caller) (name : List ℕ) → caller ≡ Client name → IsProper caller → name_of caller ≡ Some name
 proper_name caller name is proper = ap name_of is ∙ by (is_publisher name) refl
@@ -80,47 +76,23 @@ module _ (trees : Trees) where
       (table_found 4 (read.is_given 1 0 ∷ []) (1 ∷ 2 ∷ []) (1 ∷ []) (Text (text_of name) ∷ []) trees rows (is_of name) (of_given name is) answer) said
       ∙ sym (ap (λ o. unwrap_or (option_and_then (λ n. option_and_then (λ row. change_found (shown (1 ∷ 2 ∷ []) row)) (first (filter (is_of n) (columns_of (trees 4))))) o) no_change) named)
 
-  pub received_told : (client : List ℕ) (rows : List Row) (found : List (List ℕ)) → IsId client → IsAnswer read.received trees (Text (text_of client) ∷ []) rows
-      → option_map (λ o. unwrap_or o []) (one_of (λ row. ids_in (column row 0)) rows) ≡ Some found → found ≡ (tables_of (stored_in trees)).received client
-  received_told client rows found is answer said =
-      said_or (λ row. ids_in (column row 0)) (shown (1 ∷ [])) [] (filter (is_of client) (columns_of (trees 17))) rows found
-      (table_found 17 (read.is_given 1 0 ∷ []) (1 ∷ []) (1 ∷ []) (Text (text_of client) ∷ []) trees rows (is_of client) (of_given client is) answer) said
+-- whether a zone is there is told by its rows
+pub zone_told : (stored : Stored) (client zone : List ℕ) (rows : List Row) (found : Bool) → IsPermutation (map (shown (2 ∷ [])) (filter (is_of_both client zone) stored.heads)) rows
+    → found ≡ is_some (first rows) → found ≡ is_some (zone_named zone ((tables_of stored).zones client))
+zone_told stored client zone rows found shows said =
+    said ∙ same (filter (is_of_both client zone) stored.heads) rows shows ∙ sym (any_first (is_of_both client zone) stored.heads)
+    ∙ there (list_any (is_of_both client zone) stored.heads) (zone_of stored client zone)
+    ∙ sym (ap is_some (zone_found stored client zone))
+  where
+    there : (b : Bool) (table : ZoneTable) → b ≡ is_some (cond b (Some table) None)
+    there true table = refl
+    there false table = refl
 
-  module _ (client zone : List ℕ) (rows : List Row) (is_client : IsId client) (is_zone : IsId zone) where
-    heads_found : IsAnswer read.patterns trees (Text (text_of client) ∷ Text (text_of zone) ∷ []) rows → IsPermutation (map (shown (2 ∷ [])) (filter (is_of_both client zone) (columns_of (trees 13)))) rows
-    heads_found answer =
-        table_found 13 (read.is_given 1 0 ∷ read.is_given 2 1 ∷ []) (2 ∷ []) (2 ∷ []) (Text (text_of client) ∷ Text (text_of zone) ∷ []) trees rows (is_of_both client zone) (both_given client zone is_client is_zone) answer
-
-    pub zone_told : (found : Bool) → IsAnswer read.patterns trees (Text (text_of client) ∷ Text (text_of zone) ∷ []) rows
-        → found ≡ is_some (first rows) → found ≡ is_some (zone_named zone ((tables_of (stored_in trees)).zones client))
-    zone_told found answer said =
-        said ∙ same (filter (is_of_both client zone) (columns_of (trees 13))) rows (heads_found answer) ∙ sym (any_first (is_of_both client zone) (columns_of (trees 13)))
-        ∙ there (list_any (is_of_both client zone) (columns_of (trees 13))) (zone_of (stored_in trees) client zone)
-        ∙ sym (ap is_some (zone_found (stored_in trees) client zone))
-      where
-        there : (b : Bool) (table : ZoneTable) → b ≡ is_some (cond b (Some table) None)
-        there true table = refl
-        there false table = refl
-
-        same : (xs rs : List Row) → IsPermutation (map (shown (2 ∷ [])) xs) rs → is_some (first rs) ≡ is_some (first xs)
-        same [] [] permuted = refl
-        same [] (r ∷ rs) permuted = absurd (omega (arith, length_permutation (map (shown (2 ∷ [])) []) (r ∷ rs) permuted))
-        same (x ∷ xs) [] permuted = absurd (omega (arith, length_permutation (map (shown (2 ∷ [])) (x ∷ xs)) [] permuted))
-        same (x ∷ xs) (r ∷ rs) permuted = refl
-
-    pub patterns_told : (found : List (List ℕ)) → IsAnswer read.patterns trees (Text (text_of client) ∷ Text (text_of zone) ∷ []) rows
-        → option_map (λ o. unwrap_or o []) (one_of (λ row. patterns_in (column row 0)) rows) ≡ Some found
-        → found ≡ tables.patterns_of (zone_named zone ((tables_of (stored_in trees)).zones client))
-    patterns_told found answer said =
-        said_or (λ row. patterns_in (column row 0)) (shown (2 ∷ [])) [] (filter (is_of_both client zone) (columns_of (trees 13))) rows found (heads_found answer) said
-        ∙ sym (ap tables.patterns_of (zone_found (stored_in trees) client zone)
-        ∙ ap (λ b. tables.patterns_of (cond b (Some (zone_of (stored_in trees) client zone)) None)) (any_first (is_of_both client zone) (columns_of (trees 13)))
-        ∙ by (filter (is_of_both client zone) (columns_of (trees 13))) refl)
-      where
-        by : (xs : List Row) → filter (is_of_both client zone) (columns_of (trees 13)) ≡ xs
-            → tables.patterns_of (cond (is_some (first xs)) (Some (zone_of (stored_in trees) client zone)) None) ≡ unwrap_or (option_and_then (λ row. patterns_in (column row 2)) (first xs)) []
-        by [] is = refl
-        by (x ∷ xs) is = ap (λ rs. unwrap_or (option_and_then (λ row. patterns_in (column row 2)) (first rs)) []) is
+    same : (xs rs : List Row) → IsPermutation (map (shown (2 ∷ [])) xs) rs → is_some (first rs) ≡ is_some (first xs)
+    same [] [] permuted = refl
+    same [] (r ∷ rs) permuted = absurd (omega (arith, length_permutation (map (shown (2 ∷ [])) []) (r ∷ rs) permuted))
+    same (x ∷ xs) [] permuted = absurd (omega (arith, length_permutation (map (shown (2 ∷ [])) (x ∷ xs)) [] permuted))
+    same (x ∷ xs) (r ∷ rs) permuted = refl
 
 -- ---- all rows
 
@@ -154,12 +126,3 @@ pub table_said : {A : Type 0} (f : Row → Option A) (show : Row → Row) (kept 
     → IsPermutation (filter_map (λ row. f (show row)) kept) items
 table_said f show kept rows items permuted said =
     all_said (λ row. f (show row)) kept items (subst₂ IsPermutation (map_map f show kept) (sym said) (IsPermutation-map f (map show kept) rows permuted))
-
-pub zone_rows_told : (trees : Trees) (client zone : List ℕ) (rows : List Row) (found : List ZoneRow) → IsId client → IsId zone → RowsAscend found
-    → IsAnswer read.zone_rows trees (Text (text_of client) ∷ Text (text_of zone) ∷ []) rows → map Some found ≡ map zone_row_found rows
-    → found ≡ zone_rows_of (columns_of (trees 15)) client zone
-zone_rows_told trees client zone rows found is_client is_zone ascend answer said =
-    zone_rows_read (columns_of (trees 15)) client zone found ascend
-    (table_said zone_row_found (shown (2 ∷ 3 ∷ [])) (filter (is_of_both client zone) (columns_of (trees 15))) rows found
-    (table_found 15 (read.is_given 1 0 ∷ read.is_given 2 1 ∷ []) (2 ∷ 3 ∷ []) (3 ∷ []) (Text (text_of client) ∷ Text (text_of zone) ∷ []) trees rows (is_of_both client zone) (both_given client zone is_client is_zone) answer)
-    said)

@@ -11,7 +11,15 @@ use Rattle.std.specs.Ordering.{is_lt}
 use Rattle.std.specs.declared.cmp.Ordering.{Ordering}
 use Rattle.std.specs.declared.cmp.Ordering.TheVariants.{Less}
 use Rattle.std.proofs.lemmas.Map.Keys.{Less-from_sorted, sorted_from_all_adjacent}
-use Rattle.catalogue.proofs.IdFacts.{lower, not_lower}
+use Rattle.catalogue.proofs.IdFacts.{keys_by_neighbours, lower, not_lower}
+
+-- things ascend just if each is below the next
+pub by_neighbours : {K : Type 0} {cmp : K → K → Ordering} → IsTotalOrder cmp → (keys : List K) (answer : Bool)
+    → IsAllAdjacentAnswer (λ a b is. is ≡ is_lt (cmp a b)) keys answer → IsTrue answer ↔ IsStrictlySortedBy cmp keys
+unfolding IsStrictlySortedBy
+by_neighbours total [] true said = (λ _. tt, λ _. refl)
+by_neighbours total [] false said = absurd (omega (arith, said.1))
+by_neighbours total (key ∷ keys) answer said = keys_by_neighbours total key (key ∷ keys) answer said
 
 module _ {X K : Type 0} (cmp : K → K → Ordering) (total : IsTotalOrder cmp) (key : X → K) where
   -- what has keys ascends by them just if each key is below the next

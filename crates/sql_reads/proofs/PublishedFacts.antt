@@ -5,40 +5,31 @@ use Rattle.std.specs.List.{Contains, cons_option, filter_map}
 use Rattle.std.specs.List.Sorted.{IsPermutation}
 use Rattle.std.proofs.lemmas.List.Sorted.{Contains-permutation, IsPermutation-sym}
 use Rattle.lemmas.proofs.ListFacts.{kept_inside, map_found}
-use Rattle.mcs_reader.specs.Id.{IsId, text_of}
 use Rattle.holddata.specs.HoldBook.{IsInKeyOrder}
 use Rattle.holddata.specs.declared.hold.Hold.{Hold}
 use Rattle.holddata.specs.declared.key.HoldKey.{HoldKey}
 use Rattle.holddata.specs.declared.key.Kind.{Kind}
-use Rattle.catalogue.specs.Conditional.{CondsAscend}
 use Rattle.catalogue.specs.Content as content
 use Rattle.catalogue.specs.Content.{holds_on, ids_of, record_of}
 use Rattle.catalogue.specs.Ids.{Ascend, same_id}
-use Rattle.catalogue.specs.declared.conditional.CondNeed.{CondNeed}
 use Rattle.catalogue.specs.declared.sysmod.Sysmod.{Sysmod}
 use Rattle.catalogue.proofs.IdFacts.{same_back}
-use Rattle.sqlite.specs.Query.{IsAnswer}
-use Rattle.sqlite.specs.Tree.{Trees}
 use Rattle.sqlite_value.specs.Order.{Row, column}
-use Rattle.sqlite_value.specs.declared.value.Value.TheVariants.{Text}
 use Rattle.sql_tables.specs.Fit.{IsRecord}
-use Rattle.sql_tables.specs.InTrees.{columns_of, stored_in}
-use Rattle.sql_tables.specs.Rows.{Beside, cond_found, hold_found, sysmod_found, sysmod_row, with}
-use Rattle.sql_tables.specs.Stored.{Stored, beside_of, conds_of, is_of, sup_of, sysmods_of, tables_of}
+use Rattle.sql_tables.specs.Rows.{Beside, hold_found, sysmod_found, sysmod_row, with}
+use Rattle.sql_tables.specs.Stored.{Stored, beside_of, is_of, sysmods_of, tables_of}
 use Rattle.sql_tables.specs.Values.{hold_kind_in, id_in}
 use Rattle.sql_tables.specs.Whole.{AreRowsOf, IsWhole}
 use Rattle.sql_tables.proofs.ContentFacts.{hold_own}
 use Rattle.sql_tables.proofs.ListValueFacts.{ids_again}
 use Rattle.sql_tables.proofs.ReadFacts.{holds_read}
-use Rattle.sql_tables.proofs.RecordFacts.{all_ids_read, conditional_read, no_record, one_record, superseded_read}
+use Rattle.sql_tables.proofs.RecordFacts.{all_ids_read, no_record, one_record}
 use Rattle.sql_tables.proofs.ValueFacts.{id_again, sysmod_kind_again}
 use Rattle.sql_texts.specs.Found.{shown}
-use Rattle.sql_texts.specs.Reads as read
 use Rattle.sql_reads.specs.Answering.{one_of}
 use Rattle.sql_reads.proofs.ClientFacts.{table_said}
 use Rattle.sql_reads.proofs.MemberFacts.{filtered, read_from}
-use Rattle.sql_reads.proofs.TableFacts.{filter_true, one_case, one_passes, table_found}
-use Rattle.sql_state.proofs.TextFacts.{of_given}
+use Rattle.sql_reads.proofs.TableFacts.{filter_true, one_case, one_passes}
 
 -- ---- records
 
@@ -68,40 +59,18 @@ sysmod_shown stored id rows permuted found said =
       | inr its ↦ its.4 ∙ sym (one_record stored id its.0 its.2 its.1 (one_passes (is_of id) stored.sysmods its.0 its.1) its.3)
     ]
 
-module _ (trees : Trees) where
-  pub ids_told : (rows : List Row) (found : List (List ℕ)) → IsWhole (stored_in trees) → Ascend found → IsAnswer read.sysmod_ids trees [] rows
-      → map Some found ≡ map (λ row. id_in (column row 0)) rows → found ≡ ids_of (tables_of (stored_in trees)).content
-  ids_told rows found whole ascend answer said =
-      let sysmods = columns_of (trees 6) in
-      let read_ids = filter_map (λ row. id_in (column row 0)) sysmods in
-      let permuted : IsPermutation read_ids found =
-      subst (λ kept. IsPermutation (filter_map (λ row. id_in (column row 0)) kept) found) (filter_true sysmods)
-      (table_said (λ row. id_in (column row 0)) (shown (0 ∷ [])) (filter (λ row. true) sysmods) rows found (table_found 6 [] (0 ∷ []) (1 ∷ []) [] trees rows (λ row. true) (λ row. refl) answer) said) in
-      let same = sysmods_ids (beside_of (stored_in trees)) sysmods whole.sysmods in
-      all_ids_read (stored_in trees) found ascend
-      (λ id inside. Contains-permutation read_ids found id permuted (subst (λ ids. Contains ids id) same inside))
-      (λ id inside. subst (λ ids. Contains ids id) (sym same) (Contains-permutation found read_ids id (IsPermutation-sym read_ids found permuted) inside))
-
-  module _ (id : List ℕ) (rows : List Row) (is : IsId id) where
-    pub superseded_told : (sup : List (List ℕ)) → Ascend sup → IsAnswer read.superseded trees (Text (text_of id) ∷ []) rows
-        → map Some sup ≡ map (λ row. id_in (column row 0)) rows → sup ≡ sup_of (columns_of (trees 8)) id
-    superseded_told sup ascend answer said =
-        superseded_read (columns_of (trees 8)) id sup ascend
-        (table_said (λ row. id_in (column row 0)) (shown (1 ∷ [])) (filter (is_of id) (columns_of (trees 8))) rows sup
-        (table_found 8 (read.is_given 1 0 ∷ []) (1 ∷ []) (2 ∷ []) (Text (text_of id) ∷ []) trees rows (is_of id) (of_given id is) answer) said)
-
-    pub conditional_told : (conds : List CondNeed) → CondsAscend conds → IsAnswer read.conditional trees (Text (text_of id) ∷ []) rows
-        → map Some conds ≡ map cond_found rows → conds ≡ conds_of (columns_of (trees 19)) id
-    conditional_told conds ascend answer said =
-        conditional_read (columns_of (trees 19)) id conds ascend
-        (table_said cond_found (shown (1 ∷ 2 ∷ [])) (filter (is_of id) (columns_of (trees 19))) rows conds
-        (table_found 19 (read.is_given 1 0 ∷ []) (1 ∷ 2 ∷ []) (2 ∷ 3 ∷ []) (Text (text_of id) ∷ []) trees rows (is_of id) (of_given id is) answer) said)
-
-    pub sysmod_told : IsAnswer read.sysmod trees (Text (text_of id) ∷ []) rows → (found : Option Sysmod)
-        → one_of (sysmod_found (beside_of (stored_in trees) id)) rows ≡ Some found → found ≡ record_of (tables_of (stored_in trees)).content id
-    sysmod_told answer found said =
-        sysmod_shown (stored_in trees) id rows
-        (table_found 6 (read.is_given 1 0 ∷ []) (0 ∷ 1 ∷ 2 ∷ 3 ∷ 4 ∷ []) (1 ∷ []) (Text (text_of id) ∷ []) trees rows (is_of id) (of_given id is) answer) found said
+-- the ids of all records
+pub ids_shown : (stored : Stored) (rows : List Row) (found : List (List ℕ)) → IsWhole stored → Ascend found → IsPermutation (map (shown (0 ∷ [])) (filter (λ row. true) stored.sysmods)) rows
+    → map Some found ≡ map (λ row. id_in (column row 0)) rows → found ≡ ids_of (tables_of stored).content
+ids_shown stored rows found whole ascend shows said =
+    let read_ids = filter_map (λ row. id_in (column row 0)) stored.sysmods in
+    let permuted : IsPermutation read_ids found =
+    subst (λ kept. IsPermutation (filter_map (λ row. id_in (column row 0)) kept) found) (filter_true stored.sysmods)
+    (table_said (λ row. id_in (column row 0)) (shown (0 ∷ [])) (filter (λ row. true) stored.sysmods) rows found shows said) in
+    let same = sysmods_ids (beside_of stored) stored.sysmods whole.sysmods in
+    all_ids_read stored found ascend
+    (λ id inside. Contains-permutation read_ids found id permuted (subst (λ ids. Contains ids id) same inside))
+    (λ id inside. subst (λ ids. Contains ids id) (sym same) (Contains-permutation found read_ids id (IsPermutation-sym read_ids found permuted) inside))
 
 -- ---- holds
 
@@ -142,9 +111,3 @@ holds_shown stored id rows found ordered shows said =
         let it = read_from hold_found stored.holds hold inside in
         Contains-permutation (filter_map hold_found (filter (is_of id) stored.holds)) found hold permuted
         (map_found hold_found (filter (is_of id) stored.holds) it.0 hold (kept_inside (is_of id) stored.holds it.0 it.1 (hold_of id it.0 hold it.2 ∙ at)) it.2)
-
-pub holds_told : (trees : Trees) (id : List ℕ) (rows : List Row) (found : List Hold) → IsId id → IsInKeyOrder found → IsAnswer read.holds_on trees (Text (text_of id) ∷ []) rows
-    → map Some found ≡ map hold_found rows → found ≡ holds_on (tables_of (stored_in trees)).content id
-holds_told trees id rows found is ordered answer said =
-    holds_shown (stored_in trees) id rows found ordered
-    (table_found 11 (read.is_given 1 0 ∷ []) (0 ∷ 1 ∷ 2 ∷ 3 ∷ 4 ∷ 5 ∷ 6 ∷ 7 ∷ []) (1 ∷ 2 ∷ 3 ∷ []) (Text (text_of id) ∷ []) trees rows (is_of id) (of_given id is) answer) said

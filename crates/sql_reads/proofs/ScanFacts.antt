@@ -22,13 +22,11 @@ use Rattle.sqlite_value.proofs.OrderLemmas.{value_cmp-Text}
 use Rattle.sql_texts.specs.Found.{passes}
 use Rattle.sql_texts.proofs.AnswerFacts.{truth_again}
 use Rattle.sql_tables.specs.InTrees.{columns_of, stored_in}
-use Rattle.sql_tables.specs.Stored.{is_named, is_of, shown}
+use Rattle.sql_tables.specs.Stored.{Stored, is_named, is_of, shown}
 use Rattle.sql_tables.specs.Values.{text_in}
 use Rattle.sql_tables.proofs.TreeFacts.{column_after}
 use Rattle.sql_state.proofs.TextFacts.{text_named}
-use Rattle.sql_reads.specs.Scans.{FindsBetween, between_given, columns_shown, has_key, key_columns, lies_between, place_of, rows_in, scan_of, tree_of}
-use Rattle.sql_reads.specs.declared.scan.SysmodTable.{SysmodTable}
-use Rattle.sql_reads.specs.declared.scan.SysmodTable.TheVariants.{Cond, Hold, Record, Sup}
+use Rattle.sql_reads.specs.Scans.{FindsBetween, between_given, has_key, lies_between, scan_of}
 use Rattle.sql_reads.proofs.TableFacts.{kept_alike, table_found}
 
 -- ---- which rows lie between
@@ -73,31 +71,24 @@ named_between first last id is inside (Real x) named = let e = text_named id is 
 named_between first last id is inside (Blob b) named = let e = text_named id is (Blob b) ∙ named in cc
 named_between first last id is inside (Text t) named = subst (λ text. lies_between first last (Text text) ≡ true) (sym (one_id t (text_of id) (text_named id is (Text t) ∙ named))) inside
 
--- the id stands where it is shown
-shown_key : (table : SysmodTable) (id : List ℕ) → IsId id → (row : Row) → has_key (place_of table) (text_of id) (shown (columns_shown table) row) ≡ is_of id row
-shown_key Record id is row = key_named id is (column row 0)
-shown_key Sup id is row = key_named id is (column row 0)
-shown_key Cond id is row = key_named id is (column row 0)
-shown_key Hold id is row = key_named id is (column row 0)
+-- A scan of a tree that shows the id at some place finds the rows of each id that lies between.
+module _ (tree : ℕ) (columns order : List ℕ) (place : ℕ) (rows_in : Stored → List Row) (here : (trees : Trees) → rows_in (stored_in trees) ≡ columns_of (trees tree))
+    (placed : (row : Row) → column (shown columns row) place ≡ column row 0) where
+  shown_key : (id : List ℕ) → IsId id → (row : Row) → has_key place (text_of id) (shown columns row) ≡ is_of id row
+  shown_key id is row = ap (λ value. bytes_eq (text_in value) (text_of id)) (placed row) ∙ key_named id is (column row 0)
 
-rows_there : (table : SysmodTable) (trees : Trees) → columns_of (trees (tree_of table)) ≡ rows_in table (stored_in trees)
-rows_there Record trees = refl
-rows_there Sup trees = refl
-rows_there Cond trees = refl
-rows_there Hold trees = refl
-
-pub found_between : (table : SysmodTable) (first last : List ℕ) (trees : Trees) (rows : List Row) → IsAnswer (scan_of table) trees (Text first ∷ Text last ∷ []) rows
-    → FindsBetween table first last (stored_in trees) rows
-found_between table first last trees rows answer id is inside =
-    let all = columns_of (trees (tree_of table)) in
-    let test : Row → Bool = λ row. lies_between first last (column row 0) in
-    let show = shown (columns_shown table) in
-    let mine = has_key (place_of table) (text_of id) in
-    let found : IsPermutation (map show (filter test all)) rows =
-    table_found (tree_of table) between_given (columns_shown table) (key_columns table) (Text first ∷ Text last ∷ []) trees rows test (between_passes first last) answer in
-    subst (λ kept. IsPermutation kept (filter mine rows))
-    (filter-map mine show (filter test all)
-    ∙ ap (map show) (kept_alike (λ row. mine (show row)) (is_of id) (filter test all) (shown_key table id is)
-    ∙ filter-filter (is_of id) test (λ row named. named_between first last id is inside (column row 0) named) all
-    ∙ ap (filter (is_of id)) (rows_there table trees)))
-    (IsPermutation-filter mine (map show (filter test all)) rows found)
+  pub found_between : (first last : List ℕ) (trees : Trees) (rows : List Row) → IsAnswer (scan_of tree columns order) trees (Text first ∷ Text last ∷ []) rows
+      → FindsBetween columns place first last (rows_in (stored_in trees)) rows
+  found_between first last trees rows answer id is inside =
+      let all = columns_of (trees tree) in
+      let test : Row → Bool = λ row. lies_between first last (column row 0) in
+      let show = shown columns in
+      let mine = has_key place (text_of id) in
+      let found : IsPermutation (map show (filter test all)) rows =
+      table_found tree between_given columns order (Text first ∷ Text last ∷ []) trees rows test (between_passes first last) answer in
+      subst (λ kept. IsPermutation kept (filter mine rows))
+      (filter-map mine show (filter test all)
+      ∙ ap (map show) (kept_alike (λ row. mine (show row)) (is_of id) (filter test all) (shown_key id is)
+      ∙ filter-filter (is_of id) test (λ row named. named_between first last id is inside (column row 0) named) all
+      ∙ ap (filter (is_of id)) (sym (here trees))))
+      (IsPermutation-filter mine (map show (filter test all)) rows found)

@@ -100,11 +100,18 @@ pub finds_so : {A B Fault : Type 0} (old new : State) (a : A) (b : B) (First : S
     → ((stored : Stored) → First stored a → Fact stored b) → Finds old new {Answer = B} {Fault = Fault} (Ok b) Fact
 finds_so old new a b First Fact first step = record { reads = first.reads; is_open = first.is_open; told = λ clean ours. step (held_by old.committed) (first.told clean ours) }
 
--- what is made of what one read finds
+-- what is made of what one read finds, and two things that are said of it
+pub finds_from : {A B Fault : Type 0} (old new : State) (a : A) (result : Result B Fault) (First : Stored → A → Type 0) (Fact : Stored → B → Type 0) → Finds old new {Answer = A} {Fault = Fault} (Ok a) First
+    → (Said Also : B → Type 0) → IfOk result Said → IfOk result Also → ((stored : Stored) → IsWhole stored → (b : B) → First stored a → Said b → Also b → Fact stored b)
+    → Finds old new {Answer = B} {Fault = Fault} result Fact
+finds_from old new a (Ok b) First Fact first Said Also said also step =
+    record { reads = first.reads; is_open = first.is_open; told = λ clean ours. step (held_by old.committed) ours.rows.whole b (first.told clean ours) said also }
+finds_from old new a (Err e) First Fact first Said Also said also step = record { reads = first.reads; is_open = tt; told = tt }
+
+-- the same of one thing
 pub finds_made : {A B Fault : Type 0} (old new : State) (a : A) (result : Result B Fault) (First : Stored → A → Type 0) (Fact : Stored → B → Type 0) → Finds old new {Answer = A} {Fault = Fault} (Ok a) First
     → (Said : B → Type 0) → IfOk result Said → ((stored : Stored) (b : B) → First stored a → Said b → Fact stored b) → Finds old new {Answer = B} {Fault = Fault} result Fact
-finds_made old new a (Ok b) First Fact first Said said step = finds_so old new a b First Fact first (λ stored one. step stored b one said)
-finds_made old new a (Err e) First Fact first Said said step = record { reads = first.reads; is_open = tt; told = tt }
+finds_made old new a result First Fact first Said said step = finds_from old new a result First Fact first Said Said said said (λ stored whole b one it also. step stored b one it)
 
 -- ---- the rows of one table
 
@@ -171,3 +178,10 @@ module _ {A : Type 0} (read : Row → Option A) (f : Row → Row) where
       inr (x, refl, its.0, ap read same ∙ its.1, its.2)
   one_case (x ∷ y ∷ xs) (row ∷ []) found permuted h = absurd (omega (arith, length_permutation (map f (x ∷ y ∷ xs)) (row ∷ []) permuted))
   one_case xs (row ∷ other ∷ rows) found permuted h = cc
+
+-- the one row as it is shown, or none
+pub one_shown : (f : Row → Row) (xs rows : List Row) (found : Option Row) → IsPermutation (map f xs) rows → one_of Some rows ≡ Some found → option_map f (first xs) ≡ found
+one_shown f xs rows found permuted is = elim (one_case Some f xs rows found permuted is) [
+  | inl none ↦ ap (λ rs. option_map f (first rs)) none.0 ∙ sym none.1
+  | inr its ↦ ap (λ rs. option_map f (first rs)) its.1 ∙ its.3 ∙ sym its.4
+]

@@ -1,4 +1,6 @@
 pub mod Answering
+pub mod Orders
+pub mod Rows
 pub mod Runs
 pub mod Scans
 pub mod Version

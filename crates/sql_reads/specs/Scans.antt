@@ -1,5 +1,5 @@
 -- No part of what is promised: private contracts cite it. The rows of many ids, read at once in the order of the ids.
-use Rattle.std.specs.Prelude.{◌≡◌, ◌≢◌, ◌&&◌, ◌<◌, ◌≤◌, ℕ, suc, Bool, true, false, List, [], ◌∷◌, Some, codes, filter, get_or, length, map}
+use Rattle.std.specs.Prelude.{◌≡◌, ◌≢◌, ◌&&◌, ◌<◌, ◌≤◌, ℕ, suc, Bool, true, false, List, [], ◌∷◌, Some, filter, get_or, length, map}
 use Rattle.std.specs.Cmp.Lexicographic.{slice_cmp}
 use Rattle.std.specs.List.Sorted.{IsPermutation}
 use Rattle.std.specs.Ordering.{is_ge, is_le, nat_cmp}
@@ -22,62 +22,20 @@ use Rattle.sql_tables.specs.Rows.{Beside, cond_found, hold_found, sysmod_found}
 use Rattle.sql_tables.specs.Stored.{Stored, is_of, shown}
 use Rattle.sql_tables.specs.Values.{id_in, text_in}
 use Rattle.sql_texts.specs.Reads.{from_table}
-use Rattle.sql_texts.specs.Schema.{hold_columns, sysmod_columns}
 use Rattle.sql_reads.specs.Answering.{one_of}
-use Rattle.sql_reads.specs.declared.scan.SysmodTable.{SysmodTable}
 use Rattle.sql_reads.specs.declared.many.Part.{Part}
-use Rattle.sql_reads.specs.declared.scan.SysmodTable.TheVariants.{Cond, Hold, Record, Sup}
 
 -- ---- what is asked
-
--- in which tree the rows of a table are
-abbrev pub tree_of : SysmodTable → ℕ
-tree_of Record = 6
-tree_of Sup = 8
-tree_of Cond = 19
-tree_of Hold = 11
-
--- the columns that are shown, by their indices without the rowid
-abbrev pub columns_shown : SysmodTable → List ℕ
-columns_shown Record = 0 ∷ 1 ∷ 2 ∷ 3 ∷ 4 ∷ []
-columns_shown Sup = 1 ∷ 0 ∷ []
-columns_shown Cond = 1 ∷ 2 ∷ 0 ∷ []
-columns_shown Hold = 0 ∷ 1 ∷ 2 ∷ 3 ∷ 4 ∷ 5 ∷ 6 ∷ 7 ∷ []
-
--- where among these the SYSMOD stands
-abbrev pub place_of : SysmodTable → ℕ
-place_of Record = 0
-place_of Sup = 1
-place_of Cond = 2
-place_of Hold = 0
-
--- the columns of the key, by which the rows come in order
-abbrev pub key_columns : SysmodTable → List ℕ
-key_columns Record = 1 ∷ []
-key_columns Sup = 1 ∷ 2 ∷ []
-key_columns Cond = 1 ∷ 2 ∷ 3 ∷ []
-key_columns Hold = 1 ∷ 2 ∷ 3 ∷ []
-
-abbrev pub names_shown : SysmodTable → List (List ℕ)
-names_shown Record = sysmod_columns
-names_shown Sup = codes "member" ∷ codes "id" ∷ []
-names_shown Cond = codes "fmid" ∷ codes "member" ∷ codes "id" ∷ []
-names_shown Hold = hold_columns
 
 -- the first column is the first parameter or beyond, and the second or below
 abbrev pub between_given : List Term
 between_given = op2 (Compare Ge Binary) (col 1 1) (col 0 0) ∷ op2 (Compare Le Binary) (col 1 1) (col 0 1) ∷ []
 
-abbrev pub scan_of : SysmodTable → Query
-scan_of table = from_table (tree_of table) between_given (map suc (columns_shown table)) (key_columns table)
+-- of the rows in a tree that lie between, the columns at these indices without the rowid, ordered by others
+abbrev pub scan_of : ℕ → List ℕ → List ℕ → Query
+scan_of tree columns order = from_table tree between_given (map suc columns) order
 
 -- ---- what is found
-
-abbrev pub rows_in : SysmodTable → Stored → List Row
-rows_in Record stored = stored.sysmods
-rows_in Sup stored = stored.sups
-rows_in Cond stored = stored.conds
-rows_in Hold stored = stored.holds
 
 -- whether a value is a text from one text to another, byte for byte
 abbrev pub lies_between : List ℕ → List ℕ → Value → Bool
@@ -94,19 +52,19 @@ key_at place row = text_in (column row place)
 abbrev pub has_key : ℕ → List ℕ → Row → Bool
 has_key place text row = bytes_eq (key_at place row) text
 
--- of each id that lies between, just the rows of that id, as the table shows them
-abbrev pub FindsBetween : SysmodTable → List ℕ → List ℕ → Stored → List Row → Type 0
-FindsBetween table first last stored rows =
+-- of each id that lies between, just the rows of that id, as these columns of a table's rows show them
+abbrev pub FindsBetween : List ℕ → ℕ → List ℕ → List ℕ → List Row → List Row → Type 0
+FindsBetween columns place first last stored rows =
     (id : List ℕ) → IsId id → lies_between first last (Text (text_of id)) ≡ true
-    → IsPermutation (map (shown (columns_shown table)) (filter (is_of id) (rows_in table stored)))
-    (filter (has_key (place_of table) (text_of id)) rows)
+    → IsPermutation (map (shown columns) (filter (is_of id) stored))
+    (filter (has_key place (text_of id)) rows)
 
--- the same of each table
+-- the same of each table that says something of a SYSMOD
 pub record FindRows (first last : List ℕ) (stored : Stored) (records sups conds holds : List Row) : Type 0 where
-  pub of_records : FindsBetween Record first last stored records
-  pub of_sups : FindsBetween Sup first last stored sups
-  pub of_conds : FindsBetween Cond first last stored conds
-  pub of_holds : FindsBetween Hold first last stored holds
+  pub of_records : FindsBetween (0 ∷ 1 ∷ 2 ∷ 3 ∷ 4 ∷ []) 0 first last stored.sysmods records
+  pub of_sups : FindsBetween (1 ∷ 0 ∷ []) 1 first last stored.sups sups
+  pub of_conds : FindsBetween (1 ∷ 2 ∷ 0 ∷ []) 2 first last stored.conds conds
+  pub of_holds : FindsBetween (0 ∷ 1 ∷ 2 ∷ 3 ∷ 4 ∷ 5 ∷ 6 ∷ 7 ∷ []) 0 first last stored.holds holds
 
 -- ---- cut up by the ids
 
@@ -126,17 +84,17 @@ pub record IsCut (place : ℕ) (text : List ℕ) (rows mine left : List Row) : T
 
 -- the rows of each table come in the order of the ids
 pub record RowsRise (records sups conds holds : List Row) : Type 0 where
-  pub of_records : KeysRise (place_of Record) records
-  pub of_sups : KeysRise (place_of Sup) sups
-  pub of_conds : KeysRise (place_of Cond) conds
-  pub of_holds : KeysRise (place_of Hold) holds
+  pub of_records : KeysRise 0 records
+  pub of_sups : KeysRise 1 sups
+  pub of_conds : KeysRise 2 conds
+  pub of_holds : KeysRise 0 holds
 
 -- the rows of each table are cut
 pub record AreCut (text : List ℕ) (rows mine left : Part) : Type 0 where
-  pub of_records : IsCut (place_of Record) text rows.records.now mine.records.now left.records.now
-  pub of_sups : IsCut (place_of Sup) text rows.sups.now mine.sups.now left.sups.now
-  pub of_conds : IsCut (place_of Cond) text rows.conds.now mine.conds.now left.conds.now
-  pub of_holds : IsCut (place_of Hold) text rows.holds.now mine.holds.now left.holds.now
+  pub of_records : IsCut 0 text rows.records.now mine.records.now left.records.now
+  pub of_sups : IsCut 1 text rows.sups.now mine.sups.now left.sups.now
+  pub of_conds : IsCut 2 text rows.conds.now mine.conds.now left.conds.now
+  pub of_holds : IsCut 0 text rows.holds.now mine.holds.now left.holds.now
 
 -- What the rows of one id say: its record with what stands beside, and the holds on it.
 pub record Say (records sups conds holds : List Row) (seen : SeenLists) : Type 0 where

@@ -15,25 +15,35 @@
 //! A contract says by `Finds` of `sql_state` what a read tells and what it leaves.
 #![tactic(auto)]
 
-mod callers;
-mod clients;
+mod counted;
 mod cut;
+mod entry;
 mod fault;
-mod found;
+mod id_entry;
+mod joins;
+mod key;
+mod listed;
 mod many;
-mod published;
+mod one;
 mod rows;
 mod scan;
+mod selection;
+mod table;
 mod tables_version;
-mod texts;
 mod values;
 mod zone_counts;
 
-pub use callers::{all_callers, caller_of, last};
-pub use clients::{has_zone, held_in, patterns, received, zone, zone_count, zone_rows};
+pub use counted::{counts, zone_count};
 pub use fault::ReadFault;
+pub use joins::{held_in, superseders, zone};
 pub use many::{is_run, seen};
-pub use published::{counts, holds_on, ids, superseders, sysmod};
 pub use rows::rows_of;
+pub use table::caller::{all_callers, caller_of};
+pub use table::hold_row::holds_on;
+pub use table::last_change::last;
+pub use table::received_list::received;
+pub use table::sysmod::{ids, sysmod};
+pub use table::zone_head::{has_zone, patterns};
+pub use table::zone_row::zone_rows;
 pub use tables_version::version;
 pub use zone_counts::{each_zone, names_ascend, zones};

@@ -7,12 +7,18 @@ ghost use Rattle.mcs_reader.specs.Id.{text_of};
 ghost use Rattle.catalogue.specs.Seen.{seen_in};
 ghost use Rattle.sql_state.specs.Reading.{Finds};
 ghost use Rattle.sql_reads.specs.Runs.{IsRun, TextsAscend};
-ghost use Rattle.sql_reads.specs.Scans.{AreCut, FindRows, FindsBetween, KeysRise, RowsRise, Say, lies_between, place_of};
+ghost use Rattle.sql_reads.specs.Scans.{AreCut, FindRows, FindsBetween, KeysRise, RowsRise, Say, lies_between};
 ghost use Rattle.sql_tables.specs.Stored.{Stored, tables_of};
 
+use crate::ReadFault;
 use crate::cut::cut;
-use crate::scan::{SysmodTable, scan};
-use crate::{ReadFault, found};
+use crate::entry::entries;
+use crate::listed::list_of;
+use crate::scan::{Scanned, scan};
+use crate::table::hold_row::HoldsOn;
+use crate::table::sysmod::{Records, record_in};
+use crate::table::sysmod_cond::Conds;
+use crate::table::sysmod_sup::Sups;
 use catalogue::Seen;
 use mcs_reader::Id;
 use sqlite::{Alter, Connection, Row};
@@ -85,8 +91,8 @@ fn rows_between<S: Alter>(
     ensures rise { IfOk result (λ rows.
         RowsRise rows.records.items rows.sups.items rows.conds.items rows.holds.items) }
 {
-    let (records, sups) = two(conn, SysmodTable::Record, SysmodTable::Sup, first, last)?;
-    match two(conn, SysmodTable::Cond, SysmodTable::Hold, first, last) {
+    let (records, sups) = two::<Records, Sups, S>(conn, first, last)?;
+    match two::<Conds, HoldsOn, S>(conn, first, last) {
         Ok((conds, holds)) => Ok(Rows {
             records,
             sups,
@@ -98,23 +104,22 @@ fn rows_between<S: Alter>(
 }
 
 // The rows of two tables.
-fn two<S: Alter>(
+fn two<T: Scanned, U: Scanned, S: Alter>(
     conn: &mut Connection<S>,
-    table: SysmodTable,
-    other: SysmodTable,
     first: &Id,
     last: &Id,
 ) -> Result<(Vec<Row>, Vec<Row>), ReadFault>
     requires rest { conn.old.in_transaction ≡ false }
     ensures mode { conn.new.in_transaction ≡ false }
     ensures finds { Finds (state S.Store conn.old) (state S.Store conn.new) result (λ stored rows.
-        FindsBetween table (text_of first.now) (text_of last.now) stored rows.0.items
-        × FindsBetween other (text_of first.now) (text_of last.now) stored rows.1.items) }
+        FindsBetween T.scan_shown T.at (text_of first.now) (text_of last.now) (T.rows stored) rows.0.items
+        × FindsBetween U.scan_shown U.at (text_of first.now) (text_of last.now)
+        (U.rows stored) rows.1.items) }
     ensures rise { IfOk result (λ rows.
-        KeysRise (place_of table) rows.0.items × KeysRise (place_of other) rows.1.items) }
+        KeysRise T.at rows.0.items × KeysRise U.at rows.1.items) }
 {
-    let rows = scan(conn, table, first, last)?;
-    match scan(conn, other, first, last) {
+    let rows = scan::<T, S>(conn, first, last)?;
+    match scan::<U, S>(conn, first, last) {
         Ok(others) => Ok((rows, others)),
         Err(fault) => Err(fault),
     }
@@ -174,9 +179,9 @@ fn cut_all<'a>(rows: &Part<'a>, text: &[u8]) -> (Part<'a>, Part<'a>)
 fn said(alloc: Global, rows: &Part<'_>) -> Result<Seen, ReadFault>
     ensures { IfOk result (Say rows.now.records.now rows.now.sups.now rows.now.conds.now rows.now.holds.now) }
 {
-    let conds = found::conds(alloc, rows.conds)?;
-    let sup = found::ascending_ids(alloc, rows.sups)?;
-    let sysmod = found::sysmod(alloc, rows.records, conds, sup)?;
-    let holds = found::holds(alloc, rows.holds)?;
+    let conds = list_of::<Conds>(alloc, rows.conds)?;
+    let sup = list_of::<Sups>(alloc, rows.sups)?;
+    let sysmod = record_in(alloc, rows.records, conds, sup)?;
+    let holds = entries(alloc, rows.holds)?;
     Ok(Seen { sysmod, holds })
 }

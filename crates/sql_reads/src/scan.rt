@@ -1,71 +1,64 @@
 //! The rows of many SYSMODs, read at once of a table.
-ghost use Rattle.std.specs.Prelude.{◌≡◌, false, IfOk};
+ghost use Rattle.std.specs.Prelude.{◌≡◌, ℕ, List, false, IfOk};
 ghost use Rattle.sqlite.specs.Held.{state};
+ghost use Rattle.sqlite_value.specs.Order.{Row as Values, column};
 ghost use Rattle.mcs_reader.specs.Id.{text_of};
 ghost use Rattle.sql_state.specs.Reading.{Finds};
+ghost use Rattle.sql_tables.specs.Stored.{shown as show};
 ghost use Rattle.sql_texts.specs.Meaning.{Reads};
 ghost use Rattle.sql_texts.specs.Schema.{bureau};
-ghost use Rattle.sql_reads.specs.Scans.{FindsBetween, KeysRise, names_shown, place_of, scan_of};
+ghost use Rattle.sql_reads.specs.Scans.{FindsBetween, KeysRise, scan_of};
 
+use crate::ReadFault;
 use crate::cut::keys_rise;
 use crate::rows::rows_of;
+use crate::selection::Selection;
 use crate::values::id_of;
-use crate::{ReadFault, texts};
 use mcs_reader::Id;
 use sqlite::{Alter, Connection, Row};
 
-/// A table each of whose rows says something of a SYSMOD.
-#[derive(Clone, Copy)]
-pub(crate) enum SysmodTable {
-    /// Its record, without what it supersedes and what it requires under a condition.
-    Record,
-    /// One SYSMOD that it supersedes.
-    Sup,
-    /// One that it requires under a condition.
-    Cond,
-    /// A hold on it.
-    Hold,
-}
+/// A table each of whose rows says something of a SYSMOD, and the text that reads the rows of many SYSMODs at once, in
+/// the order of these. It begins with the columns that a read of one SYSMOD shows.
+pub(crate) trait Scanned: Selection {
+    /// The columns that it shows, from 0 on.
+    ghost scan_shown: { List ℕ };
 
-// The text that reads the rows of the SYSMODs from ?1 to ?2.
-fn text(table: SysmodTable) -> &'static str
-    ensures { Reads bureau result.now (scan_of table) (names_shown table) 2 }
-{
-    match table {
-        SysmodTable::Record => texts::records(),
-        SysmodTable::Sup => texts::superseded(),
-        SysmodTable::Cond => texts::conditional(),
-        SysmodTable::Hold => texts::holds(),
-    }
-}
+    /// Their names.
+    ghost scan_names: { List (List ℕ) };
 
-// Where the SYSMOD stands among the columns that are shown.
-fn place(table: SysmodTable) -> usize
-    ensures { result ≡ place_of table }
-{
-    match table {
-        SysmodTable::Record | SysmodTable::Hold => 0,
-        SysmodTable::Sup => 1,
-        SysmodTable::Cond => 2,
-    }
+    /// The columns by which it is ordered, from 1 on.
+    ghost scan_order: { List ℕ };
+
+    /// Where among those that are shown the SYSMOD stands.
+    ghost at: { ℕ };
+
+    /// The text that reads the rows of the SYSMODs from ?1 to ?2.
+    fn scan_text() -> &'static str
+        ensures { Reads bureau result.now (scan_of Self.tree scan_shown scan_order) scan_names 2 };
+
+    /// Where the SYSMOD stands.
+    fn place() -> usize
+        ensures { result ≡ at };
+
+    /// The SYSMOD is the first column of the table.
+    ghost placed: { (row : Values) → column (show scan_shown row) at ≡ column row 0 };
 }
 
 /// The rows of the SYSMODs from one to another, in the order of the SYSMODs.
-pub(crate) fn scan<S: Alter>(
+pub(crate) fn scan<T: Scanned, S: Alter>(
     conn: &mut Connection<S>,
-    table: SysmodTable,
     first: &Id,
     last: &Id,
 ) -> Result<Vec<Row>, ReadFault>
     requires rest { conn.old.in_transaction ≡ false }
     ensures mode { conn.new.in_transaction ≡ false }
-    ensures finds { Finds (state S.Store conn.old) (state S.Store conn.new) result
-        (λ stored rows. FindsBetween table (text_of first.now) (text_of last.now) stored rows.items) }
-    ensures rise { IfOk result (λ rows. KeysRise (place_of table) rows.items) }
+    ensures finds { Finds (state S.Store conn.old) (state S.Store conn.new) result (λ stored rows.
+        FindsBetween T.scan_shown T.at (text_of first.now) (text_of last.now) (T.rows stored) rows.items) }
+    ensures rise { IfOk result (λ rows. KeysRise T.at rows.items) }
 {
     let params = [id_of(first), id_of(last)];
-    let rows = rows_of(conn, text(table), &params)?;
-    in_order(rows, place(table))
+    let rows = rows_of(conn, T::scan_text(), &params)?;
+    in_order(rows, T::place())
 }
 
 // The same rows, if no key is above the next one.

@@ -1,7 +1,0 @@
-use Rattle.std.proofs.Common.{◌≡◌, ◌++◌, drop, map, Some}
-use Rattle.sql_tables.specs.Rows.{hold_found}
-use Rattle.sql_reads.proofs.found.each_hold.Given as goal
-
--- what was found so far, with what is to come, is all
-abbrev pub invariant-loop-row : goal.invariant-loop-row
-invariant-loop-row l = map Some l.holds.items ++ map hold_found (drop l.row-index l.rows) ≡ map hold_found l.rows

@@ -1,0 +1,70 @@
+//! The read of a list: all rows of a key, in ascending order.
+ghost use Rattle.std.specs.Prelude.{◌≡◌, List, Some, false, filter, map, IfOk, IfSome};
+ghost use Rattle.std.specs.List.{filter_map};
+ghost use Rattle.std.specs.List.Sorted.{IsPermutation};
+ghost use Rattle.sqlite.specs.Held.{state};
+ghost use Rattle.sql_state.specs.Reading.{Finds};
+ghost use Rattle.sql_tables.specs.Stored.{Stored, shown as show};
+ghost use Rattle.sql_tables.specs.Whole.{IsWhole};
+
+use crate::ReadFault;
+use crate::entry::{Entry, each};
+use crate::selection::{Selection, select};
+use sqlite::{Alter, Connection, Row};
+use std::alloc::Global;
+
+/// A selection each of whose rows says one thing.
+pub(crate) trait Listed: Selection {
+    /// What a row says.
+    type Item: Entry + Drop;
+
+    /// A list of these.
+    type List: Drop;
+
+    /// What stands in a list.
+    ghost items: { Self.List → List Self.Item };
+
+    /// What the store says of a key.
+    ghost tells: { Self.Of → Stored → List Self.Item → Type 0 };
+
+    /// The list of what rows say, if that ascends, each once.
+    fn in_order(all: Vec<Self::Item>) -> Option<Self::List>
+        ensures same { IfSome result (λ list. Self.items list ≡ all.items) }
+        ensures ascend { IfSome result (λ list. Self.Item.ascend (Self.items list)) };
+
+    /// What the rows of a key say, in ascending order, is what the store says of it.
+    ghost told: { (key : Self.Of) (stored : Stored) → IsWhole stored
+        → (items : List Self.Item) → Self.Item.ascend items
+        → IsPermutation (filter_map (λ row. Self.Item.found (show Self.shown row))
+        (filter (Self.Of.has key) (Self.rows stored))) items
+        → tells key stored items };
+}
+
+/// The list of what rows say.
+pub(crate) fn list_of<T: Listed>(alloc: Global, rows: &[Row]) -> Result<T::List, ReadFault>
+    ensures items { IfOk result (λ list. map Some (T.items list) ≡ map T.Item.found rows.now) }
+    ensures ascend { IfOk result (λ list. T.Item.ascend (T.items list)) }
+{
+    let items = each::<T::Item>(alloc, rows)?;
+    T::in_order(items).ok_or(ReadFault::Device)
+}
+
+/// The list of what the rows of a key say.
+///
+/// # Errors
+///
+/// Those of [`ReadFault`].
+pub(crate) fn read_list<T: Listed, S: Alter>(
+    alloc: Global,
+    conn: &mut Connection<S>,
+    key: &T::Of,
+) -> Result<T::List, ReadFault>
+    requires rest { conn.old.in_transaction ≡ false }
+    ensures mode { conn.new.in_transaction ≡ false }
+    ensures finds { Finds (state S.Store conn.old) (state S.Store conn.new) result
+        (λ stored list. T.tells key.now stored (T.items list)) }
+    ensures ascend { IfOk result (λ list. T.Item.ascend (T.items list)) }
+{
+    let rows = select::<T, S>(conn, key)?;
+    list_of::<T>(alloc, rows.as_slice())
+}

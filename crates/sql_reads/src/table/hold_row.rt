@@ -1,0 +1,118 @@
+//! The table `hold_row`: the holds.
+ghost use Rattle.std.specs.Prelude.{◌≡◌, false, IfOk};
+ghost use Rattle.sqlite.specs.Held.{state};
+ghost use Rattle.catalogue.specs.Content.{holds_on};
+ghost use Rattle.holddata.specs.HoldBook.{IsInKeyOrder};
+ghost use Rattle.sql_state.specs.Reading.{Finds};
+ghost use Rattle.sql_tables.specs.Stored.{tables_of};
+
+use crate::ReadFault;
+use crate::entry::{Entry, Ordered, entries};
+use crate::scan::Scanned;
+use crate::selection::{Selection, select};
+use holddata::{Hold, key_cmp};
+use mcs_reader::Id;
+use sql_tables::{NoMemory, hold_in};
+use sql_texts::read;
+use sqlite::{Alter, Connection, Row};
+use std::alloc::Global;
+
+impl Ordered for Hold {
+    ghost use Rattle.holddata.specs.HoldKey.{key_cmp};
+    ghost use Rattle.holddata.proofs.KeyFacts.{keys_total};
+    ghost use Rattle.std.proofs.lemmas.Cmp.{on_total};
+    ghost use Rattle.sql_reads.specs.Orders.{ascends_by};
+
+    ghost cmp = { λ hold next. key_cmp hold.key next.key };
+
+    ghost ascend = { IsInKeyOrder };
+
+    fn is_below(&self, next: &Hold) -> bool {
+        key_cmp(&self.key, &next.key).is_lt()
+    }
+
+    ghost total = { on_total (λ hold. hold.key) keys_total };
+
+    ghost so_ascend = { λ holds ascend. ascends_by key_cmp (λ hold. hold.key) holds ascend };
+}
+
+impl Entry for Hold {
+    ghost use Rattle.sql_tables.specs.Rows.{hold_found};
+
+    ghost found = { hold_found };
+
+    fn in_row(alloc: Global, row: &Row) -> Result<Option<Hold>, NoMemory> {
+        hold_in(alloc, row)
+    }
+}
+
+/// The holds on a SYSMOD, in the order of their keys.
+pub(crate) enum HoldsOn {}
+
+impl Selection for HoldsOn {
+    ghost use Rattle.std.specs.Prelude.{◌∷◌, [], refl};
+    ghost use Rattle.sql_texts.specs.Schema.{hold_columns};
+
+    type Of = Id;
+
+    ghost tree = { 11 };
+
+    ghost shown = { 0 ∷ 1 ∷ 2 ∷ 3 ∷ 4 ∷ 5 ∷ 6 ∷ 7 ∷ [] };
+
+    ghost names = { hold_columns };
+
+    ghost order = { 1 ∷ 2 ∷ 3 ∷ [] };
+
+    ghost rows = { λ stored. stored.holds };
+
+    fn text() -> &'static str {
+        read::holds_on()
+    }
+
+    ghost here = { λ trees. refl };
+}
+
+impl Scanned for HoldsOn {
+    ghost use Rattle.std.specs.Prelude.{◌∷◌, [], refl};
+    ghost use Rattle.sql_texts.specs.Schema.{hold_columns};
+
+    ghost scan_shown = { 0 ∷ 1 ∷ 2 ∷ 3 ∷ 4 ∷ 5 ∷ 6 ∷ 7 ∷ [] };
+
+    ghost scan_names = { hold_columns };
+
+    ghost scan_order = { 1 ∷ 2 ∷ 3 ∷ [] };
+
+    ghost at = { 0 };
+
+    #[tactic(auto, unfolding(sqlite::specs::Listing::understood, sqlite_tied::specs::Compute::everything))]
+    fn scan_text() -> &'static str {
+        "SELECT sysmod, kind, reason, fmid, class, dated, resolver, categories FROM hold_row \
+         WHERE sysmod >= ?1 AND sysmod <= ?2 ORDER BY sysmod, kind, reason"
+    }
+
+    fn place() -> usize {
+        0
+    }
+
+    ghost placed = { λ row. refl };
+}
+
+/// The holds on a SYSMOD, in the order of their keys.
+///
+/// # Errors
+///
+/// Those of [`ReadFault`].
+pub fn holds_on<S: Alter>(
+    alloc: Global,
+    conn: &mut Connection<S>,
+    id: &Id,
+) -> Result<Vec<Hold>, ReadFault>
+    requires rest { conn.old.in_transaction ≡ false }
+    ensures mode { conn.new.in_transaction ≡ false }
+    ensures finds { Finds (state S.Store conn.old) (state S.Store conn.new) result
+        (λ stored holds. holds.items ≡ holds_on (tables_of stored).content id.now) }
+    ensures in_key_order { IfOk result (λ holds. IsInKeyOrder holds.items) }
+{
+    let rows = select::<HoldsOn, S>(conn, id)?;
+    entries(alloc, rows.as_slice())
+}

@@ -1,0 +1,97 @@
+//! The table `received_list`: what a client has received.
+ghost use Rattle.std.specs.Prelude.{◌≡◌, [], option_and_then, option_map, unwrap_or, false, IfOk};
+ghost use Rattle.catalogue.specs.Ids.{Ascend};
+ghost use Rattle.sqlite.specs.Held.{state};
+ghost use Rattle.sqlite_value.specs.Order.{column};
+ghost use Rattle.sql_state.specs.Reading.{Finds};
+ghost use Rattle.sql_tables.specs.Stored.{tables_of};
+ghost use Rattle.sql_tables.specs.Values.{ids_in};
+
+use crate::ReadFault;
+use crate::entry::ascending;
+use crate::one::{One, read_one};
+use crate::selection::Selection;
+use mcs_reader::Id;
+use sql_tables::ids_row_in;
+use sql_texts::read;
+use sqlite::{Alter, Connection, Row};
+use std::alloc::Global;
+
+/// What a client has received, in one row.
+enum ReceivedLists {}
+
+impl Selection for ReceivedLists {
+    ghost use Rattle.std.specs.Prelude.{◌∷◌, codes, refl};
+
+    type Of = Id;
+
+    ghost tree = { 17 };
+
+    ghost shown = { 1 ∷ [] };
+
+    ghost names = { codes "ids" ∷ [] };
+
+    ghost order = { 1 ∷ [] };
+
+    ghost rows = { λ stored. stored.received };
+
+    fn text() -> &'static str {
+        read::received()
+    }
+
+    ghost here = { λ trees. refl };
+}
+
+impl One for ReceivedLists {
+    ghost use Rattle.std.specs.Prelude.{◌∷◌, filter};
+    ghost use Rattle.sql_tables.specs.Stored.{first, is_of, shown};
+    ghost use Rattle.sql_reads.specs.Rows.{said_of_shown};
+
+    type Item = Vec<Id>;
+
+    ghost says = { λ row ids. ids.items ≡ unwrap_or (option_and_then (λ row. ids_in (column row 0)) row) [] };
+
+    ghost is_proper = { λ ids. Ascend ids.items };
+
+    ghost tells = { λ client stored ids. ids.items ≡ (tables_of stored).received client };
+
+    fn item(alloc: Global, row: Option<&Row>) -> Result<Vec<Id>, ReadFault> {
+        let ids = ids(alloc, row)?;
+        ascending(ids).ok_or(ReadFault::Device)
+    }
+
+    ghost told = { λ client stored whole ids says.
+        said_of_shown (λ row. ids_in (column row 0)) (shown (1 ∷ [])) []
+        (first (filter (is_of client) stored.received)) ids.items says };
+}
+
+// The ids in the row; none where there is no row.
+fn ids(alloc: Global, row: Option<&Row>) -> Result<Vec<Id>, ReadFault>
+    ensures { IfOk result (λ ids. ids.items
+        ≡ unwrap_or (option_and_then (λ row. ids_in (column row 0))
+        (option_map (λ row. row.now) row.entry)) []) }
+{
+    match row {
+        Some(row) => ids_row_in(alloc, row)?.ok_or(ReadFault::Device),
+        None => Ok(Vec::new(alloc)),
+    }
+}
+
+/// The SYSMODs that a client has received, ascending.
+///
+/// # Errors
+///
+/// Those of [`ReadFault`].
+pub fn received<S: Alter>(
+    alloc: Global,
+    conn: &mut Connection<S>,
+    client: &Id,
+) -> Result<Vec<Id>, ReadFault>
+    requires rest { conn.old.in_transaction ≡ false }
+    ensures mode { conn.new.in_transaction ≡ false }
+    ensures finds { Finds (state S.Store conn.old) (state S.Store conn.new) result
+        (λ stored ids. ids.items ≡ (tables_of stored).received client.now) }
+    ensures ascend { IfOk result (λ ids. Ascend ids.items) }
+{
+    read_one::<ReceivedLists, S>(alloc, conn, client)
+}

@@ -1,0 +1,174 @@
+//! The table `sysmod`: the records, with what stands of them in other tables.
+ghost use Rattle.std.specs.Prelude.{◌≡◌, false, IfOk, Some};
+ghost use Rattle.sqlite.specs.Held.{state};
+ghost use Rattle.catalogue.specs.Content.{ids_of, record_of};
+ghost use Rattle.catalogue.specs.Ids.{Ascend};
+ghost use Rattle.sql_state.specs.Reading.{Finds};
+ghost use Rattle.sql_reads.specs.Answering.{one_of};
+ghost use Rattle.sql_tables.specs.Rows.{sysmod_found};
+ghost use Rattle.sql_tables.specs.Stored.{beside_of, tables_of};
+
+use crate::ReadFault;
+use crate::entry::entries;
+use crate::key::All;
+use crate::listed::read_list;
+use crate::one::{any, only};
+use crate::scan::Scanned;
+use crate::selection::{Selection, select};
+use crate::table::sysmod_cond::Conds;
+use crate::table::sysmod_sup::Sups;
+use catalogue::{CondNeeds, Ids, Sysmod};
+use mcs_reader::Id;
+use sql_tables::sysmod_in;
+use sql_texts::read;
+use sqlite::{Alter, Connection, Row};
+use std::alloc::Global;
+
+/// The ids of all records, ascending.
+enum SysmodIds {}
+
+impl Selection for SysmodIds {
+    ghost use Rattle.std.specs.Prelude.{◌∷◌, [], codes, refl};
+
+    type Of = All;
+
+    ghost tree = { 6 };
+
+    ghost shown = { 0 ∷ [] };
+
+    ghost names = { codes "id" ∷ [] };
+
+    ghost order = { 1 ∷ [] };
+
+    ghost rows = { λ stored. stored.sysmods };
+
+    fn text() -> &'static str {
+        read::sysmod_ids()
+    }
+
+    ghost here = { λ trees. refl };
+}
+
+/// The record of a SYSMOD, in one row, without what stands beside.
+pub(crate) enum Records {}
+
+impl Selection for Records {
+    ghost use Rattle.std.specs.Prelude.{◌∷◌, [], refl};
+    ghost use Rattle.sql_texts.specs.Schema.{sysmod_columns};
+
+    type Of = Id;
+
+    ghost tree = { 6 };
+
+    ghost shown = { 0 ∷ 1 ∷ 2 ∷ 3 ∷ 4 ∷ [] };
+
+    ghost names = { sysmod_columns };
+
+    ghost order = { 1 ∷ [] };
+
+    ghost rows = { λ stored. stored.sysmods };
+
+    fn text() -> &'static str {
+        read::sysmod()
+    }
+
+    ghost here = { λ trees. refl };
+}
+
+impl Scanned for Records {
+    ghost use Rattle.std.specs.Prelude.{◌∷◌, [], refl};
+    ghost use Rattle.sql_texts.specs.Schema.{sysmod_columns};
+
+    ghost scan_shown = { 0 ∷ 1 ∷ 2 ∷ 3 ∷ 4 ∷ [] };
+
+    ghost scan_names = { sysmod_columns };
+
+    ghost scan_order = { 1 ∷ [] };
+
+    ghost at = { 0 };
+
+    #[tactic(auto, unfolding(sqlite::specs::Listing::understood, sqlite_tied::specs::Compute::everything))]
+    fn scan_text() -> &'static str {
+        "SELECT id, kind, fmids, pre, req FROM sysmod WHERE id >= ?1 AND id <= ?2 ORDER BY id"
+    }
+
+    fn place() -> usize {
+        0
+    }
+
+    ghost placed = { λ row. refl };
+}
+
+/// The ids of all SYSMODs that are catalogued, ascending.
+///
+/// # Errors
+///
+/// Those of [`ReadFault`].
+pub fn ids<S: Alter>(alloc: Global, conn: &mut Connection<S>) -> Result<Vec<Id>, ReadFault>
+    requires rest { conn.old.in_transaction ≡ false }
+    ensures mode { conn.new.in_transaction ≡ false }
+    ensures finds { Finds (state S.Store conn.old) (state S.Store conn.new) result
+        (λ stored ids. ids.items ≡ ids_of (tables_of stored).content) }
+    ensures ascend { IfOk result (λ ids. Ascend ids.items) }
+{
+    let rows = select::<SysmodIds, S>(conn, &All)?;
+    entries(alloc, rows.as_slice())
+}
+
+/// The record of a SYSMOD, or `None` where it isn't catalogued.
+///
+/// # Errors
+///
+/// Those of [`ReadFault`].
+pub fn sysmod<S: Alter>(
+    alloc: Global,
+    conn: &mut Connection<S>,
+    id: &Id,
+) -> Result<Option<Sysmod>, ReadFault>
+    requires rest { conn.old.in_transaction ≡ false }
+    ensures mode { conn.new.in_transaction ≡ false }
+    ensures finds { Finds (state S.Store conn.old) (state S.Store conn.new) result
+        (λ stored found. found ≡ record_of (tables_of stored).content id.now) }
+{
+    let rows = select::<Records, S>(conn, id)?;
+    if !any(rows.as_slice()) {
+        return Ok(None);
+    }
+    let (conds, sup) = beside(alloc, conn, id)?;
+    record_in(alloc, rows.as_slice(), conds, sup)
+}
+
+// What a SYSMOD requires under a condition, and what it supersedes.
+fn beside<S: Alter>(
+    alloc: Global,
+    conn: &mut Connection<S>,
+    id: &Id,
+) -> Result<(CondNeeds, Ids), ReadFault>
+    requires rest { conn.old.in_transaction ≡ false }
+    ensures mode { conn.new.in_transaction ≡ false }
+    ensures finds { Finds (state S.Store conn.old) (state S.Store conn.new) result (λ stored lists.
+        beside_of stored id.now ≡ record { conds = lists.0; sup = lists.1 }) }
+{
+    let conds = read_list::<Conds, S>(alloc, conn, id)?;
+    match read_list::<Sups, S>(alloc, conn, id) {
+        Ok(sup) => Ok((conds, sup)),
+        Err(fault) => Err(fault),
+    }
+}
+
+/// The record in the one row, of a SYSMOD that requires these under a condition, and supersedes these.
+pub(crate) fn record_in(
+    alloc: Global,
+    rows: &[Row],
+    conds: CondNeeds,
+    sup: Ids,
+) -> Result<Option<Sysmod>, ReadFault>
+    ensures { IfOk result (λ found.
+        one_of (sysmod_found (record { conds = conds; sup = sup })) rows.now ≡ Some found) }
+{
+    let Some(row) = only(rows)? else {
+        return Ok(None);
+    };
+    let sysmod = sysmod_in(alloc, row, conds, sup)?.ok_or(ReadFault::Device)?;
+    Ok(Some(sysmod))
+}

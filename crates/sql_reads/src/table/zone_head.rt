@@ -1,0 +1,148 @@
+//! The table `zone_head`: the zones of a client, each with the patterns that are asked for in it.
+ghost use Rattle.std.specs.Prelude.{◌≡◌, [], false, is_some, option_and_then, option_map, unwrap_or, IfOk};
+ghost use Rattle.bureau_store.specs.Tables as tables;
+ghost use Rattle.bureau_store.specs.Tables.{PatternsAscend, zone_named};
+ghost use Rattle.sqlite.specs.Held.{state};
+ghost use Rattle.sqlite_value.specs.Order.{column};
+ghost use Rattle.sql_state.specs.Reading.{Finds};
+ghost use Rattle.sql_tables.specs.Stored.{tables_of};
+ghost use Rattle.sql_tables.specs.Values.{patterns_in};
+
+use crate::ReadFault;
+use crate::entry::{Ordered, ascending};
+use crate::key::Zone;
+use crate::one::{One, any, read_one};
+use crate::selection::{Selection, select};
+use mcs_reader::Id;
+use sql_tables::patterns_row_in;
+use sql_texts::read;
+use sqlite::{Alter, Connection, Row};
+use std::alloc::Global;
+use zone_lists::Pattern;
+
+impl Ordered for Pattern {
+    ghost use Rattle.catalogue.specs.Ids.{id_cmp};
+    ghost use Rattle.catalogue.proofs.IdFacts.{ids_total};
+
+    ghost cmp = { id_cmp };
+
+    ghost ascend = { PatternsAscend };
+
+    fn is_below(&self, next: &Pattern) -> bool {
+        self.cmp(next).is_lt()
+    }
+
+    ghost total = { ids_total };
+
+    ghost so_ascend = { λ patterns ascend. ascend };
+}
+
+/// A zone's patterns, in the one row that it has.
+enum ZoneHeads {}
+
+impl Selection for ZoneHeads {
+    ghost use Rattle.std.specs.Prelude.{◌∷◌, codes, refl};
+
+    type Of = Zone;
+
+    ghost tree = { 13 };
+
+    ghost shown = { 2 ∷ [] };
+
+    ghost names = { codes "patterns" ∷ [] };
+
+    ghost order = { 2 ∷ [] };
+
+    ghost rows = { λ stored. stored.heads };
+
+    fn text() -> &'static str {
+        read::patterns()
+    }
+
+    ghost here = { λ trees. refl };
+}
+
+impl One for ZoneHeads {
+    ghost use Rattle.std.specs.Prelude.{◌∷◌, filter};
+    ghost use Rattle.sql_tables.specs.Stored.{first, is_of_both, shown};
+    ghost use Rattle.sql_reads.specs.Rows.{patterns_said, said_of_shown};
+
+    type Item = Vec<Pattern>;
+
+    ghost says = { λ row patterns. patterns.items
+        ≡ unwrap_or (option_and_then (λ row. patterns_in (column row 0)) row) [] };
+
+    ghost is_proper = { λ patterns. PatternsAscend patterns.items };
+
+    ghost tells = { λ key stored patterns. patterns.items
+        ≡ tables.patterns_of (zone_named key.zone ((tables_of stored).zones key.client)) };
+
+    fn item(alloc: Global, row: Option<&Row>) -> Result<Vec<Pattern>, ReadFault> {
+        let patterns = patterns_in_row(alloc, row)?;
+        ascending(patterns).ok_or(ReadFault::Device)
+    }
+
+    ghost told = { λ key stored whole patterns says. patterns_said stored key.client key.zone patterns.items
+        (said_of_shown (λ row. patterns_in (column row 0)) (shown (2 ∷ [])) []
+        (first (filter (is_of_both key.client key.zone) stored.heads)) patterns.items says) };
+}
+
+// The patterns in the row; none where there is no row.
+fn patterns_in_row(alloc: Global, row: Option<&Row>) -> Result<Vec<Pattern>, ReadFault>
+    ensures { IfOk result (λ patterns. patterns.items
+        ≡ unwrap_or (option_and_then (λ row. patterns_in (column row 0))
+        (option_map (λ row. row.now) row.entry)) []) }
+{
+    match row {
+        Some(row) => patterns_row_in(alloc, row)?.ok_or(ReadFault::Device),
+        None => Ok(Vec::new(alloc)),
+    }
+}
+
+/// The patterns of the fix categories that a client asks for in a zone, ascending; none where it has no such zone.
+///
+/// # Errors
+///
+/// Those of [`ReadFault`].
+pub fn patterns<S: Alter>(
+    alloc: Global,
+    conn: &mut Connection<S>,
+    client: &Id,
+    zone: &Id,
+) -> Result<Vec<Pattern>, ReadFault>
+    requires rest { conn.old.in_transaction ≡ false }
+    ensures mode { conn.new.in_transaction ≡ false }
+    ensures finds { Finds (state S.Store conn.old) (state S.Store conn.new) result
+        (λ stored patterns. patterns.items
+        ≡ tables.patterns_of (zone_named zone.now ((tables_of stored).zones client.now))) }
+    ensures ascend { IfOk result (λ patterns. PatternsAscend patterns.items) }
+{
+    let key = Zone {
+        client: *client,
+        zone: *zone,
+    };
+    read_one::<ZoneHeads, S>(alloc, conn, &key)
+}
+
+/// Whether a client has a zone of this name.
+///
+/// # Errors
+///
+/// Those of [`ReadFault`].
+pub fn has_zone<S: Alter>(
+    conn: &mut Connection<S>,
+    client: &Id,
+    zone: &Id,
+) -> Result<bool, ReadFault>
+    requires rest { conn.old.in_transaction ≡ false }
+    ensures mode { conn.new.in_transaction ≡ false }
+    ensures finds { Finds (state S.Store conn.old) (state S.Store conn.new) result
+        (λ stored found. found ≡ is_some (zone_named zone.now ((tables_of stored).zones client.now))) }
+{
+    let key = Zone {
+        client: *client,
+        zone: *zone,
+    };
+    let rows = select::<ZoneHeads, S>(conn, &key)?;
+    Ok(any(rows.as_slice()))
+}
