@@ -74,74 +74,40 @@ every : (rows : List Row) → filter (passes [] []) rows ≡ rows
 every [] = refl
 every (row ∷ rows) = ap (λ others. row ∷ others) (every rows)
 
--- a row keeps to its table just where its columns do
-columns_keep : (table : StoreTable) (row : Row) → KeepsTo table (shown (indices_in table) row) → KeepsTo table row
-columns_keep Caller row h = h
-columns_keep LastChange row h = h
-columns_keep Sysmod row h = h
-columns_keep SysmodSup row h = h
-columns_keep SysmodCond row h = h
-columns_keep HoldRow row h = h
-columns_keep ZoneHead row h = h
-columns_keep ZoneRow row h = h
-columns_keep ReceivedList row h = h
+-- A row keeps to a table just where its columns do, as they are shown; and its rows are those of its tree.
+module _ (table : StoreTable) (as_shown : (row : Row) → KeepsTo table (shown (indices_in table) row) ↔ KeepsTo table row)
+    (here : (trees : Trees) → columns_of (trees (table_of table).tree) ≡ rows_in table (stored_in trees)) where
+  shown_keep : (rows : List Row) → AllByRecursion (KeepsTo table) (map (shown (map suc (indices_in table))) rows) → AllByRecursion (KeepsTo table) (columns_of rows)
+  shown_keep [] all = tt
+  shown_keep (row ∷ rows) all = ((as_shown (drop 1 row)).0 (subst (KeepsTo table) (sym (shown_after (indices_in table) row)) all.0), shown_keep rows all.1)
 
-row_keeps : (table : StoreTable) (row : Row) → KeepsTo table row → KeepsTo table (shown (indices_in table) row)
-row_keeps Caller row h = h
-row_keeps LastChange row h = h
-row_keeps Sysmod row h = h
-row_keeps SysmodSup row h = h
-row_keeps SysmodCond row h = h
-row_keeps HoldRow row h = h
-row_keeps ZoneHead row h = h
-row_keeps ZoneRow row h = h
-row_keeps ReceivedList row h = h
+  keep_shown : (rows : List Row) → AllByRecursion (KeepsTo table) (columns_of rows) → AllByRecursion (KeepsTo table) (map (shown (map suc (indices_in table))) rows)
+  keep_shown [] all = tt
+  keep_shown (row ∷ rows) all = (subst (KeepsTo table) (shown_after (indices_in table) row) ((as_shown (drop 1 row)).1 all.0), keep_shown rows all.1)
 
-shown_keep : (table : StoreTable) (rows : List Row) → AllByRecursion (KeepsTo table) (map (shown (map suc (indices_in table))) rows) → AllByRecursion (KeepsTo table) (columns_of rows)
-shown_keep table [] all = tt
-shown_keep table (row ∷ rows) all =
-    (columns_keep table (drop 1 row) (subst (KeepsTo table) (sym (shown_after (indices_in table) row)) all.0), shown_keep table rows all.1)
+  all_keep : (trees : Trees) (rows : List Row) → IsAnswer (all_of table) trees [] rows → AllByRecursion (KeepsTo table) rows ↔ KeepTo table (stored_in trees)
+  all_keep trees rows answer =
+      let tree = (table_of table).tree in
+      let there : IsPermutation (map (shown (map suc (indices_in table))) (trees tree)) rows =
+      subst (λ kept. IsPermutation (map (shown (map suc (indices_in table))) kept) rows) (every (trees tree)) (table_answer tree [] (map suc (indices_in table)) [] trees [] rows answer) in (
+        λ all. subst (AllByRecursion (KeepsTo table)) (here trees)
+            (shown_keep (trees tree) (all_there (KeepsTo table) rows (map (shown (map suc (indices_in table))) (trees tree)) (IsPermutation-sym _ rows there) all)),
+        λ all. all_there (KeepsTo table) (map (shown (map suc (indices_in table))) (trees tree)) rows there
+            (keep_shown (trees tree) (subst (AllByRecursion (KeepsTo table)) (sym (here trees)) all)),
+      )
 
-keep_shown : (table : StoreTable) (rows : List Row) → AllByRecursion (KeepsTo table) (columns_of rows) → AllByRecursion (KeepsTo table) (map (shown (map suc (indices_in table))) rows)
-keep_shown table [] all = tt
-keep_shown table (row ∷ rows) all =
-    (subst (KeepsTo table) (shown_after (indices_in table) row) (row_keeps table (drop 1 row) all.0), keep_shown table rows all.1)
-
-in_tree : (table : StoreTable) (trees : Trees) → columns_of (trees (table_of table).tree) ≡ rows_in table (stored_in trees)
-in_tree Caller trees = refl
-in_tree LastChange trees = refl
-in_tree Sysmod trees = refl
-in_tree SysmodSup trees = refl
-in_tree SysmodCond trees = refl
-in_tree HoldRow trees = refl
-in_tree ZoneHead trees = refl
-in_tree ZoneRow trees = refl
-in_tree ReceivedList trees = refl
-
-all_keep : (table : StoreTable) (trees : Trees) (rows : List Row) → IsAnswer (all_of table) trees [] rows
-    → AllByRecursion (KeepsTo table) rows ↔ KeepTo table (stored_in trees)
-all_keep table trees rows answer =
-    let tree = (table_of table).tree in
-    let there : IsPermutation (map (shown (map suc (indices_in table))) (trees tree)) rows =
-    subst (λ kept. IsPermutation (map (shown (map suc (indices_in table))) kept) rows) (every (trees tree)) (table_answer tree [] (map suc (indices_in table)) [] trees [] rows answer) in (
-      λ all. subst (AllByRecursion (KeepsTo table)) (in_tree table trees)
-          (shown_keep table (trees tree) (all_there (KeepsTo table) rows (map (shown (map suc (indices_in table))) (trees tree)) (IsPermutation-sym _ rows there) all)),
-      λ all. all_there (KeepsTo table) (map (shown (map suc (indices_in table))) (trees tree)) rows there
-          (keep_shown table (trees tree) (subst (AllByRecursion (KeepsTo table)) (sym (in_tree table trees)) all)),
-    )
-
-pub kept_told : {Fault : Type 0} (table : StoreTable) (text : List ℕ) → Reads bureau text (all_of table) (names_in table) 0 → (old new : State) (rows : Vec Row Global) (seen : List Row) → seen ≡ rows.items
-    → Answers {Fault = Fault} text [] old new (Ok rows) → (result : Result Bool Fault) → IfOk result (λ keeps. IsTrue keeps ↔ AllByRecursion (KeepsTo table) seen)
-    → Looks old new result (λ database keeps. IsTrue keeps ↔ KeepTo table (held_by database))
-kept_told table text reads old new rows seen same answers (Err e) is = record { reads = answers.reads; is_open = tt; told = tt }
-kept_told table text reads old new rows seen same answers (Ok keeps) is = record {
-  reads = answers.reads;
-  is_open = λ clean is_open. answers.is_open clean;
-  told = λ clean is_open has.
-      let answer = subst (IsAnswer (all_of table) old.committed.trees []) (sym same) (answers.told clean bureau has (all_of table) (names_in table) 0 reads) in
-      let all = all_keep table old.committed.trees seen answer in
-      (λ keeps. all.0 (is.0 keeps), λ kept. is.1 (all.1 kept));
-}
+  pub kept_told : {Fault : Type 0} (text : List ℕ) → Reads bureau text (all_of table) (names_in table) 0 → (old new : State) (rows : Vec Row Global) (seen : List Row) → seen ≡ rows.items
+      → Answers {Fault = Fault} text [] old new (Ok rows) → (result : Result Bool Fault) → IfOk result (λ keeps. IsTrue keeps ↔ AllByRecursion (KeepsTo table) seen)
+      → Looks old new result (λ database keeps. IsTrue keeps ↔ KeepTo table (held_by database))
+  kept_told text reads old new rows seen same answers (Err e) is = record { reads = answers.reads; is_open = tt; told = tt }
+  kept_told text reads old new rows seen same answers (Ok keeps) is = record {
+    reads = answers.reads;
+    is_open = λ clean is_open. answers.is_open clean;
+    told = λ clean is_open has.
+        let answer = subst (IsAnswer (all_of table) old.committed.trees []) (sym same) (answers.told clean bureau has (all_of table) (names_in table) 0 reads) in
+        let all = all_keep old.committed.trees seen answer in
+        (λ keeps. all.0 (is.0 keeps), λ kept. is.1 (all.1 kept));
+  }
 
 pub refused_rows : {A Fault : Type 0} (text : List ℕ) (old new : State) (other : Fault) (Fact : Database → A → Type 0) (result : Result (Vec Row Global) Fault) → Answers {Fault = Fault} text [] old new result
     → Looks {Answer = A} {Fault = Fault} old new (Err other) Fact

@@ -15,9 +15,9 @@
 #![tactic(auto)]
 
 mod asked;
+mod checked;
 mod checking;
 pub mod law;
-mod row;
 mod rules;
 mod said;
 mod scan;
@@ -26,6 +26,7 @@ mod shapes;
 mod table;
 mod tallies;
 mod text;
+mod values;
 
 pub use asked::every_caller;
 pub use checking::{Finding, check};

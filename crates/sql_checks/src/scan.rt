@@ -1,47 +1,18 @@
 //! The rows of a table are looked through.
-ghost use Rattle.std.specs.Prelude.{◌≡◌, ◌↔◌, IfErr, IfOk, IsTrue, Some, false};
-ghost use Rattle.std.specs.List.{AllByRecursion};
+ghost use Rattle.std.specs.Prelude.{◌≡◌, ◌↔◌, IfErr, IsTrue, Some, false};
 ghost use Rattle.sqlite.specs.Held.{state};
 ghost use Rattle.sqlite.specs.State.{HasCleanDisk};
 ghost use Rattle.sql_checks.specs.Checked.{Looks, TellsVersion2, WrongIn};
-ghost use Rattle.sql_checks.specs.Kept.{KeepTo, KeepsTo};
-ghost use Rattle.sql_checks.specs.Refused.{AreUnseen, IsCausedBy, IsUnshown, of_rows, of_version};
+ghost use Rattle.sql_checks.specs.Refused.{AreUnseen, IsCausedBy, IsUnshown, of_version};
 ghost use Rattle.sql_state.specs.Ours.{held_by};
 ghost use Rattle.sql_reads.specs.Version.{version_in};
 
-use crate::row::keep_to;
 use crate::table::StoreTable;
 use sql_reads::{ReadFault, rows_of};
 use sql_tables::count_in;
 use sql_texts::read;
 use sqlite::{Alter, Connection, Row};
 use std::alloc::Global;
-
-// Whether all rows of a table are such that the bureau writes them.
-fn keeps<S: Alter>(
-    alloc: Global,
-    conn: &mut Connection<S>,
-    table: StoreTable,
-) -> Result<bool, ReadFault>
-    requires rest { conn.old.in_transaction ≡ false }
-    ensures mode { conn.new.in_transaction ≡ false }
-    ensures looks { Looks (state S.Store conn.old) (state S.Store conn.new) result
-        (λ database keeps. IsTrue keeps ↔ KeepTo table (held_by database)) }
-    ensures cause { IfErr result (λ fault. fault ≡ ReadFault.Device → HasCleanDisk (state S.Store conn.new)
-        → IsCausedBy (IsUnshown (of_rows table)) (state S.Store conn.old) (state S.Store conn.new)) }
-{
-    match rows_of(conn, table.text(), &[]) {
-        Ok(rows) => all_keep(alloc, table, rows.as_slice()),
-        Err(fault) => Err(fault),
-    }
-}
-
-fn all_keep(alloc: Global, table: StoreTable, rows: &[Row]) -> Result<bool, ReadFault>
-    ensures keep { IfOk result (λ keep. IsTrue keep ↔ AllByRecursion (KeepsTo table) rows.now) }
-    ensures memory { IfErr result (λ fault. fault ≡ ReadFault.Memory) }
-{
-    Ok(keep_to(alloc, table, rows)?)
-}
 
 // Whether the one row of the version tells 2.
 pub(crate) fn is_version_2<S: Alter>(conn: &mut Connection<S>) -> Result<bool, ReadFault>
@@ -86,7 +57,7 @@ pub(crate) fn wrong_among<S: Alter>(
 {
     match tables.split_first() {
         None => Ok(None),
-        Some((table, tables)) => match keeps(alloc, conn, *table) {
+        Some((table, tables)) => match table.rows_keep(alloc, conn) {
             Ok(true) => wrong_among(alloc, conn, tables),
             Ok(false) => Ok(Some(*table)),
             Err(fault) => Err(fault),

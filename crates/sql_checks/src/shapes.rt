@@ -3,6 +3,16 @@ ghost use Rattle.std.specs.Prelude.{◌≡◌, map};
 ghost use Rattle.sql_checks.specs.Shapes.{index_of_shape, table_of_shape};
 ghost use Rattle.sql_texts.specs.Schema as made;
 
+use crate::checked::Checked;
+use crate::table::caller::Callers;
+use crate::table::hold_row::HoldRows;
+use crate::table::last_change::LastChanges;
+use crate::table::received_list::ReceivedLists;
+use crate::table::sysmod::Sysmods;
+use crate::table::sysmod_cond::SysmodConds;
+use crate::table::sysmod_sup::SysmodSups;
+use crate::table::zone_head::ZoneHeads;
+use crate::table::zone_row::ZoneRows;
 use sqlite_schema::schema::Kind;
 use sqlite_sql::ops::CompareOp;
 
@@ -59,188 +69,21 @@ fn bureau_version() -> TableShape
     }
 }
 
-// The callers with their tokens.
-fn caller() -> TableShape
-    ensures { table_of_shape result ≡ made.caller }
-{
-    TableShape {
-        name: "caller",
-        tree: 1,
-        columns: &[("name", Kind::Text, true), ("token", Kind::Text, true)],
-        key: None,
-        primary: &[1],
-        uniques: &[&[1], &[2]],
-        rule: None,
-    }
-}
-
-// The last changes.
-fn last_change() -> TableShape
-    ensures { table_of_shape result ≡ made.last_change }
-{
-    TableShape {
-        name: "last_change",
-        tree: 4,
-        columns: &[
-            ("caller", Kind::Text, true),
-            ("number", Kind::Integer, true),
-            ("body", Kind::Blob, true),
-        ],
-        key: None,
-        primary: &[1],
-        uniques: &[&[1]],
-        rule: Some(Rule::Compared(CompareOp::Gt, 2, 0)),
-    }
-}
-
-// The records.
-fn sysmod() -> TableShape
-    ensures { table_of_shape result ≡ made.sysmod }
-{
-    TableShape {
-        name: "sysmod",
-        tree: 6,
-        columns: &[
-            ("id", Kind::Text, true),
-            ("kind", Kind::Integer, true),
-            ("fmids", Kind::Text, true),
-            ("pre", Kind::Text, true),
-            ("req", Kind::Text, true),
-        ],
-        key: None,
-        primary: &[1],
-        uniques: &[&[1]],
-        rule: Some(Rule::UpTo(2, 3)),
-    }
-}
-
-// What they supersede.
-fn sysmod_sup() -> TableShape
-    ensures { table_of_shape result ≡ made.sysmod_sup }
-{
-    TableShape {
-        name: "sysmod_sup",
-        tree: 8,
-        columns: &[("id", Kind::Text, true), ("member", Kind::Text, true)],
-        key: None,
-        primary: &[1, 2],
-        uniques: &[&[1, 2]],
-        rule: None,
-    }
-}
-
-// The holds.
-fn hold_row() -> TableShape
-    ensures { table_of_shape result ≡ made.hold_row }
-{
-    TableShape {
-        name: "hold_row",
-        tree: 11,
-        columns: &[
-            ("sysmod", Kind::Text, true),
-            ("kind", Kind::Integer, true),
-            ("reason", Kind::Text, true),
-            ("fmid", Kind::Text, true),
-            ("class", Kind::Text, true),
-            ("dated", Kind::Integer, true),
-            ("resolver", Kind::Text, true),
-            ("categories", Kind::Text, true),
-        ],
-        key: None,
-        primary: &[1, 2, 3],
-        uniques: &[&[1, 2, 3]],
-        rule: Some(Rule::UpTo(2, 3)),
-    }
-}
-
-// The zones.
-fn zone_head() -> TableShape
-    ensures { table_of_shape result ≡ made.zone_head }
-{
-    TableShape {
-        name: "zone_head",
-        tree: 13,
-        columns: &[
-            ("client", Kind::Text, true),
-            ("zone", Kind::Text, true),
-            ("patterns", Kind::Text, true),
-        ],
-        key: None,
-        primary: &[1, 2],
-        uniques: &[&[1, 2]],
-        rule: None,
-    }
-}
-
-// What is in the zones.
-fn zone_row() -> TableShape
-    ensures { table_of_shape result ≡ made.zone_row }
-{
-    TableShape {
-        name: "zone_row",
-        tree: 15,
-        columns: &[
-            ("client", Kind::Text, true),
-            ("zone", Kind::Text, true),
-            ("sysmod", Kind::Text, true),
-            ("state", Kind::Integer, true),
-        ],
-        key: None,
-        primary: &[1, 2, 3],
-        uniques: &[&[1, 2, 3]],
-        rule: Some(Rule::UpTo(4, 2)),
-    }
-}
-
-// What was received.
-fn received_list() -> TableShape
-    ensures { table_of_shape result ≡ made.received_list }
-{
-    TableShape {
-        name: "received_list",
-        tree: 17,
-        columns: &[("client", Kind::Text, true), ("ids", Kind::Text, true)],
-        key: None,
-        primary: &[1],
-        uniques: &[&[1]],
-        rule: None,
-    }
-}
-
-// Requisites under a condition.
-fn sysmod_cond() -> TableShape
-    ensures { table_of_shape result ≡ made.sysmod_cond }
-{
-    TableShape {
-        name: "sysmod_cond",
-        tree: 19,
-        columns: &[
-            ("id", Kind::Text, true),
-            ("fmid", Kind::Text, true),
-            ("member", Kind::Text, true),
-        ],
-        key: None,
-        primary: &[1, 2, 3],
-        uniques: &[&[1, 2, 3]],
-        rule: None,
-    }
-}
-
 /// All tables.
 pub(crate) fn tables() -> [TableShape; 10]
     ensures { map table_of_shape result ≡ made.tables }
 {
     [
         bureau_version(),
-        caller(),
-        last_change(),
-        sysmod(),
-        sysmod_sup(),
-        hold_row(),
-        zone_head(),
-        zone_row(),
-        received_list(),
-        sysmod_cond(),
+        Callers::shape(),
+        LastChanges::shape(),
+        Sysmods::shape(),
+        SysmodSups::shape(),
+        HoldRows::shape(),
+        ZoneHeads::shape(),
+        ZoneRows::shape(),
+        ReceivedLists::shape(),
+        SysmodConds::shape(),
     ]
 }
 

@@ -1,10 +1,35 @@
 //! The tables of a store whose rows are looked through.
-#![tactic(auto, unfolding(sqlite::specs::Listing::understood, sqlite_tied::specs::Compute::everything))]
+ghost use Rattle.std.specs.Prelude.{◌≡◌, ◌↔◌, false, IfErr, IsTrue};
+ghost use Rattle.sqlite.specs.Held.{state};
+ghost use Rattle.sqlite.specs.State.{HasCleanDisk};
+ghost use Rattle.sql_checks.specs.Checked.{Looks};
+ghost use Rattle.sql_checks.specs.Kept.{KeepTo, table_name};
+ghost use Rattle.sql_checks.specs.Refused.{IsCausedBy, IsUnshown, of_rows};
+ghost use Rattle.sql_state.specs.Ours.{held_by};
 
-ghost use Rattle.std.specs.Prelude.{◌≡◌};
-ghost use Rattle.sql_checks.specs.Kept.{all_of, names_in, table_name};
-ghost use Rattle.sql_texts.specs.Meaning.{Reads};
-ghost use Rattle.sql_texts.specs.Schema.{bureau};
+pub(crate) mod caller;
+pub(crate) mod hold_row;
+pub(crate) mod last_change;
+pub(crate) mod received_list;
+pub(crate) mod sysmod;
+pub(crate) mod sysmod_cond;
+pub(crate) mod sysmod_sup;
+pub(crate) mod zone_head;
+pub(crate) mod zone_row;
+
+use crate::checked::rows_keep;
+use caller::Callers;
+use hold_row::HoldRows;
+use last_change::LastChanges;
+use received_list::ReceivedLists;
+use sql_reads::ReadFault;
+use sqlite::{Alter, Connection};
+use std::alloc::Global;
+use sysmod::Sysmods;
+use sysmod_cond::SysmodConds;
+use sysmod_sup::SysmodSups;
+use zone_head::ZoneHeads;
+use zone_row::ZoneRows;
 
 /// A table of a store, apart from that of the version.
 #[derive(Clone, Copy, Debug, PartialEq, Eq)]
@@ -47,22 +72,33 @@ impl StoreTable {
         }
     }
 
-    /// The text that reads all rows of the table, with all columns.
-    pub(crate) fn text(self) -> &'static str
-        ensures { Reads bureau result.now (all_of self) (names_in self) 0 }
+    /// Whether all rows of the table are such that the bureau writes them.
+    ///
+    /// # Errors
+    ///
+    /// Those of [`ReadFault`].
+    pub(crate) fn rows_keep<S: Alter>(
+        self,
+        alloc: Global,
+        conn: &mut Connection<S>,
+    ) -> Result<bool, ReadFault>
+        requires rest { conn.old.in_transaction ≡ false }
+        ensures mode { conn.new.in_transaction ≡ false }
+        ensures looks { Looks (state S.Store conn.old) (state S.Store conn.new) result
+            (λ database keeps. IsTrue keeps ↔ KeepTo self (held_by database)) }
+        ensures cause { IfErr result (λ fault. fault ≡ ReadFault.Device → HasCleanDisk (state S.Store conn.new)
+            → IsCausedBy (IsUnshown (of_rows self)) (state S.Store conn.old) (state S.Store conn.new)) }
     {
         match self {
-            StoreTable::Caller => "SELECT name, token FROM caller",
-            StoreTable::LastChange => "SELECT caller, number, body FROM last_change",
-            StoreTable::Sysmod => "SELECT id, kind, fmids, pre, req FROM sysmod",
-            StoreTable::SysmodSup => "SELECT id, member FROM sysmod_sup",
-            StoreTable::SysmodCond => "SELECT id, fmid, member FROM sysmod_cond",
-            StoreTable::HoldRow => {
-                "SELECT sysmod, kind, reason, fmid, class, dated, resolver, categories FROM hold_row"
-            }
-            StoreTable::ZoneHead => "SELECT client, zone, patterns FROM zone_head",
-            StoreTable::ZoneRow => "SELECT client, zone, sysmod, state FROM zone_row",
-            StoreTable::ReceivedList => "SELECT client, ids FROM received_list",
+            StoreTable::Caller => rows_keep::<Callers, S>(alloc, conn),
+            StoreTable::LastChange => rows_keep::<LastChanges, S>(alloc, conn),
+            StoreTable::Sysmod => rows_keep::<Sysmods, S>(alloc, conn),
+            StoreTable::SysmodSup => rows_keep::<SysmodSups, S>(alloc, conn),
+            StoreTable::SysmodCond => rows_keep::<SysmodConds, S>(alloc, conn),
+            StoreTable::HoldRow => rows_keep::<HoldRows, S>(alloc, conn),
+            StoreTable::ZoneHead => rows_keep::<ZoneHeads, S>(alloc, conn),
+            StoreTable::ZoneRow => rows_keep::<ZoneRows, S>(alloc, conn),
+            StoreTable::ReceivedList => rows_keep::<ReceivedLists, S>(alloc, conn),
         }
     }
 }

@@ -3,7 +3,7 @@ use Rattle.std.proofs.lemmas.List.Sorted.{answers_always}
 use Rattle.std.specs.Ordering.{is_lt}
 use Rattle.catalogue.specs.Ids.{id_cmp}
 use Rattle.catalogue.proofs.IdFacts.{ascend_by_neighbours}
-use Rattle.sql_checks.proofs.row.patterns_ascend.Goals as goal
+use Rattle.sql_checks.proofs.values.patterns_ascend.Goals as goal
 
 pub returns : goal.returns
 returns c =

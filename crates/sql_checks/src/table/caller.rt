@@ -1,0 +1,44 @@
+//! The table `caller`: the callers with their tokens.
+
+use crate::checked::Checked;
+use crate::shapes::TableShape;
+use crate::values::{is_id, is_text};
+use sql_tables::NoMemory;
+use sqlite::Row;
+use sqlite_schema::schema::Kind;
+use std::alloc::Global;
+
+/// The callers with their tokens.
+pub(crate) enum Callers {}
+
+impl Checked for Callers {
+    ghost use Rattle.std.specs.Prelude.{refl};
+    ghost use Rattle.sql_checks.specs.declared.table.StoreTable.TheVariants.{Caller};
+
+    ghost table = { Caller };
+
+    fn shape() -> TableShape {
+        TableShape {
+            name: "caller",
+            tree: 1,
+            columns: &[("name", Kind::Text, true), ("token", Kind::Text, true)],
+            key: None,
+            primary: &[1],
+            uniques: &[&[1], &[2]],
+            rule: None,
+        }
+    }
+
+    #[tactic(auto, unfolding(sqlite::specs::Listing::understood, sqlite_tied::specs::Compute::everything))]
+    fn text() -> &'static str {
+        "SELECT name, token FROM caller"
+    }
+
+    fn keeps(_alloc: Global, row: &Row) -> Result<bool, NoMemory> {
+        Ok(is_id(row, 0) && is_text(row, 1))
+    }
+
+    ghost as_shown = { λ row. (λ keeps. keeps, λ keeps. keeps) };
+
+    ghost here = { λ trees. refl };
+}

@@ -1,0 +1,49 @@
+//! The table `last_change`: the number of each caller's last change, and the reply that is kept for it.
+
+use crate::checked::Checked;
+use crate::shapes::{Rule, TableShape};
+use crate::values::{is_blob, is_id, is_number};
+use sql_tables::NoMemory;
+use sqlite::Row;
+use sqlite_schema::schema::Kind;
+use sqlite_sql::ops::CompareOp;
+use std::alloc::Global;
+
+/// The number of each caller's last change, and the reply that is kept for it.
+pub(crate) enum LastChanges {}
+
+impl Checked for LastChanges {
+    ghost use Rattle.std.specs.Prelude.{refl};
+    ghost use Rattle.sql_checks.specs.declared.table.StoreTable.TheVariants.{LastChange};
+
+    ghost table = { LastChange };
+
+    fn shape() -> TableShape {
+        TableShape {
+            name: "last_change",
+            tree: 4,
+            columns: &[
+                ("caller", Kind::Text, true),
+                ("number", Kind::Integer, true),
+                ("body", Kind::Blob, true),
+            ],
+            key: None,
+            primary: &[1],
+            uniques: &[&[1]],
+            rule: Some(Rule::Compared(CompareOp::Gt, 2, 0)),
+        }
+    }
+
+    #[tactic(auto, unfolding(sqlite::specs::Listing::understood, sqlite_tied::specs::Compute::everything))]
+    fn text() -> &'static str {
+        "SELECT caller, number, body FROM last_change"
+    }
+
+    fn keeps(_alloc: Global, row: &Row) -> Result<bool, NoMemory> {
+        Ok(is_id(row, 0) && is_number(row, 1) && is_blob(row, 2))
+    }
+
+    ghost as_shown = { λ row. (λ keeps. keeps, λ keeps. keeps) };
+
+    ghost here = { λ trees. refl };
+}

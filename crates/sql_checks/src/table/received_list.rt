@@ -1,0 +1,45 @@
+//! The table `received_list`: what each client has received.
+
+use crate::checked::Checked;
+use crate::shapes::TableShape;
+use crate::values::{are_ids, is_id};
+use sql_tables::NoMemory;
+use sqlite::Row;
+use sqlite_schema::schema::Kind;
+use std::alloc::Global;
+
+/// What each client has received.
+pub(crate) enum ReceivedLists {}
+
+impl Checked for ReceivedLists {
+    ghost use Rattle.std.specs.Prelude.{refl};
+    ghost use Rattle.sql_checks.specs.declared.table.StoreTable.TheVariants.{ReceivedList};
+
+    ghost table = { ReceivedList };
+
+    fn shape() -> TableShape {
+        TableShape {
+            name: "received_list",
+            tree: 17,
+            columns: &[("client", Kind::Text, true), ("ids", Kind::Text, true)],
+            key: None,
+            primary: &[1],
+            uniques: &[&[1]],
+            rule: None,
+        }
+    }
+
+    #[tactic(auto, unfolding(sqlite::specs::Listing::understood, sqlite_tied::specs::Compute::everything))]
+    fn text() -> &'static str {
+        "SELECT client, ids FROM received_list"
+    }
+
+    fn keeps(alloc: Global, row: &Row) -> Result<bool, NoMemory> {
+        let ids = are_ids(alloc, row, 1)?;
+        Ok(is_id(row, 0) && ids)
+    }
+
+    ghost as_shown = { λ row. (λ keeps. keeps, λ keeps. keeps) };
+
+    ghost here = { λ trees. refl };
+}

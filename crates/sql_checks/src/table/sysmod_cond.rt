@@ -1,0 +1,48 @@
+//! The table `sysmod_cond`: what each record requires where a function is installed.
+
+use crate::checked::Checked;
+use crate::shapes::TableShape;
+use crate::values::is_id;
+use sql_tables::NoMemory;
+use sqlite::Row;
+use sqlite_schema::schema::Kind;
+use std::alloc::Global;
+
+/// What each record requires where a function is installed.
+pub(crate) enum SysmodConds {}
+
+impl Checked for SysmodConds {
+    ghost use Rattle.std.specs.Prelude.{refl};
+    ghost use Rattle.sql_checks.specs.declared.table.StoreTable.TheVariants.{SysmodCond};
+
+    ghost table = { SysmodCond };
+
+    fn shape() -> TableShape {
+        TableShape {
+            name: "sysmod_cond",
+            tree: 19,
+            columns: &[
+                ("id", Kind::Text, true),
+                ("fmid", Kind::Text, true),
+                ("member", Kind::Text, true),
+            ],
+            key: None,
+            primary: &[1, 2, 3],
+            uniques: &[&[1, 2, 3]],
+            rule: None,
+        }
+    }
+
+    #[tactic(auto, unfolding(sqlite::specs::Listing::understood, sqlite_tied::specs::Compute::everything))]
+    fn text() -> &'static str {
+        "SELECT id, fmid, member FROM sysmod_cond"
+    }
+
+    fn keeps(_alloc: Global, row: &Row) -> Result<bool, NoMemory> {
+        Ok(is_id(row, 0) && is_id(row, 1) && is_id(row, 2))
+    }
+
+    ghost as_shown = { λ row. (λ keeps. keeps, λ keeps. keeps) };
+
+    ghost here = { λ trees. refl };
+}

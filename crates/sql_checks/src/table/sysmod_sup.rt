@@ -1,0 +1,44 @@
+//! The table `sysmod_sup`: what each record supersedes.
+
+use crate::checked::Checked;
+use crate::shapes::TableShape;
+use crate::values::is_id;
+use sql_tables::NoMemory;
+use sqlite::Row;
+use sqlite_schema::schema::Kind;
+use std::alloc::Global;
+
+/// What each record supersedes.
+pub(crate) enum SysmodSups {}
+
+impl Checked for SysmodSups {
+    ghost use Rattle.std.specs.Prelude.{refl};
+    ghost use Rattle.sql_checks.specs.declared.table.StoreTable.TheVariants.{SysmodSup};
+
+    ghost table = { SysmodSup };
+
+    fn shape() -> TableShape {
+        TableShape {
+            name: "sysmod_sup",
+            tree: 8,
+            columns: &[("id", Kind::Text, true), ("member", Kind::Text, true)],
+            key: None,
+            primary: &[1, 2],
+            uniques: &[&[1, 2]],
+            rule: None,
+        }
+    }
+
+    #[tactic(auto, unfolding(sqlite::specs::Listing::understood, sqlite_tied::specs::Compute::everything))]
+    fn text() -> &'static str {
+        "SELECT id, member FROM sysmod_sup"
+    }
+
+    fn keeps(_alloc: Global, row: &Row) -> Result<bool, NoMemory> {
+        Ok(is_id(row, 0) && is_id(row, 1))
+    }
+
+    ghost as_shown = { λ row. (λ keeps. keeps, λ keeps. keeps) };
+
+    ghost here = { λ trees. refl };
+}

@@ -1,0 +1,49 @@
+//! The table `zone_head`: the clients' zones.
+
+use crate::checked::Checked;
+use crate::shapes::TableShape;
+use crate::values::{are_patterns, is_id};
+use sql_tables::NoMemory;
+use sqlite::Row;
+use sqlite_schema::schema::Kind;
+use std::alloc::Global;
+
+/// The clients' zones.
+pub(crate) enum ZoneHeads {}
+
+impl Checked for ZoneHeads {
+    ghost use Rattle.std.specs.Prelude.{refl};
+    ghost use Rattle.sql_checks.specs.declared.table.StoreTable.TheVariants.{ZoneHead};
+
+    ghost table = { ZoneHead };
+
+    fn shape() -> TableShape {
+        TableShape {
+            name: "zone_head",
+            tree: 13,
+            columns: &[
+                ("client", Kind::Text, true),
+                ("zone", Kind::Text, true),
+                ("patterns", Kind::Text, true),
+            ],
+            key: None,
+            primary: &[1, 2],
+            uniques: &[&[1, 2]],
+            rule: None,
+        }
+    }
+
+    #[tactic(auto, unfolding(sqlite::specs::Listing::understood, sqlite_tied::specs::Compute::everything))]
+    fn text() -> &'static str {
+        "SELECT client, zone, patterns FROM zone_head"
+    }
+
+    fn keeps(alloc: Global, row: &Row) -> Result<bool, NoMemory> {
+        let patterns = are_patterns(alloc, row, 2)?;
+        Ok(is_id(row, 0) && is_id(row, 1) && patterns)
+    }
+
+    ghost as_shown = { λ row. (λ keeps. keeps, λ keeps. keeps) };
+
+    ghost here = { λ trees. refl };
+}

@@ -1,0 +1,50 @@
+//! The table `zone_row`: the SYSMODs of the zones.
+
+use crate::checked::Checked;
+use crate::shapes::{Rule, TableShape};
+use crate::values::{column, is_id};
+use sql_tables::{NoMemory, state_in};
+use sqlite::Row;
+use sqlite_schema::schema::Kind;
+use std::alloc::Global;
+
+/// The SYSMODs of the zones.
+pub(crate) enum ZoneRows {}
+
+impl Checked for ZoneRows {
+    ghost use Rattle.std.specs.Prelude.{refl};
+    ghost use Rattle.sql_checks.specs.declared.table.StoreTable.TheVariants.{ZoneRow};
+
+    ghost table = { ZoneRow };
+
+    fn shape() -> TableShape {
+        TableShape {
+            name: "zone_row",
+            tree: 15,
+            columns: &[
+                ("client", Kind::Text, true),
+                ("zone", Kind::Text, true),
+                ("sysmod", Kind::Text, true),
+                ("state", Kind::Integer, true),
+            ],
+            key: None,
+            primary: &[1, 2, 3],
+            uniques: &[&[1, 2, 3]],
+            rule: Some(Rule::UpTo(4, 2)),
+        }
+    }
+
+    #[tactic(auto, unfolding(sqlite::specs::Listing::understood, sqlite_tied::specs::Compute::everything))]
+    fn text() -> &'static str {
+        "SELECT client, zone, sysmod, state FROM zone_row"
+    }
+
+    fn keeps(_alloc: Global, row: &Row) -> Result<bool, NoMemory> {
+        let state = state_in(column(row, 3)).is_some();
+        Ok(is_id(row, 0) && is_id(row, 1) && is_id(row, 2) && state)
+    }
+
+    ghost as_shown = { λ row. (λ keeps. keeps, λ keeps. keeps) };
+
+    ghost here = { λ trees. refl };
+}

@@ -1,0 +1,78 @@
+//! Whether what stands in a column of a row is a value that the bureau writes.
+ghost use Rattle.std.specs.Prelude.{◌≡◌, ◌↔◌, IfOk, IsSome, IsTrue};
+ghost use Rattle.bureau_store.specs.Tables.{PatternsAscend};
+ghost use Rattle.sqlite_value.specs.Order as order;
+ghost use Rattle.sqlite_value.specs.Value.{owned};
+ghost use Rattle.sql_checks.specs.Kept.{AreIdsColumn, ArePatternsColumn, IsIdColumn, is_any_text};
+ghost use Rattle.sql_tables.specs.Values as value;
+
+use catalogue::Ids;
+use sql_tables::{NoMemory, id_in, ids_in, patterns_in};
+use sqlite::Row;
+use sqlite::types::ValueRef;
+use std::alloc::Global;
+use zone_lists::Pattern;
+
+/// The value in a column.
+pub(crate) fn column(row: &Row, at: usize) -> ValueRef<'_>
+    ensures { owned result ≡ order.column row.now at }
+{
+    row.get_ref(at).unwrap_or(ValueRef::Null)
+}
+
+/// Whether an id stands in a column.
+pub(crate) fn is_id(row: &Row, at: usize) -> bool
+    ensures { IsTrue result ↔ IsIdColumn row.now at }
+{
+    id_in(column(row, at)).is_some()
+}
+
+/// Whether a text stands in a column.
+pub(crate) fn is_text(row: &Row, at: usize) -> bool
+    ensures { result ≡ is_any_text (order.column row.now at) }
+{
+    matches!(column(row, at), ValueRef::Text(_))
+}
+
+/// Whether a number from 0 on stands in a column.
+pub(crate) fn is_number(row: &Row, at: usize) -> bool
+    ensures { IsTrue result ↔ IsSome (value.number_in (order.column row.now at)) }
+{
+    match column(row, at) {
+        ValueRef::Int(number) => number >= 0,
+        _ => false,
+    }
+}
+
+/// Whether bytes stand in a column.
+pub(crate) fn is_blob(row: &Row, at: usize) -> bool
+    ensures { IsTrue result ↔ IsSome (value.bytes_in (order.column row.now at)) }
+{
+    matches!(column(row, at), ValueRef::Blob(_))
+}
+
+/// Whether ids in ascending order, each once, stand in a column.
+pub(crate) fn are_ids(alloc: Global, row: &Row, at: usize) -> Result<bool, NoMemory>
+    ensures { IfOk result (λ are. IsTrue are ↔ AreIdsColumn row.now at) }
+{
+    let Some(ids) = ids_in(alloc, column(row, at))? else {
+        return Ok(false);
+    };
+    Ok(Ids::from_ascending(ids).is_some())
+}
+
+/// Whether patterns in ascending order, each once, stand in a column.
+pub(crate) fn are_patterns(alloc: Global, row: &Row, at: usize) -> Result<bool, NoMemory>
+    ensures { IfOk result (λ are. IsTrue are ↔ ArePatternsColumn row.now at) }
+{
+    let Some(patterns) = patterns_in(alloc, column(row, at))? else {
+        return Ok(false);
+    };
+    Ok(patterns_ascend(patterns.as_slice()))
+}
+
+fn patterns_ascend(patterns: &[Pattern]) -> bool
+    ensures { IsTrue result ↔ PatternsAscend patterns.now }
+{
+    patterns.is_sorted_by(|pattern, next| pattern.cmp(next).is_lt())
+}
