@@ -1,11 +1,11 @@
 -- Frames: what steps lead to, and what stays where contents agree.
-use Rattle.std.proofs.Common.{◌≡◌, ◌∙◌, ℕ, Bool, true, false, cond, List, [], ◌∷◌, ◌++◌, map, is_some, Option, Some, refl, sym, ap, subst, inl, inr}
+use Rattle.std.proofs.Common.{◌≡◌, ◌∙◌, ℕ, Bool, true, false, List, [], ◌∷◌, ◌++◌, map, is_some, Option, refl, sym, ap, subst, inl, inr}
 use Rattle.std.specs.Prelude.{◌↔◌}
 use Rattle.std.specs.Bool.{OnFalse}
-use Rattle.std.specs.List.{Contains, find, list_any}
+use Rattle.std.specs.List.{Contains, list_any}
 use Rattle.std.proofs.lemmas.List.Kept.{IsStrictlySortedBy-filter}
-use Rattle.lemmas.proofs.ListFacts.{any_at, first_inside, inside_cases, kept_from, kept_inside, map_from, none_inside, rest_inside}
-use Rattle.catalogue.specs.Content.{Content, IsCatalogued, IsInOrder, Supersedes, error_reasons, ids_in, ids_of, is_of, record_of}
+use Rattle.lemmas.proofs.ListFacts.{any_at, first_inside, kept_from, kept_inside, map_from, rest_inside}
+use Rattle.catalogue.specs.Content.{Content, IsCatalogued, IsInOrder, Supersedes, error_reasons, ids_of, record_of}
 use Rattle.catalogue.specs.Ids.{Ascend, id_cmp, in_order, same_id}
 use Rattle.catalogue.specs.Touched.{AgreeOutside}
 use Rattle.catalogue.specs.declared.sysmod.Sysmod.{Sysmod}

@@ -23,6 +23,7 @@ use Rattle.listings.specs.Indices.{AreIndexed, AreIndicesOf, list_at}
 use Rattle.listings.specs.Links.{IsAbove, IsGiverAt}
 use Rattle.chains.specs.FrameIndices.{AreNodesOf, IsFramed, IsNodeAt, has_conds}
 use Rattle.chains.specs.Frames.{FrameLists, IsClosed, IsFrame, StepsTo, ids_in, node_of}
+use Rattle.listings.specs.Sights.{all_needs, unseen}
 use Rattle.listings.specs.Gathered.{AreNamed, IsGathered, Names, gathered_of}
 use Rattle.chains.specs.declared.frames.FrameNode.{FrameNode}
 use Rattle.listings.specs.declared.gathered.Gathered.{Gathered}
@@ -34,31 +35,18 @@ use Rattle.listings.proofs.WayFacts.{listed_record, record_listed}
 -- ---- one step by what is named, and by what is needed and gives
 
 module _ (content : Content) (ordered : IsInOrder content) where
-  -- the needs of requisites under a condition
-  under : List ℕ → List (List ℕ)
-  under x = each_need (conds_of (record_of content x))
-
   -- each need is named
   need_named : (x z : List ℕ) → Contains (may_need content x) z → Names content x z
-  unfolding under
-  need_named x z needs = Contains-append_left (in_order (always_needs content x) ++ under x) (superseders content x) z (elim (Contains-append_cases (always_needs content x) (under x) z needs) [
-    | inl always ↦ Contains-append_left (in_order (always_needs content x)) (under x) z ((in_order_has (always_needs content x) z).1 always)
-    | inr named ↦ Contains-append_right (in_order (always_needs content x)) (under x) z named
-  ])
+  need_named x z needs = Contains-append_left (may_need content x) (superseders content x) z needs
 
   -- so is what supersedes directly
   above_named : (x z : List ℕ) → Supersedes content z x → Names content x z
-  unfolding under
-  above_named x z step = Contains-append_right (in_order (always_needs content x) ++ under x) (superseders content x) z ((superseder_is content x z ordered).1 step)
+  above_named x z step = Contains-append_right (may_need content x) (superseders content x) z ((superseder_is content x z ordered).1 step)
 
   -- what is named is a need, or gives
   named_steps : (x z : List ℕ) → Names content x z → StepsTo content x z
-  unfolding under
-  named_steps x z named = elim (Contains-append_cases (in_order (always_needs content x) ++ under x) (superseders content x) z named) [
-    | inl needs ↦ inl (elim (Contains-append_cases (in_order (always_needs content x)) (under x) z needs) [
-      | inl always ↦ Contains-append_left (always_needs content x) (under x) z ((in_order_has (always_needs content x) z).0 always)
-      | inr below ↦ Contains-append_right (always_needs content x) (under x) z below
-    ])
+  named_steps x z named = elim (Contains-append_cases (may_need content x) (superseders content x) z named) [
+    | inl needs ↦ inl needs
     | inr above ↦ inr (direct_gives content z x ordered ((superseder_is content x z ordered).0 above))
   ]
 
@@ -138,7 +126,7 @@ module _ (content : Content) (start : List ℕ) (ids : List (List ℕ)) (all : L
       let way = way_up index giver.own below giver.leads in
       let P : List ℕ → Type 0 = λ x. Gives content x (id_at ids index) in
       subst P giver.is (record {
-        catalogued = listed_record content.sysmods (id_at ids giver.own) (sym (read_at (λ g. g.catalogued) giver.own _ giver.within) ∙ giver.catalogued);
+        catalogued = listed_record content.sysmods (id_at ids giver.own) (sym (read_at (λ g. g.entry.catalogued) giver.own _ giver.within) ∙ giver.catalogued);
         way = way.way;
         leads = way.leads;
       })
@@ -151,7 +139,7 @@ module _ (content : Content) (start : List ℕ) (ids : List (List ℕ)) (all : L
         own = down.at.index;
         within = down.at.within;
         is = down.at.is;
-        catalogued = read_at (λ g. g.catalogued) down.at.index _ down.at.within ∙ record_listed content.sysmods (id_at ids down.at.index) (subst P (sym down.at.is) given.catalogued);
+        catalogued = read_at (λ g. g.entry.catalogued) down.at.index _ down.at.within ∙ record_listed content.sysmods (id_at ids down.at.index) (subst P (sym down.at.is) given.catalogued);
         leads = down.leads;
       }
 
@@ -168,10 +156,10 @@ module _ (content : Content) (start : List ℕ) (ids : List (List ℕ)) (all : L
       (λ y inside. (at.givers y).1 (at_gives index below y ((giver_is content id y).0 inside))) in
       let found = record_of content id in
       ap (λ i. node_by i node.catalogued node.fmids node.needs node.conds node.givers) at.id
-      ∙ ap (λ b. node_by id b node.fmids node.needs node.conds node.givers) (at.catalogued ∙ ap (λ (g : Gathered). g.catalogued) read)
-      ∙ ap (λ l. node_by id (is_some found) l node.needs node.conds node.givers) (at.fmids ∙ ap (λ (g : Gathered). g.fmids) read)
-      ∙ ap (λ l. node_by id (is_some found) (fmids_of found) l node.conds node.givers) (at.needs ∙ ap (λ (g : Gathered). g.needs) read)
-      ∙ ap (λ (l : List CondNeed). node_by id (is_some found) (fmids_of found) (in_order (always_needs content id)) l node.givers) (at.conds ∙ ap (λ (g : Gathered). g.conds) read)
+      ∙ ap (λ b. node_by id b node.fmids node.needs node.conds node.givers) (at.catalogued ∙ ap (λ (g : Gathered). g.entry.catalogued) read)
+      ∙ ap (λ l. node_by id (is_some found) l node.needs node.conds node.givers) (at.fmids ∙ ap (λ (g : Gathered). g.entry.fmids) read)
+      ∙ ap (λ l. node_by id (is_some found) (fmids_of found) l node.conds node.givers) (at.needs ∙ ap (λ (g : Gathered). in_order g.entry.needs) read)
+      ∙ ap (λ (l : List CondNeed). node_by id (is_some found) (fmids_of found) (in_order (always_needs content id)) l node.givers) (at.conds ∙ ap (λ (g : Gathered). g.entry.conds) read)
       ∙ ap (λ l. node_by id (is_some found) (fmids_of found) (in_order (always_needs content id)) (conds_of found) l) givers
 
 -- ---- one node more
@@ -195,13 +183,13 @@ nodes_more ids all above index node old new below as_many indexed at are now =
     subst S (sym now) (record {
       are = map-append (λ (n : FrameNode). n.id) old (node ∷ []) ∙ ap (λ l. l ++ node.id ∷ []) are.are ∙ ap (λ i. take index ids ++ i ∷ []) at.id
           ∙ sym (take_next ids index (id_at ids index) below (get_any ids index [] (id_at ids index) below));
-      needs = map-append (λ (n : FrameNode). n.needs) old (node ∷ []) ∙ ap (λ l. l ++ node.needs ∷ []) are.needs ∙ ap (λ l. map (λ (g : Gathered). g.needs) (take index all) ++ l ∷ []) at.needs
-          ∙ sym (map-append (λ (g : Gathered). g.needs) (take index all) (at.gathered ∷ []))
-          ∙ ap (map (λ (g : Gathered). g.needs)) (sym (take_next all index at.gathered (omega (arith, below, as_many)) at.at));
+      needs = map-append (λ (n : FrameNode). n.needs) old (node ∷ []) ∙ ap (λ l. l ++ node.needs ∷ []) are.needs ∙ ap (λ l. map (λ (g : Gathered). in_order g.entry.needs) (take index all) ++ l ∷ []) at.needs
+          ∙ sym (map-append (λ (g : Gathered). in_order g.entry.needs) (take index all) (at.gathered ∷ []))
+          ∙ ap (map (λ (g : Gathered). in_order g.entry.needs)) (sym (take_next all index at.gathered (omega (arith, below, as_many)) at.at));
       conds = map-append (λ (n : FrameNode). n.conds) old (node ∷ []) ∙ ap (λ (l : List (List CondNeed)). l ++ node.conds ∷ []) are.conds
-          ∙ ap (λ (l : List CondNeed). map (λ (g : Gathered). g.conds) (take index all) ++ l ∷ []) at.conds
-          ∙ sym (map-append (λ (g : Gathered). g.conds) (take index all) (at.gathered ∷ []))
-          ∙ ap (map (λ (g : Gathered). g.conds)) (sym (take_next all index at.gathered (omega (arith, below, as_many)) at.at));
+          ∙ ap (λ (l : List CondNeed). map (λ (g : Gathered). g.entry.conds) (take index all) ++ l ∷ []) at.conds
+          ∙ sym (map-append (λ (g : Gathered). g.entry.conds) (take index all) (at.gathered ∷ []))
+          ∙ ap (map (λ (g : Gathered). g.entry.conds)) (sym (take_next all index at.gathered (omega (arith, below, as_many)) at.at));
       givers = λ n id inside given. elim (Contains-append_cases old (node ∷ []) n inside) [
         | inl before ↦ are.givers n id before given
         | inr last ↦ elim (inside_cases node n [] last) [
@@ -222,46 +210,66 @@ nodes_more ids all above index node old new below as_many indexed at are now =
 
 -- ---- the frame
 
+-- what stands where nothing was read
+none : Gathered
+none = record { entry = unseen; above = [] }
+
 module _ (ids : List (List ℕ)) (all : List Gathered) (nodes : List FrameNode) (ascend : Ascend ids) (as_many : length all ≡ length ids) (named : AreNamed all ids) (are : AreNodesOf ids all (length ids) nodes) where
   ids_are : ids ≡ ids_in nodes
   ids_are = sym (are.are ∙ take_all (length ids) ids (omega arith))
 
-  needs_are : map (λ (g : Gathered). g.needs) all ≡ map (λ (n : FrameNode). n.needs) nodes
-  needs_are = sym (are.needs ∙ ap (map (λ (g : Gathered). g.needs)) (take_all (length ids) all (omega (arith, as_many))))
+  needs_are : map (λ (g : Gathered). in_order g.entry.needs) all ≡ map (λ (n : FrameNode). n.needs) nodes
+  needs_are = sym (are.needs ∙ ap (map (λ (g : Gathered). in_order g.entry.needs)) (take_all (length ids) all (omega (arith, as_many))))
 
-  conds_are : map (λ (g : Gathered). g.conds) all ≡ map (λ (n : FrameNode). n.conds) nodes
-  conds_are = sym (are.conds ∙ ap (map (λ (g : Gathered). g.conds)) (take_all (length ids) all (omega (arith, as_many))))
+  conds_are : map (λ (g : Gathered). g.entry.conds) all ≡ map (λ (n : FrameNode). n.conds) nodes
+  conds_are = sym (are.conds ∙ ap (map (λ (g : Gathered). g.entry.conds)) (take_all (length ids) all (omega (arith, as_many))))
+
+  -- in order they have the same indices
+  in_order_indexed : (needs : List (List ℕ)) → AreIndexed ids (map (λ g. g.entry.needs) all) needs → AreIndexed ids (map (λ (g : Gathered). in_order g.entry.needs) all) needs
+  in_order_indexed needs indexed = record {
+    len = indexed.len;
+    each = λ p below.
+        let here : p < length all = omega (arith, below, as_many) in
+        let g = get_or all p none in
+        let P : List (List ℕ) → Type 0 = λ l. AreIndicesOf ids l (row needs p) in
+        let are = subst P (at_map (λ (x : Gathered). x.entry.needs) all p none [] here) (indexed.each p below) in
+        subst P (sym (at_map (λ (x : Gathered). in_order x.entry.needs) all p none [] here)) (record {
+          within = are.within;
+          listed = λ q inside. (in_order_has g.entry.needs (id_at ids q)).1 (are.listed q inside);
+          whole = λ q within inside. are.whole q within ((in_order_has g.entry.needs (id_at ids q)).0 inside);
+        });
+  }
 
   closed : IsClosed nodes
   closed = record {
     needs = λ node id inside needs.
         let L : List (List (List ℕ)) → Type 0 = λ l. Contains l node.needs in
-        let image = map_from (λ (g : Gathered). g.needs) all node.needs (subst L (sym needs_are) (map_inside (λ (n : FrameNode). n.needs) nodes node inside)) in
+        let image = map_from (λ (g : Gathered). in_order g.entry.needs) all node.needs (subst L (sym needs_are) (map_inside (λ (n : FrameNode). n.needs) nodes node inside)) in
         let N : List (List ℕ) → Type 0 = λ l. Contains l id in
         subst N ids_are (named.named image.from id image.member
-        (Contains-append_left (image.from.needs ++ each_need image.from.conds) image.from.above id
-        (Contains-append_left image.from.needs (each_need image.from.conds) id (subst N (sym image.is) needs))));
+        (Contains-append_left (all_needs image.from.entry) image.from.above id
+        (Contains-append_left image.from.entry.needs (each_need image.from.entry.conds) id ((in_order_has image.from.entry.needs id).0 (subst N (sym image.is) needs)))));
     conds = λ node id inside needs.
         let L : List (List CondNeed) → Type 0 = λ l. Contains l node.conds in
-        let image = map_from (λ (g : Gathered). g.conds) all node.conds (subst L (sym conds_are) (map_inside (λ (n : FrameNode). n.conds) nodes node inside)) in
+        let image = map_from (λ (g : Gathered). g.entry.conds) all node.conds (subst L (sym conds_are) (map_inside (λ (n : FrameNode). n.conds) nodes node inside)) in
         let M : List CondNeed → Type 0 = λ l. Contains (each_need l) id in
         let N : List (List ℕ) → Type 0 = λ l. Contains l id in
         subst N ids_are (named.named image.from id image.member
-        (Contains-append_left (image.from.needs ++ each_need image.from.conds) image.from.above id
-        (Contains-append_right image.from.needs (each_need image.from.conds) id (subst M (sym image.is) needs))));
+        (Contains-append_left (all_needs image.from.entry) image.from.above id
+        (Contains-append_right image.from.entry.needs (each_need image.from.entry.conds) id (subst M (sym image.is) needs))));
     givers = λ node id inside given. let N : List (List ℕ) → Type 0 = λ l. Contains l id in subst N ids_are (are.givers node id inside given);
   }
 
-  pub framed : (needs : List (List ℕ)) (conditional : Bool) → AreIndexed ids (map (λ g. g.needs) all) needs → conditional ≡ list_any has_conds nodes → IsFramed nodes ids needs conditional
+  pub framed : (needs : List (List ℕ)) (conditional : Bool) → AreIndexed ids (map (λ g. g.entry.needs) all) needs → conditional ≡ list_any has_conds nodes → IsFramed nodes ids needs conditional
   framed needs conditional indexed is = record {
     are = ids_are;
     ascend = ascend;
     closed = closed;
-    indexed = (let P : List (List (List ℕ)) → Type 0 = λ l. AreIndexed ids l needs in subst P needs_are indexed);
+    indexed = (let P : List (List (List ℕ)) → Type 0 = λ l. AreIndexed ids l needs in subst P needs_are (in_order_indexed needs indexed));
     known = is;
   }
 
-  pub frame_made : (supersedes : List (List ℕ)) → AreIndexed ids (map (λ g. g.superseded) all) supersedes → (frame : FrameLists) → frame.nodes ≡ nodes → frame.supersedes ≡ supersedes
+  pub frame_made : (supersedes : List (List ℕ)) → AreIndexed ids (map (λ g. g.entry.superseded) all) supersedes → (frame : FrameLists) → frame.nodes ≡ nodes → frame.supersedes ≡ supersedes
       → (content : Content) (start : List ℕ) → IsInOrder content → IsGathered content start ids all → IsFrame content start frame
   frame_made supersedes indexed frame nodes_is rows_is content start ordered is = record {
     reached = λ id. (let N : List (List ℕ) → Type 0 = λ l. Contains l id in (
@@ -281,12 +289,12 @@ module _ (ids : List (List ℕ)) (all : List Gathered) (nodes : List FrameNode) 
     members : ids ≡ ids_in frame.nodes
     members = ids_are ∙ ap ids_in (sym nodes_is)
 
-    sup_here : (p : ℕ) → p < length ids → list_at (map (λ g. g.superseded) all) p ≡ sup_of (record_of content (id_at ids p))
+    sup_here : (p : ℕ) → p < length ids → list_at (map (λ g. g.entry.superseded) all) p ≡ sup_of (record_of content (id_at ids p))
     sup_here p below =
         let as_long : length (map (gathered_of content) ids) ≡ length ids = length-map ids (gathered_of content) in
-        ap (λ (l : List Gathered). list_at (map (λ g. g.superseded) l) p) is.says
-        ∙ at_map (λ g. g.superseded) (map (gathered_of content) ids) p (gathered_of content []) [] (omega (arith, below, as_long))
-        ∙ ap (λ (g : Gathered). g.superseded) (at_map (gathered_of content) ids p [] (gathered_of content []) below)
+        ap (λ (l : List Gathered). list_at (map (λ g. g.entry.superseded) l) p) is.says
+        ∙ at_map (λ g. g.entry.superseded) (map (gathered_of content) ids) p (gathered_of content []) [] (omega (arith, below, as_long))
+        ∙ ap (λ (g : Gathered). g.entry.superseded) (at_map (gathered_of content) ids p [] (gathered_of content []) below)
 
     sup_at : (p : ℕ) → p < length ids → AreIndicesOf ids (sup_of (record_of content (id_at ids p))) (row supersedes p)
     sup_at p below = let P : List (List ℕ) → Type 0 = λ l. AreIndicesOf ids l (row supersedes p) in subst P (sup_here p below) (indexed.each p below)
@@ -335,13 +343,13 @@ module _ (es : List (List ℕ × Gathered)) (ids seen_ids node_ids : List (List 
       let Q : List (List ℕ) → Type 0 = λ l. AreIndexed l (map f seen_all) rows in
       subst P seen_all_is (subst Q seen_ids_is indexed)
 
-  pub framed_found : (needs : List (List ℕ)) (conditional : Bool) → AreIndexed seen_ids (map (λ g. g.needs) seen_all) needs → conditional ≡ list_any has_conds nodes → IsFramed nodes ids needs conditional
-  framed_found needs conditional indexed is = framed ids all nodes ascend as_many named_here nodes_here needs conditional (indexed_of (λ g. g.needs) needs indexed) is
+  pub framed_found : (needs : List (List ℕ)) (conditional : Bool) → AreIndexed seen_ids (map (λ g. g.entry.needs) seen_all) needs → conditional ≡ list_any has_conds nodes → IsFramed nodes ids needs conditional
+  framed_found needs conditional indexed is = framed ids all nodes ascend as_many named_here nodes_here needs conditional (indexed_of (λ g. g.entry.needs) needs indexed) is
 
-  pub frame_found : (supersedes : List (List ℕ)) → AreIndexed seen_ids (map (λ g. g.superseded) seen_all) supersedes → (frame : FrameLists) → frame.nodes ≡ nodes → frame.supersedes ≡ supersedes
+  pub frame_found : (supersedes : List (List ℕ)) → AreIndexed seen_ids (map (λ g. g.entry.superseded) seen_all) supersedes → (frame : FrameLists) → frame.nodes ≡ nodes → frame.supersedes ≡ supersedes
       → (content : Content) (start : List ℕ) → IsInOrder content → IsGathered content start (keys_of es) (values_of es) → IsFrame content start frame
   frame_found supersedes indexed frame nodes_is rows_is content start ordered is =
       let P : List Gathered → Type 0 = λ l. IsGathered content start ids l in
       let Q : List (List ℕ) → Type 0 = λ l. IsGathered content start l (values_of es) in
-      frame_made ids all nodes ascend as_many named_here nodes_here supersedes (indexed_of (λ g. g.superseded) supersedes indexed) frame nodes_is rows_is content start ordered
+      frame_made ids all nodes ascend as_many named_here nodes_here supersedes (indexed_of (λ g. g.entry.superseded) supersedes indexed) frame nodes_is rows_is content start ordered
       (subst P (sym all_is) (subst Q (sym ids_is) is))

@@ -3,7 +3,7 @@ use Rattle.std.specs.Prelude.{◌≡◌, ◌↔◌, ◌++◌, ◌==◌, ℕ, Boo
 use Rattle.std.specs.List.{list_any}
 use Rattle.zone_lists.specs.declared.zones.ZoneRow.{ZoneRow}
 use Rattle.catalogue.specs.Content.{Content, IsInOrder}
-use Rattle.catalogue.specs.Ids.{Ascend}
+use Rattle.catalogue.specs.Ids.{Ascend, in_order}
 use Rattle.supersede.specs.Giving.{needs_where}
 use Rattle.listings.specs.Cuts.{id_at}
 use Rattle.chains.specs.Frames.{IsClosed, ids_in, node_of}
@@ -35,17 +35,17 @@ pub record IsNodeAt (ids : List (List ℕ)) (all : List Gathered) (above : List 
   pub gathered : Gathered
   pub at : gathered ≡ slice_index_or all index gathered
   pub id : node.id ≡ id_at ids index
-  pub catalogued : node.catalogued ≡ gathered.catalogued
-  pub fmids : node.fmids ≡ gathered.fmids
-  pub needs : node.needs ≡ gathered.needs
-  pub conds : node.conds ≡ gathered.conds
+  pub catalogued : node.catalogued ≡ gathered.entry.catalogued
+  pub fmids : node.fmids ≡ gathered.entry.fmids
+  pub needs : node.needs ≡ in_order gathered.entry.needs
+  pub conds : node.conds ≡ gathered.entry.conds
   pub ascend : Ascend node.givers
   pub givers : (giver : List ℕ) → Contains node.givers giver ↔ IsGiverAt ids all above index giver
 
 -- the nodes of the ids up to an index
 pub record AreNodesOf (ids : List (List ℕ)) (all : List Gathered) (index : ℕ) (nodes : List FrameNode) : Type 0 where
   pub are : map (λ node. node.id) nodes ≡ take index ids
-  pub needs : map (λ node. node.needs) nodes ≡ map (λ g. g.needs) (take index all)
-  pub conds : map (λ node. node.conds) nodes ≡ map (λ g. g.conds) (take index all)
+  pub needs : map (λ node. node.needs) nodes ≡ map (λ g. in_order g.entry.needs) (take index all)
+  pub conds : map (λ node. node.conds) nodes ≡ map (λ g. g.entry.conds) (take index all)
   pub givers : (node : FrameNode) (id : List ℕ) → Contains nodes node → Contains node.givers id → Contains ids id
   pub say : (content : Content) (start : List ℕ) → IsInOrder content → IsGathered content start ids all → nodes ≡ map (node_of content) (take index ids)

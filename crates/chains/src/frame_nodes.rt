@@ -43,13 +43,13 @@ fn node_at(
     ensures { IfOk result (λ node. IsNodeAt ids.now all.now above.now index node) }
 {
     let givers = givers_at(alloc, ids, all, above, index)?;
-    let gathered = &all[index];
+    let entry = &all[index].entry;
     Ok(FrameNode {
         id: ids[index],
-        catalogued: gathered.catalogued,
-        fmids: gathered.fmids.copy()?,
-        needs: gathered.needs.copy()?,
-        conds: gathered.conds.copy()?,
+        catalogued: entry.is_catalogued(),
+        fmids: entry.fmids().copy()?,
+        needs: entry.needs_in_order(alloc)?,
+        conds: entry.conds().copy()?,
         givers,
     })
 }

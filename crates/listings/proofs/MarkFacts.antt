@@ -59,7 +59,7 @@ still_listed marks ids old new listing ordered agree but =
 -- ---- what it says of the content
 
 abbrev sight_by : Option Sysmod → List (List ℕ) → Sight
-sight_by found reasons = record { fmids = fmids_of found; needs = requisites_of found ++ reasons; conds = conds_of found; superseded = sup_of found }
+sight_by found reasons = record { catalogued = is_some found; fmids = fmids_of found; needs = requisites_of found ++ reasons; conds = conds_of found; superseded = sup_of found }
 
 same_sight : (old new : Content) (id : List ℕ) → record_of new id ≡ record_of old id → error_reasons new id ≡ error_reasons old id → sight_of old id ≡ sight_of new id
 same_sight old new id records reasons = ap (λ found. sight_by found (error_reasons old id)) (sym records) ∙ ap (sight_by (record_of new id)) (sym reasons)

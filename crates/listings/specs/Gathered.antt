@@ -1,33 +1,18 @@
 -- No part of what is promised: private contracts cite it. What is read of each SYSMOD that a frame has, and how those that
 -- it has are found.
-use Rattle.std.specs.Prelude.{◌≡◌, ◌++◌, ℕ, List, Option, Contains, is_some, map, take}
-use Rattle.holddata.specs.declared.hold.Hold.{Hold}
-use Rattle.catalogue.specs.Content.{Content, holds_on, record_of, superseders}
-use Rattle.catalogue.specs.Ids.{in_order}
-use Rattle.catalogue.specs.declared.sysmod.Sysmod.{Sysmod}
-use Rattle.supersede.specs.Giving.{conds_of, each_need, fmids_of, requisites_of, sup_of}
+use Rattle.std.specs.Prelude.{◌≡◌, ◌++◌, ℕ, List, Contains, map, take}
+use Rattle.catalogue.specs.Content.{Content, superseders}
 use Rattle.requisites.specs.Leads.{Leads}
-use Rattle.listings.specs.Sights.{reasons_in}
+use Rattle.listings.specs.Sights.{all_needs, sight_of}
 use Rattle.listings.specs.declared.gathered.Gathered.{Gathered}
 
--- by a record, the holds and what supersedes directly
-abbrev pub gathered_from : Option Sysmod → List Hold → List (List ℕ) → Gathered
-gathered_from found holds above = record {
-  catalogued = is_some found;
-  fmids = fmids_of found;
-  needs = in_order (requisites_of found ++ reasons_in holds);
-  conds = conds_of found;
-  superseded = sup_of found;
-  above = above;
-}
-
--- what a content says of an id
+-- what a content says of an id, and what supersedes it directly
 abbrev pub gathered_of : Content → List ℕ → Gathered
-gathered_of content id = gathered_from (record_of content id) (holds_on content id) (superseders content id)
+gathered_of content id = record { entry = sight_of content id; above = superseders content id }
 
 -- the ids to which one step leads: what is needed, what is needed where a function is, and what supersedes directly
 abbrev pub named_by : Gathered → List (List ℕ)
-named_by gathered = gathered.needs ++ each_need gathered.conds ++ gathered.above
+named_by gathered = all_needs gathered.entry ++ gathered.above
 
 abbrev pub Names : Content → List ℕ → List ℕ → Type 0
 Names content from to = Contains (named_by (gathered_of content from)) to

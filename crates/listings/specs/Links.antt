@@ -11,7 +11,7 @@ IsAbove above p q = Contains (row above p) q
 
 -- whether what was read says that an index is catalogued
 abbrev pub is_catalogued_at : List Gathered → ℕ → Bool
-is_catalogued_at gathered p = slice_index_or (map (λ g. g.catalogued) gathered) p false
+is_catalogued_at gathered p = slice_index_or (map (λ g. g.entry.catalogued) gathered) p false
 
 -- an id that gives what stands at an index: it is catalogued, and to its own index leads what supersedes that one, directly
 -- or through others

@@ -1,6 +1,6 @@
--- What is read of a SYSMOD, whatever the zone: the functions that it is for, what it needs in every zone, its requisites under a
--- condition, and what it supersedes; and of all that is catalogued.
-use Rattle.std.specs.Prelude.{◌≡◌, ◌++◌, ◌==◌, ℕ, List, [], Option, filter, map}
+-- What is read of a SYSMOD, whatever the zone: whether it is catalogued, the functions that it is for, what it needs in every zone, its
+-- requisites under a condition, and what it supersedes; and of all that is catalogued.
+use Rattle.std.specs.Prelude.{◌≡◌, ◌++◌, ◌==◌, ℕ, Bool, false, List, [], Option, filter, is_some, map}
 use Rattle.std.specs.List.{Contains}
 use Rattle.holddata.specs.HoldKey.{kind_order}
 use Rattle.holddata.specs.declared.hold.Hold.{Hold}
@@ -12,6 +12,7 @@ use Rattle.catalogue.specs.declared.sysmod.Sysmod.{Sysmod}
 use Rattle.supersede.specs.Giving.{conds_of, each_need, fmids_of, needs_where, requisites_of, sup_of}
 
 pub record Sight : Type 0 where
+  pub catalogued : Bool
   pub fmids : List (List ℕ)
   pub needs : List (List ℕ)
   pub conds : List CondNeed
@@ -19,7 +20,7 @@ pub record Sight : Type 0 where
 
 -- of what isn't catalogued nothing is looked at
 abbrev pub unseen : Sight
-unseen = record { fmids = []; needs = []; conds = []; superseded = [] }
+unseen = record { catalogued = false; fmids = []; needs = []; conds = []; superseded = [] }
 
 -- the reasons of the ERROR holds among some
 abbrev pub reasons_in : List Hold → List (List ℕ)
@@ -28,6 +29,7 @@ reasons_in holds = map (λ hold. hold.key.reason) (filter (λ hold. kind_order h
 -- by a record and the holds
 abbrev pub sight_from : Option Sysmod → List Hold → Sight
 sight_from found holds = record {
+  catalogued = is_some found;
   fmids = fmids_of found;
   needs = requisites_of found ++ reasons_in holds;
   conds = conds_of found;

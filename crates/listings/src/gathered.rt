@@ -1,32 +1,27 @@
 //! All that a SYSMOD reaches, read once.
 ghost use Rattle.std.specs.Prelude.{◌≡◌, ◌++◌, ◌≤◌, ◌<◌, true, false, IfNone, IfOk, IfSome, IsSome, OnOk, length};
 ghost use Rattle.std.specs.BTreeMap.{insert_entry, keys, values};
-ghost use Rattle.catalogue.specs.Ids.{Ascend, id_cmp, in_order};
+ghost use Rattle.catalogue.specs.Ids.{id_cmp};
 ghost use Rattle.catalogue.specs.View.{IsOpen, MayAsk, Tells};
 ghost use Rattle.catalogue.specs.declared.fault.SourceFault.TheVariants.{Device};
 ghost use Rattle.listings.specs.Gathered as spec;
 ghost use Rattle.listings.specs.Gathered.{AreNamed, IsGathered, named_by};
-ghost use Rattle.listings.specs.Sights.{reasons_in};
 
 use crate::conditional::push_each_need;
 use crate::found::next_unread;
-use crate::indices::sort_each_once;
-use crate::listing::{append, push_reasons};
-use catalogue::{CondNeeds, Ids, Published, SourceFault, Sysmod};
-use holddata::Hold;
+use crate::indices::ascending;
+use crate::listing::{Entry, entry_from};
+use catalogue::{Ids, Published, SourceFault};
 use mcs_reader::{Id, NoMemory};
 use std::alloc::Global;
 use std::collections::BTreeMap;
 
-/// What is read of a SYSMOD that a frame has.
+/// What is read of a SYSMOD that another one reaches.
 #[derive(Debug, Drop)]
 pub struct Gathered {
-    pub catalogued: bool,
-    pub fmids: Ids,
-    pub needs: Ids,
-    pub conds: CondNeeds,
-    pub superseded: Ids,
-    // The SYSMODs that supersede it directly.
+    /// What is read of it.
+    pub entry: Entry,
+    /// The SYSMODs that supersede it directly.
     pub above: Ids,
 }
 
@@ -84,8 +79,8 @@ fn add(
     ensures found { OnOk result (found.new.entries ≡ insert_entry id_cmp found.old.entries id gathered) }
     ensures order { OnOk result (order.new.items ≡ order.old.items ++ named_by gathered) }
 {
-    order.extend_from_slice(gathered.needs.as_slice())?;
-    push_each_need(order, gathered.conds.as_slice())?;
+    order.extend_from_slice(gathered.entry.needs())?;
+    push_each_need(order, gathered.entry.conds().as_slice())?;
     order.extend_from_slice(gathered.above.as_slice())?;
     found.insert(id, gathered)?;
     Ok(())
@@ -104,57 +99,8 @@ fn gathered_of<P: Published>(
     let sysmod = source.sysmod(id)?;
     let holds = source.holds_on(id)?;
     let above = source.superseders(id)?;
-    Ok(gathered_from(alloc, sysmod, &holds, above)?)
-}
-
-fn gathered_from(
-    alloc: Global,
-    sysmod: Option<Sysmod>,
-    holds: &[Hold],
-    above: Vec<Id>,
-) -> Result<Gathered, NoMemory>
-    requires { Ascend above.items }
-    ensures { IfOk result (λ gathered. gathered ≡ spec.gathered_from sysmod holds.now above.items) }
-{
-    let above = ascending(above);
-    let Some(sysmod) = sysmod else {
-        return Ok(Gathered {
-            catalogued: false,
-            fmids: Ids::new(alloc),
-            needs: with_reasons(Vec::new(alloc), holds)?,
-            conds: CondNeeds::new(alloc),
-            superseded: Ids::new(alloc),
-            above,
-        });
-    };
-    let needs = append(sysmod.pre.into_vec(), sysmod.req.into_vec())?;
     Ok(Gathered {
-        catalogued: true,
-        fmids: sysmod.fmids,
-        needs: with_reasons(needs, holds)?,
-        conds: sysmod.conds,
-        superseded: sysmod.sup,
-        above,
+        entry: entry_from(alloc, sysmod, &holds)?,
+        above: ascending(above),
     })
-}
-
-// Requisites and the reasons of the ERROR holds, in ascending order, each once.
-fn with_reasons(requisites: Vec<Id>, holds: &[Hold]) -> Result<Ids, NoMemory>
-    ensures { IfOk result (λ needs. needs ≡ in_order (requisites.items ++ reasons_in holds.now)) }
-{
-    let mut needs = requisites;
-    push_reasons(&mut needs, holds)?;
-    sort_each_once(&mut needs)?;
-    Ok(ascending(needs))
-}
-
-/// Ids that ascend, each once, as a list of such. It takes no memory.
-pub fn ascending(ids: Vec<Id>) -> Ids
-    requires { Ascend ids.items }
-    ensures { result ≡ ids.items }
-{
-    match Ids::from_ascending(ids) {
-        Some(ids) => ids,
-        None => unreachable!(),
-    }
 }

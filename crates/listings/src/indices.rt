@@ -8,6 +8,7 @@ ghost use Rattle.listings.specs.Sights.{all_needs};
 
 use crate::conditional::push_each_need;
 use crate::listing::Entry;
+use catalogue::Ids;
 use mcs_reader::{Id, NoMemory};
 use std::alloc::Global;
 use supersede::index_among;
@@ -38,7 +39,7 @@ pub(crate) fn push_needs(all: &mut Vec<Id>, entries: &[Entry]) -> Result<(), NoM
 {
     for entry in entries {
         all.extend_from_slice(entry.needs())?;
-        push_each_need(all, entry.conds())?;
+        push_each_need(all, entry.conds().as_slice())?;
     }
     Ok(())
 }
@@ -126,4 +127,15 @@ pub fn id_at(members: &[Id], index: usize) -> Id
     ensures { result ≡ cuts.id_at members.now index }
 {
     members[index]
+}
+
+/// Ids that ascend, each once, as a list of such. It takes no memory.
+pub fn ascending(ids: Vec<Id>) -> Ids
+    requires { Ascend ids.items }
+    ensures { result ≡ ids.items }
+{
+    match Ids::from_ascending(ids) {
+        Some(ids) => ids,
+        None => unreachable!(),
+    }
 }

@@ -4,7 +4,8 @@
 //!   [`Listing::renewed`]: over a publication, by what that touches
 //! - [`ZoneNodes`]: the nodes of a zone; [`ZoneNodes::of_listing`]: by a listing; [`zone_nodes_of`]: from a source
 //! - [`there_marks`]: which ids are there in a zone; [`has_source`], [`source_at`]: what gives them
-//! - [`Gathered`]: what is read of an id that another reaches; [`gather`]: of all that one reaches, from a source
+//! - [`Entry`]: what is read of an id, and nothing else
+//! - [`Gathered`]: what is read of an id that another reaches, and what supersedes it; [`gather`]: of all that one reaches, from a source
 //! - [`Links`]: what these need and supersede, by index; [`givers_at`]: the ids that give one
 //! - [`ids_found`], [`next_unread`]: how a walk that reads goes on
 //! - [`index_of`], [`put_indices`], [`id_at`], [`ids_at`]: ids by their indices in a list that ascends
@@ -29,10 +30,10 @@ mod zone_nodes;
 
 pub use conditional::push_indices_where;
 pub use found::{ids_found, next_unread};
-pub use gathered::{Gathered, ascending, gather};
-pub use indices::{do_ascend, id_at, ids_at, index_of, put_indices, sort_each_once};
+pub use gathered::{Gathered, gather};
+pub use indices::{ascending, do_ascend, id_at, ids_at, index_of, put_indices, sort_each_once};
 pub use links::{Links, givers_at};
-pub use listing::{Listing, is_any_installed, listing_of};
+pub use listing::{Entry, Listing, is_any_installed, listing_of};
 pub use reading::zone_nodes_of;
 pub use renewing::is_marked;
 pub use zone_nodes::{ZoneNodes, has_source, source_at, there_marks};

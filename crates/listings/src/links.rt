@@ -7,8 +7,8 @@ ghost use Rattle.requisites.specs.Leads.{Leads};
 ghost use Rattle.listings.specs.Indices.{AreIndexed};
 ghost use Rattle.listings.specs.Links.{IsAbove, IsGiverAt, is_catalogued_at};
 
-use crate::gathered::{Gathered, ascending};
-use crate::indices::{ids_at, put_indices};
+use crate::gathered::Gathered;
+use crate::indices::{ascending, ids_at, put_indices};
 use catalogue::Ids;
 use mcs_reader::{Id, NoMemory};
 use requisites::Rows;
@@ -29,9 +29,10 @@ impl Links {
     pub fn of(alloc: Global, ids: &[Id], all: &[Gathered]) -> Result<Links, NoMemory>
         requires ascend { Ascend ids.now }
         requires len { length all.now ≡ length ids.now }
-        ensures needs { IfOk result (λ links. AreIndexed ids.now (map (λ g. g.needs) all.now) links.needs) }
+        ensures needs { IfOk result
+            (λ links. AreIndexed ids.now (map (λ g. g.entry.needs) all.now) links.needs) }
         ensures supersedes { IfOk result
-            (λ links. AreIndexed ids.now (map (λ g. g.superseded) all.now) links.supersedes) }
+            (λ links. AreIndexed ids.now (map (λ g. g.entry.superseded) all.now) links.supersedes) }
         ensures above { IfOk result (λ links. AreIndexed ids.now (map (λ g. g.above) all.now) links.above) }
     {
         let mut needs = Rows::new(alloc);
@@ -39,9 +40,9 @@ impl Links {
         let mut above = Rows::new(alloc);
         let mut indices = Vec::new(alloc);
         for (index, gathered) in all.iter().enumerate() {
-            put_indices(&mut indices, ids, index + 1, gathered.needs.as_slice())?;
+            put_indices(&mut indices, ids, index + 1, gathered.entry.needs())?;
             needs.push_row(&indices)?;
-            put_indices(&mut indices, ids, index + 1, gathered.superseded.as_slice())?;
+            put_indices(&mut indices, ids, index + 1, gathered.entry.superseded())?;
             supersedes.push_row(&indices)?;
             put_indices(&mut indices, ids, index + 1, gathered.above.as_slice())?;
             above.push_row(&indices)?;
@@ -125,7 +126,7 @@ fn is_catalogued(all: &[Gathered], index: usize) -> bool
     ensures { result ≡ is_catalogued_at all.now index }
 {
     match all.get(index) {
-        Some(gathered) => gathered.catalogued,
+        Some(gathered) => gathered.entry.is_catalogued(),
         None => false,
     }
 }

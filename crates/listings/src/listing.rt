@@ -3,7 +3,7 @@ ghost use Rattle.std.specs.Prelude.{◌≡◌, ◌<◌, ◌≤◌, ◌++◌, len
 ghost use Rattle.std.specs.List.{list_any};
 ghost use Rattle.zone_lists.specs.Installed.{is_installed};
 ghost use Rattle.catalogue.specs.Content.{Content, ids_of, superseders};
-ghost use Rattle.catalogue.specs.Ids.{Ascend};
+ghost use Rattle.catalogue.specs.Ids.{Ascend, in_order};
 ghost use Rattle.catalogue.specs.View.{MayAsk, Tells};
 ghost use Rattle.catalogue.specs.declared.fault.SourceFault.TheVariants.{Device};
 ghost use Rattle.supersede.specs.Giving.{is_candidate};
@@ -12,11 +12,10 @@ ghost use Rattle.listings.specs.Marks.{IsListingBut, SaysOf, sight_seen};
 ghost use Rattle.listings.specs.Sights.{IsListing, reasons_in, sight_from, sight_of, unseen};
 ghost use Rattle.listings.specs.Superseders.{AreSuperseders};
 
-use crate::gathered::ascending;
-use crate::indices::{ids_at, index_of, sort_each_once};
+use crate::indices::{ascending, ids_at, index_of, sort_each_once};
 use crate::renewing::{found_entries, ids_now, unmarked_entries, woven};
 use crate::superseders::Superseders;
-use catalogue::{CondNeed, CondNeeds, Ids, Published, Seen, SourceFault, Sysmod};
+use catalogue::{CondNeeds, Ids, Published, Seen, SourceFault, Sysmod};
 use holddata::{Hold, Kind};
 use mcs_reader::{Id, NoMemory};
 use std::alloc::Global;
@@ -25,7 +24,8 @@ use supersede::Zone;
 
 /// What is read of a SYSMOD. A contract sees it with its lists.
 #[derive(Debug, Drop)]
-pub(crate) struct Entry {
+pub struct Entry {
+    catalogued: bool,
     fmids: Ids,
     needs: Vec<Id>,
     conds: CondNeeds,
@@ -38,6 +38,7 @@ impl Model for Entry {
     ghost Value = { Sight };
 
     ghost view = { λ entry. record {
+      catalogued = entry.catalogued;
       fmids = entry.fmids;
       needs = entry.needs.items;
       conds = entry.conds;
@@ -51,6 +52,7 @@ impl Entry {
         ensures { result ≡ unseen }
     {
         Entry {
+            catalogued: false,
             fmids: Ids::new(alloc),
             needs: Vec::new(alloc),
             conds: CondNeeds::new(alloc),
@@ -65,21 +67,49 @@ impl Entry {
         is_any_installed(zone, &self.fmids)
     }
 
-    /// What it needs in every zone.
-    pub(crate) fn needs(&self) -> &[Id]
+    /// Whether it is catalogued.
+    pub fn is_catalogued(&self) -> bool
+        ensures { result ≡ self.now.catalogued }
+    {
+        self.catalogued
+    }
+
+    /// The functions that it is for. What isn't catalogued has none.
+    pub fn fmids(&self) -> &Ids
+        ensures { result.now ≡ self.now.fmids }
+    {
+        &self.fmids
+    }
+
+    /// What it needs in every zone, as it is read: its PRE, its REQ and the reasons of the ERROR holds on it.
+    pub fn needs(&self) -> &[Id]
         ensures { result.now ≡ self.now.needs }
     {
         self.needs.as_slice()
     }
 
-    /// What it needs where a function is installed.
-    pub(crate) fn conds(&self) -> &[CondNeed]
-        ensures { result.now ≡ self.now.conds }
+    /// The same, ascending, each once.
+    ///
+    /// # Errors
+    ///
+    /// `NoMemory` where memory ran out.
+    pub fn needs_in_order(&self, alloc: Global) -> Result<Ids, NoMemory>
+        ensures { IfOk result (λ needs. needs ≡ in_order self.now.needs) }
     {
-        self.conds.as_slice()
+        let mut needs = Vec::from_slice(alloc, &self.needs)?;
+        sort_each_once(&mut needs)?;
+        Ok(ascending(needs))
     }
 
-    pub(crate) fn superseded(&self) -> &[Id]
+    /// What it needs where a function is installed.
+    pub fn conds(&self) -> &CondNeeds
+        ensures { result.now ≡ self.now.conds }
+    {
+        &self.conds
+    }
+
+    /// What it supersedes directly.
+    pub fn superseded(&self) -> &[Id]
         ensures { result.now ≡ self.now.superseded }
     {
         self.superseded.as_slice()
@@ -97,7 +127,7 @@ pub struct Listing {
 
 impl Model for Listing {
     ghost use Rattle.std.specs.Prelude.{◌≡◌, length};
-    ghost use Rattle.catalogue.specs.Ids.{Ascend};
+    ghost use Rattle.catalogue.specs.Ids.{Ascend, in_order};
     ghost use Rattle.listings.specs.Sights.{ListingLists};
     ghost use Rattle.listings.specs.Superseders.{AreSuperseders};
 
@@ -283,13 +313,19 @@ pub(crate) fn push_entries(
     Ok(())
 }
 
-fn entry_from(alloc: Global, sysmod: Option<Sysmod>, holds: &[Hold]) -> Result<Entry, NoMemory>
+/// What is read of an id, by its record and the holds on it.
+pub(crate) fn entry_from(
+    alloc: Global,
+    sysmod: Option<Sysmod>,
+    holds: &[Hold],
+) -> Result<Entry, NoMemory>
     ensures { IfOk result (λ entry. entry ≡ sight_from sysmod holds.now) }
 {
     let Some(sysmod) = sysmod else {
         let mut needs = Vec::new(alloc);
         push_reasons(&mut needs, holds)?;
         return Ok(Entry {
+            catalogued: false,
             fmids: Ids::new(alloc),
             needs,
             conds: CondNeeds::new(alloc),
@@ -299,6 +335,7 @@ fn entry_from(alloc: Global, sysmod: Option<Sysmod>, holds: &[Hold]) -> Result<E
     let mut needs = append(sysmod.pre.into_vec(), sysmod.req.into_vec())?;
     push_reasons(&mut needs, holds)?;
     Ok(Entry {
+        catalogued: true,
         fmids: sysmod.fmids,
         needs,
         conds: sysmod.conds,
@@ -306,8 +343,8 @@ fn entry_from(alloc: Global, sysmod: Option<Sysmod>, holds: &[Hold]) -> Result<E
     })
 }
 
-/// The ids of two lists, one after the other. It takes no memory where the first is empty.
-pub(crate) fn append(mut first: Vec<Id>, second: Vec<Id>) -> Result<Vec<Id>, NoMemory>
+// The ids of two lists, one after the other. It takes no memory where the first is empty.
+fn append(mut first: Vec<Id>, second: Vec<Id>) -> Result<Vec<Id>, NoMemory>
     ensures { IfOk result (λ both. both.items ≡ first.items ++ second.items) }
 {
     if first.is_empty() {
@@ -324,8 +361,8 @@ pub fn is_any_installed(zone: &Zone, fmids: &Ids) -> bool
     fmids.as_slice().iter().any(|fmid| zone.installed(fmid))
 }
 
-/// Adds the reasons of the ERROR holds.
-pub(crate) fn push_reasons(needs: &mut Vec<Id>, holds: &[Hold]) -> Result<(), NoMemory>
+// Adds the reasons of the ERROR holds.
+fn push_reasons(needs: &mut Vec<Id>, holds: &[Hold]) -> Result<(), NoMemory>
     ensures { OnOk result (needs.new.items ≡ needs.old.items ++ reasons_in holds.now) }
 {
     for hold in holds {

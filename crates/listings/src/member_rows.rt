@@ -124,6 +124,6 @@ pub(crate) fn put_needs(
     ensures { OnOk result (AreIndicesOf members.now (needs_seen zone.now entry.now) indices.new.items) }
 {
     put_indices(indices, members, first, entry.needs())?;
-    push_indices_where(indices, members, zone, entry.conds())?;
+    push_indices_where(indices, members, zone, entry.conds().as_slice())?;
     Ok(())
 }

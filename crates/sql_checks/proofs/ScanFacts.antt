@@ -31,9 +31,8 @@ use Rattle.sql_checks.proofs.OursFacts.{ours}
 use Rattle.sql_checks.specs.Checked.{Finds, IsFound, IsRowSeen, IsSeen, Looks, TellsVersion2, WrongIn}
 use Rattle.sql_checks.specs.declared.checking.Finding.{Finding}
 use Rattle.sql_checks.specs.declared.checking.Finding.TheVariants.{Whole, OtherTables, OtherVersion, WrongRow}
-use Rattle.sql_checks.specs.Kept.{AreKept, KeepTo, KeepsTo, all_of, indices_in, names_in, rows_in, table_of}
+use Rattle.sql_checks.specs.Kept.{KeepTo, KeepsTo, all_of, indices_in, names_in, rows_in, table_of}
 use Rattle.sql_checks.specs.declared.table.StoreTable.{StoreTable}
-use Rattle.sql_checks.specs.declared.table.StoreTable.TheVariants.{Caller, LastChange, Sysmod, SysmodSup, SysmodCond, HoldRow, ZoneHead, ZoneRow, ReceivedList}
 
 -- ---- one look after another
 
@@ -148,20 +147,6 @@ version_told text reads old new rows seen same answers is told = record {
 }
 
 -- ---- all tables
-
-abbrev all_tables : List StoreTable
-all_tables = Caller ∷ LastChange ∷ Sysmod ∷ SysmodSup ∷ SysmodCond ∷ HoldRow ∷ ZoneHead ∷ ZoneRow ∷ ReceivedList ∷ []
-
-pub all_kept : (stored : Stored) → AllByRecursion (λ table. KeepTo table stored) all_tables → AreKept stored
-all_kept stored all Caller = all.0
-all_kept stored all LastChange = all.1.0
-all_kept stored all Sysmod = all.1.1.0
-all_kept stored all SysmodSup = all.1.1.1.0
-all_kept stored all SysmodCond = all.1.1.1.1.0
-all_kept stored all HoldRow = all.1.1.1.1.1.0
-all_kept stored all ZoneHead = all.1.1.1.1.1.1.0
-all_kept stored all ZoneRow = all.1.1.1.1.1.1.1.0
-all_kept stored all ReceivedList = all.1.1.1.1.1.1.1.1.0
 
 -- one table more
 pub wrong_more : (stored : Stored) (table : StoreTable) (rest tables : List StoreTable) → tables ≡ table ∷ rest → KeepTo table stored → (found : Option StoreTable) → WrongIn rest stored found → WrongIn tables stored found

@@ -81,21 +81,7 @@ fn wrong_row<S: Alter>(alloc: Global, conn: &mut Connection<S>) -> Result<Findin
     ensures cause { IfErr result (λ fault. fault ≡ ReadFault.Device → HasCleanDisk (state S.Store conn.new)
         → IsCausedBy AreUnseen (state S.Store conn.old) (state S.Store conn.new)) }
 {
-    match wrong_among(
-        alloc,
-        conn,
-        &[
-            StoreTable::Caller,
-            StoreTable::LastChange,
-            StoreTable::Sysmod,
-            StoreTable::SysmodSup,
-            StoreTable::SysmodCond,
-            StoreTable::HoldRow,
-            StoreTable::ZoneHead,
-            StoreTable::ZoneRow,
-            StoreTable::ReceivedList,
-        ],
-    ) {
+    match wrong_among(alloc, conn, &StoreTable::all()) {
         Ok(Some(table)) => Ok(Finding::WrongRow(table)),
         Ok(None) => Ok(Finding::Whole),
         Err(fault) => Err(fault),

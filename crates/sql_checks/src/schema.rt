@@ -5,7 +5,8 @@ ghost use Rattle.sql_checks.specs.Shapes.{index_of_shape, table_of_shape};
 ghost use Rattle.sql_texts.specs.Schema.{bureau, column_of};
 
 use crate::rules::has_rule;
-use crate::shapes::{IndexShape, TableShape, indexes, tables};
+use crate::shapes::{IndexShape, TableShape};
+use crate::table::{indexes, tables};
 use sqlite_items::Items;
 use sqlite_schema::schema::{Column, Index, Kind, Schema, Table};
 use sqlite_value::keys::{Collation, Order};

@@ -1,23 +1,29 @@
-//! The tables of a store whose rows are looked through.
-ghost use Rattle.std.specs.Prelude.{◌≡◌, ◌↔◌, false, IfErr, IsTrue};
+//! The tables of a store, each with all that a check knows of it in a file of its own.
+ghost use Rattle.std.specs.Prelude.{◌≡◌, ◌↔◌, false, map, IfErr, IsTrue};
+ghost use Rattle.std.specs.List.{AllByRecursion};
 ghost use Rattle.sqlite.specs.Held.{state};
 ghost use Rattle.sqlite.specs.State.{HasCleanDisk};
 ghost use Rattle.sql_checks.specs.Checked.{Looks};
-ghost use Rattle.sql_checks.specs.Kept.{KeepTo, table_name};
+ghost use Rattle.sql_checks.specs.Kept.{AreKept, KeepTo, table_name};
 ghost use Rattle.sql_checks.specs.Refused.{IsCausedBy, IsUnshown, of_rows};
+ghost use Rattle.sql_checks.specs.Shapes.{index_of_shape, table_of_shape};
 ghost use Rattle.sql_state.specs.Ours.{held_by};
+ghost use Rattle.sql_tables.specs.Stored.{Stored};
+ghost use Rattle.sql_texts.specs.Schema as made;
 
-pub(crate) mod caller;
-pub(crate) mod hold_row;
-pub(crate) mod last_change;
-pub(crate) mod received_list;
-pub(crate) mod sysmod;
-pub(crate) mod sysmod_cond;
-pub(crate) mod sysmod_sup;
-pub(crate) mod zone_head;
-pub(crate) mod zone_row;
+mod bureau_version;
+mod caller;
+mod hold_row;
+mod last_change;
+mod received_list;
+mod sysmod;
+mod sysmod_cond;
+mod sysmod_sup;
+mod zone_head;
+mod zone_row;
 
-use crate::checked::rows_keep;
+use crate::checked::{Checked, rows_keep};
+use crate::shapes::{IndexShape, TableShape, index};
 use caller::Callers;
 use hold_row::HoldRows;
 use last_change::LastChanges;
@@ -55,6 +61,23 @@ pub enum StoreTable {
 }
 
 impl StoreTable {
+    /// All of them.
+    pub(crate) fn all() -> [StoreTable; 9]
+        ensures { (stored : Stored) → AllByRecursion (λ table. KeepTo table stored) result → AreKept stored }
+    {
+        [
+            StoreTable::Caller,
+            StoreTable::LastChange,
+            StoreTable::Sysmod,
+            StoreTable::SysmodSup,
+            StoreTable::SysmodCond,
+            StoreTable::HoldRow,
+            StoreTable::ZoneHead,
+            StoreTable::ZoneRow,
+            StoreTable::ReceivedList,
+        ]
+    }
+
     /// The name of the table in the database.
     pub fn name(self) -> &'static str
         ensures { result.now ≡ table_name self }
@@ -86,7 +109,8 @@ impl StoreTable {
         ensures mode { conn.new.in_transaction ≡ false }
         ensures looks { Looks (state S.Store conn.old) (state S.Store conn.new) result
             (λ database keeps. IsTrue keeps ↔ KeepTo self (held_by database)) }
-        ensures cause { IfErr result (λ fault. fault ≡ ReadFault.Device → HasCleanDisk (state S.Store conn.new)
+        ensures cause { IfErr result (λ fault. fault ≡ ReadFault.Device
+            → HasCleanDisk (state S.Store conn.new)
             → IsCausedBy (IsUnshown (of_rows self)) (state S.Store conn.old) (state S.Store conn.new)) }
     {
         match self {
@@ -101,4 +125,41 @@ impl StoreTable {
             StoreTable::ReceivedList => rows_keep::<ReceivedLists, S>(alloc, conn),
         }
     }
+}
+
+/// The tables of version 2, as the bureau makes them.
+pub(crate) fn tables() -> [TableShape; 10]
+    ensures { map table_of_shape result ≡ made.tables }
+{
+    [
+        bureau_version::shape(),
+        Callers::shape(),
+        LastChanges::shape(),
+        Sysmods::shape(),
+        SysmodSups::shape(),
+        HoldRows::shape(),
+        ZoneHeads::shape(),
+        ZoneRows::shape(),
+        ReceivedLists::shape(),
+        SysmodConds::shape(),
+    ]
+}
+
+/// The indexes of all keys, and that by which superseders are found.
+pub(crate) fn indexes() -> [IndexShape; 11]
+    ensures { map index_of_shape result ≡ made.indexes }
+{
+    [
+        index("sqlite_autoindex_caller_1", 2, 1, &[1], true),
+        index("sqlite_autoindex_caller_2", 3, 1, &[2], true),
+        index("sqlite_autoindex_last_change_1", 5, 4, &[1], true),
+        index("sqlite_autoindex_sysmod_1", 7, 6, &[1], true),
+        index("sqlite_autoindex_sysmod_sup_1", 9, 8, &[1, 2], true),
+        index("by_member", 10, 8, &[2, 1], false),
+        index("sqlite_autoindex_hold_row_1", 12, 11, &[1, 2, 3], true),
+        index("sqlite_autoindex_zone_head_1", 14, 13, &[1, 2], true),
+        index("sqlite_autoindex_zone_row_1", 16, 15, &[1, 2, 3], true),
+        index("sqlite_autoindex_received_list_1", 18, 17, &[1], true),
+        index("sqlite_autoindex_sysmod_cond_1", 20, 19, &[1, 2, 3], true),
+    ]
 }

@@ -1,4 +1,4 @@
-//! Reads over two tables: superseders that are catalogued, the rows of a zone that is there, and holds on what is installed.
+//! Reads over two tables: superseders that are catalogued, rows of a zone that is there, holds on what is installed.
 ghost use Rattle.std.specs.Prelude.{◌≡◌, false, option_map, IfOk, IfSome};
 ghost use Rattle.bureau_store.specs.Held.{held_in};
 ghost use Rattle.bureau_store.specs.Tables as tables;

@@ -1,5 +1,5 @@
 use Rattle.std.proofs.Common.{refl}
-use Rattle.sql_checks.proofs.shapes.indexes.Goals as goal
+use Rattle.sql_checks.proofs.table.indexes.Goals as goal
 
 pub returns : goal.returns
 returns c =
