@@ -1,5 +1,8 @@
 -- What is so of short lists, whatever they have, is shown for each length.
-use Rattle.std.proofs.Common.{◌≡◌, ◌≤◌, List, [], ◌∷◌, length, arith}
+use Rattle.std.proofs.Common.{◌≡◌, ◌≤◌, ◌+◌, ◌*◌, ℕ, List, [], ◌∷◌, true, length, subst, sym, arith}
+use Rattle.std.specs.Prelude.{nat_le}
+use Rattle.std.proofs.Math.Nat.{mul-le-mul_left}
+use Rattle.std.proofs.lemmas.Bool.Decides.{nat_tests}
 
 module _ {X : Type 0} (P : List X → Type 0) where
   pub one_only : ((a : X) → P (a ∷ [])) → (xs : List X) → length xs ≡ 1 → P xs
@@ -20,3 +23,16 @@ module _ {X : Type 0} (P : List X → Type 0) where
   up_to_eight p0 p1 p2 p3 p4 p5 p6 p7 p8 (a ∷ b ∷ c ∷ d ∷ e ∷ f ∷ g ∷ []) low = p7 a b c d e f g
   up_to_eight p0 p1 p2 p3 p4 p5 p6 p7 p8 (a ∷ b ∷ c ∷ d ∷ e ∷ f ∷ g ∷ h ∷ []) low = p8 a b c d e f g h
   up_to_eight p0 p1 p2 p3 p4 p5 p6 p7 p8 (a ∷ b ∷ c ∷ d ∷ e ∷ f ∷ g ∷ h ∷ k ∷ more) low = absurd (omega (arith, low))
+
+-- how many parameters a key and so many things have, where the greatest number of things has few enough
+pub room_of : (shared own count most : ℕ) → count ≤ most → nat_le (shared + own * most) 40 ≡ true → shared + own * count ≤ 40
+room_of shared own count most low few =
+    let fewer : own * count ≤ own * most = mul-le-mul_left own low in
+    let all : shared + own * most ≤ 40 = grind (arith, nat_tests, few) in
+    omega (arith, fewer, all)
+
+pub room_of_one : (shared own count : ℕ) → count ≡ 1 → nat_le (shared + own) 40 ≡ true → shared + own * count ≤ 40
+room_of_one shared own count is few =
+    let all : shared + own ≤ 40 = grind (arith, nat_tests, few) in
+    let one : own * 1 ≡ own = omega arith in
+    subst (λ n. shared + own * n ≤ 40) (sym is) (omega (arith, one, all))

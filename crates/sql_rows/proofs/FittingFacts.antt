@@ -22,6 +22,16 @@ use Rattle.sqlite_sql.specs.declared.ops.CompareOp.TheVariants.{Ge, Gt, Le}
 use Rattle.sqlite_trees.specs.View.{IsStorable}
 use Rattle.sqlite_value.proofs.OrderLemmas.{value_cmp-Int}
 use Rattle.sqlite_value.specs.Order.{number}
+use Rattle.mcs_reader.specs.Id.{IsId, text_of}
+use Rattle.mcs_reader.proofs.IdFacts.{text_is_few}
+use Rattle.holddata.specs.HoldKey.{kind_order}
+use Rattle.holddata.specs.declared.key.Kind.{Kind}
+use Rattle.holddata.specs.declared.key.Kind.TheVariants.{ErrorHold, FixcatHold, SystemHold, UserHold}
+use Rattle.catalogue.specs.declared.sysmod.SysmodKind.{SysmodKind}
+use Rattle.catalogue.specs.declared.sysmod.SysmodKind.TheVariants.{Apar, Func, Ptf, Usermod}
+use Rattle.zone_lists.specs.declared.zones.ZoneState.{ZoneState}
+use Rattle.zone_lists.specs.declared.zones.ZoneState.TheVariants.{Accepted, Applied, Superseded}
+use Rattle.sql_tables.specs.Values.{state_order, sysmod_kind_order}
 use Rattle.sql_texts.specs.Schema as schema
 use Rattle.sql_rows.specs.Fitting.{IsFitting}
 use Rattle.sql_rows.proofs.StatementFacts.{cast_int, cast_null}
@@ -48,6 +58,28 @@ untyped c one = let none = bit_at-zero c in omega (arith, one, none)
 plain_blob : (b : List ℕ) → NotNan (number (Blob b))
 unfolding is_nan
 plain_blob b = tt
+
+-- ---- lengths and numbers
+
+pub few : (id : List ℕ) → IsId id → length (text_of id) ≤ 7
+few id is = text_is_few (text_of id) is.0
+
+pub kind_low : (kind : Kind) → kind_order kind ≤ 3
+kind_low ErrorHold = omega arith
+kind_low SystemHold = omega arith
+kind_low UserHold = omega arith
+kind_low FixcatHold = omega arith
+
+pub sysmod_kind_low : (kind : SysmodKind) → sysmod_kind_order kind ≤ 3
+sysmod_kind_low Func = omega arith
+sysmod_kind_low Ptf = omega arith
+sysmod_kind_low Apar = omega arith
+sysmod_kind_low Usermod = omega arith
+
+pub state_low : (state : ZoneState) → state_order state ≤ 2
+state_low Applied = omega arith
+state_low Accepted = omega arith
+state_low Superseded = omega arith
 
 -- ---- rows and entries of texts that are short together
 

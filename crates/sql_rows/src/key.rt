@@ -32,6 +32,7 @@ pub trait Key {
 
     /// The key as it is bound to the first parameters of a text.
     fn params<'a>(&'a self) -> [ValueRef<'a>; 3]
+        ensures long { length result ≡ 3 }
         ensures bound { bound (take parameters result) ≡ values self.now }
         ensures fit { is_fit self.now };
 

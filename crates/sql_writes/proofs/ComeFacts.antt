@@ -2,7 +2,6 @@
 use Rattle.std.proofs.Common.{◌≡◌, ℕ, pos, List, [], ◌∷◌, Option, Some, None, Result, refl, ◌∙◌, ap, subst, arith}
 use Rattle.holddata.specs.HoldKey.{kind_order}
 use Rattle.holddata.specs.declared.hold.Hold.{Hold}
-use Rattle.catalogue.specs.declared.conditional.CondNeed.{CondNeed}
 use Rattle.bureau_store.specs.Tables.{LastChange}
 use Rattle.bureau_store.specs.declared.caller.CallerRow.{CallerRow}
 use Rattle.sqlite.specs.Cast.{cast}
@@ -17,11 +16,11 @@ use Rattle.sql_texts.specs.Meaning.{Means}
 use Rattle.sql_texts.specs.Schema as schema
 use Rattle.sql_texts.specs.Schema.{bureau}
 use Rattle.sql_texts.specs.Writes.{insert_given}
-use Rattle.sql_tables.specs.Rows.{caller_row, change_row, cond_row, head_row, hold_row, received_row}
+use Rattle.sql_tables.specs.Rows.{caller_row, change_row, head_row, hold_row, received_row}
 use Rattle.sql_tables.specs.Values.{date_value, hold_kind_value, id_value, ids_value, optional_id_value, texts_value}
 use Rattle.sql_state.specs.Ours.{held_by}
 use Rattle.sql_state.specs.Writing.{Changes}
-use Rattle.sql_writes.specs.Parts.{with_callers, with_conds, with_head, with_hold, with_last, with_received}
+use Rattle.sql_writes.specs.Parts.{with_callers, with_head, with_hold, with_last, with_received}
 use Rattle.sql_rows.specs.Running.{Ran}
 use Rattle.sql_rows.proofs.ChangeFacts.{changed_by}
 use Rattle.sql_rows.proofs.StatementFacts.{cast_int, cast_null, inserts}
@@ -69,18 +68,6 @@ module _ {A F : Type 0} (old new : State) (text : List ℕ) (result : Result A F
       let set = inserts text 1 schema.caller 2 values values old new count (means clean) refl refl refl (λ i. cast_null i ∷ caller_row caller) known.schema known.numbered.1.0 executes in (
         known_after 1 _ old.now new.now known.numbered set,
         held_set 1 _ old.now new.now set ∙ ap (λ all. record (held_by old.now) { callers = all }) (come rows (Int (next_rowid rows) ∷ values)),
-        set.others.0 (λ e. omega (arith, e)),
-      ))
-
-  pub conds_come : (id : List ℕ) (cond : CondNeed) (a b c : ValueRef) → owned a ≡ id_value id → owned b ≡ id_value cond.fmid → owned c ≡ id_value cond.need
-      → (HasCleanDisk old → Means bureau text (insert_given 9 3) 3) → Ran text (bound (a ∷ b ∷ c ∷ [])) old new result → Changes old new result (with_conds id (cond ∷ []))
-  conds_come id cond a b c at_a at_b at_c means ran =
-      let rows = old.now.trees 19 in
-      let values = cond_row id cond in
-      changed_by old new text values result (with_conds id (cond ∷ [])) (subst (λ row. Ran text row old new result) (λ i. bound_value (at_a i) ∷ bound_value (at_b i) ∷ bound_value (at_c i) ∷ []) ran) (λ clean count known executes.
-      let set = inserts text 9 schema.sysmod_cond 3 values values old new count (means clean) refl refl refl (λ i. cast_null i ∷ cond_row id cond) known.schema known.numbered.1.1.1.1.1.1.1.1.1.0 executes in (
-        known_after 19 _ old.now new.now known.numbered set,
-        held_set 19 _ old.now new.now set ∙ ap (λ all. record (held_by old.now) { conds = all }) (come rows (Int (next_rowid rows) ∷ values)),
         set.others.0 (λ e. omega (arith, e)),
       ))
 

@@ -1,5 +1,5 @@
 -- What a read in a transaction tells: whether a key has rows, and whether a client has a zone.
-use Rattle.std.proofs.Common.{◌≡◌, ℕ, zero, suc, ◌==◌, Bool, true, false, List, [], ◌∷◌, Result, Ok, refl, sym, ◌∙◌, ap, subst, ◌++◌, arith, cond}
+use Rattle.std.proofs.Common.{◌≡◌, ℕ, zero, suc, ◌==◌, Bool, false, List, [], ◌∷◌, Result, Ok, refl, sym, ◌∙◌, ap, subst, ◌++◌, arith, cond}
 use Rattle.std.specs.Prelude.{drop, filter, length, map, not}
 use Rattle.std.specs.List.{list_any}
 use Rattle.std.proofs.lemmas.Bool.Decides.{nat_tests}
@@ -72,19 +72,8 @@ module _ (index : ℕ) (table : Table) (rows : Stored → List Row) (with_rows :
 
 -- ---- whether a client has a zone
 
-head_kept_here : (client zone : List ℕ) (heads : List Row) → list_any (is_of_both client zone) heads ≡ true → heads ≡ with_head client zone heads
-head_kept_here client zone heads here = sym (ap (λ b. cond b heads (heads ++ head_row client zone [] ∷ [])) here)
-
 head_added_here : (client zone : List ℕ) (heads : List Row) → list_any (is_of_both client zone) heads ≡ false → heads ++ head_row client zone [] ∷ [] ≡ with_head client zone heads
 head_added_here client zone heads none = sym (ap (λ b. cond b heads (heads ++ head_row client zone [] ∷ [])) none)
-
--- the head stays
-pub head_kept : {A B F : Type 0} (old mid : State) (client zone : List ℕ) (a : A) (b : B) → Changes {Fault = F} old mid (Ok a) (λ stored. stored)
-    → (HasCleanDisk mid → IsKnown old.now → list_any (is_of_both client zone) (held_by old.now).heads ≡ true)
-    → Changes {Fault = F} old mid (Ok b) (λ stored. record stored { heads = with_head client zone stored.heads })
-head_kept old mid client zone a b h here =
-    alike_here old mid (Ok b) (λ stored. stored) (λ stored. record stored { heads = with_head client zone stored.heads })
-    (λ clean known. ap (λ heads. record (held_by old.now) { heads = heads }) (head_kept_here client zone (held_by old.now).heads (here clean known))) (told old mid a b (λ stored. stored) h)
 
 -- the head comes
 pub head_added : {A B E F : Type 0} (old mid new : State) (client zone : List ℕ) (a : A) (result : Result B F) → Changes {Fault = E} old mid (Ok a) (λ stored. stored)

@@ -35,6 +35,8 @@ use Rattle.sql_tables.specs.Values.{hold_kind_value, id_value}
 use Rattle.sql_tables.proofs.ValueFacts.{named_value}
 use Rattle.sql_writes.specs.Excused.{Takes}
 use Rattle.sql_rows.specs.Parts.{is_of_three}
+use Rattle.sql_writes.specs.Many.{AreNewInPlace}
+use Rattle.sql_writes.proofs.AlikeFacts.{each_new}
 use Rattle.sql_writes.specs.Parts.{with_conds, with_rows, without_conds, without_head, without_hold, without_last, without_received, without_rows}
 use Rattle.sql_rows.specs.Running.{FailsInside, Ran}
 use Rattle.sql_rows.proofs.AbsentFacts.{gone_and_come, gone_now, none_before}
@@ -124,3 +126,13 @@ next_row client zone rows i row are low at stored =
     (λ one h. of_two client zone row.sysmod one h) stored.rows (zone_row client zone) (take i rows) (λ other here h.
     let same = named other.sysmod row.sysmod (all_has (λ r. IsId r.sysmod) rows other are.ids (taken_has i rows other here)) (and_parts _ _ (and_parts _ _ h).1).1 in
     none_before (λ a b. id_cmp a.sysmod b.sysmod) rows (ascend_so id_cmp (λ (r : ZoneRow). r.sysmod) rows are.ascend) i row low at other here (same_order other.sysmod row.sysmod same))
+
+-- ---- where those of a key went, a list in order is new
+
+pub rows_new : (client zone : List ℕ) (rows : List ZoneRow) → AreZoneRows rows → AreNewInPlace (λ row. is_of_three client zone row.sysmod) (zone_row client zone) rows (is_of_both client zone) (λ stored. stored.rows)
+rows_new client zone rows are stored =
+    each_new (λ row. is_of_three client zone row.sysmod) (zone_row client zone) rows (without_rows client zone stored).rows (λ i row low at. next_row client zone rows i row are low at stored)
+
+pub conds_new : (id : List ℕ) (conds : List CondNeed) → AllByRecursion IsCond conds → CondsAscend conds → AreNewInPlace (λ cond. is_of_three id cond.fmid cond.need) (cond_row id) conds (is_of id) (λ stored. stored.conds)
+conds_new id conds ids up stored =
+    each_new (λ cond. is_of_three id cond.fmid cond.need) (cond_row id) conds (without_conds id stored).conds (λ i cond low at. next_cond id conds i cond ids up low at stored)

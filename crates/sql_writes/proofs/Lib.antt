@@ -23,10 +23,9 @@ pub mod RefusalFacts
 pub mod RoomFacts
 pub mod RuleFacts
 pub mod RunFacts
+pub mod SeveralFacts
 pub mod SoundFacts
 pub mod StepFacts
-pub mod SupFacts
 pub mod TakeFacts
 pub mod TogetherFacts
 pub mod WhereFacts
-pub mod ZoneRowFacts

@@ -2,19 +2,12 @@
 use Rattle.std.proofs.Common.{ℕ, List, [], ◌∷◌, refl, sym, ap}
 use Rattle.std.specs.Prelude.{fold}
 use Rattle.std.proofs.lemmas.List.Sums.{fold_push}
-use Rattle.std.proofs.lemmas.List.{append-nil, map-append}
-use Rattle.sql_tables.specs.Rows.{caller_row, cond_row}
+use Rattle.std.proofs.lemmas.List.{map-append}
+use Rattle.sql_tables.specs.Rows.{caller_row}
 use Rattle.sql_tables.specs.Changes as changes
 use Rattle.sql_tables.specs.Changes.{published, replaced, without_caller}
-use Rattle.sql_tables.specs.Stored.{is_of}
-use Rattle.sql_rows.proofs.TurnFacts.{ComesInTurn, in_turn}
-use Rattle.sql_writes.specs.Parts.{with_callers, with_conds, without_callers, without_conds}
-
-pub conds_turn : (id : List ℕ) → ComesInTurn (without_conds id) (λ cond. with_conds id (cond ∷ [])) (λ conds stored. with_conds id conds (without_conds id stored))
-conds_turn id = record {
-  none = λ stored. ap (λ rows. record stored { conds = rows }) (sym (append-nil (replaced (is_of id) [] stored.conds)));
-  more = λ xs x stored. ap (λ rows. record stored { conds = rows }) (in_turn (cond_row id) (replaced (is_of id) [] stored.conds) xs x);
-}
+use Rattle.sql_rows.proofs.TurnFacts.{ComesInTurn}
+use Rattle.sql_writes.specs.Parts.{with_callers, without_callers}
 
 pub published_turn : ComesInTurn (λ stored. stored) (λ change stored. published stored change) (λ changes stored. fold published stored changes)
 published_turn = record { none = λ stored. refl; more = λ xs x stored. sym (fold_push published stored xs x) }

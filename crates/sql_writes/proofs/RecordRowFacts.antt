@@ -36,9 +36,9 @@ use Rattle.sql_writes.specs.declared.records.SysmodRow.{SysmodRow}
 use Rattle.sql_rows.proofs.AbsentFacts.{unique_sysmod}
 use Rattle.sql_writes.proofs.BoundFacts.{bound_more, one_more}
 use Rattle.sql_rows.proofs.ChangeFacts.{changed_by}
-use Rattle.sql_rows.proofs.FittingFacts.{fits_sysmod}
+use Rattle.sql_rows.proofs.FittingFacts.{few, fits_sysmod, sysmod_kind_low}
 use Rattle.sql_writes.proofs.ManyFacts.{AreFree, all_take, columns_more, grown_columns, inserts_all, numbered_more}
-use Rattle.sql_writes.proofs.RoomFacts.{few, short_enough, sysmod_kind_low}
+use Rattle.sql_writes.proofs.RoomFacts.{short_enough}
 use Rattle.sql_rows.specs.Fitting.{IsFitting}
 use Rattle.sql_rows.proofs.StatementFacts.{cast_int, cast_null}
 use Rattle.sql_rows.proofs.StoredFacts.{held_set, known_after}

@@ -5,14 +5,7 @@ use Rattle.std.specs.List.{list_any}
 use Rattle.std.proofs.lemmas.Bool.Decides.{nat_tests}
 use Rattle.holddata.specs.HoldKey.{kind_order}
 use Rattle.holddata.specs.declared.hold.Hold.{Hold}
-use Rattle.holddata.specs.declared.key.Kind.{Kind}
-use Rattle.holddata.specs.declared.key.Kind.TheVariants.{ErrorHold, FixcatHold, SystemHold, UserHold}
 use Rattle.mcs_reader.specs.Id.{IsId, text_of}
-use Rattle.catalogue.specs.declared.conditional.CondNeed.{CondNeed}
-use Rattle.catalogue.specs.declared.sysmod.SysmodKind.{SysmodKind}
-use Rattle.catalogue.specs.declared.sysmod.SysmodKind.TheVariants.{Apar, Func, Ptf, Usermod}
-use Rattle.zone_lists.specs.declared.zones.ZoneState.{ZoneState}
-use Rattle.zone_lists.specs.declared.zones.ZoneState.TheVariants.{Accepted, Applied, Superseded}
 use Rattle.bureau_store.specs.Tables.{LastChange}
 use Rattle.sqlite.specs.Order.{Row}
 use Rattle.sqlite.specs.State.{HasCleanDisk, State}
@@ -21,48 +14,26 @@ use Rattle.sqlite.specs.declared.error.Error.{Error}
 use Rattle.sqlite.specs.declared.types.Value.TheVariants.{Blob, Int, Text}
 use Rattle.sqlite_value.specs.Value.{owned}
 use Rattle.sqlite_value.specs.declared.value.ValueRef.{ValueRef}
-use Rattle.mcs_reader.proofs.IdFacts.{text_is_few}
 use Rattle.sql_texts.specs.Meaning.{Means}
 use Rattle.sql_texts.specs.Schema as schema
 use Rattle.sql_texts.specs.Schema.{bureau}
 use Rattle.sql_texts.specs.Writes.{insert_given}
 use Rattle.sql_tables.specs.Changes.{is_under}
 use Rattle.sql_tables.specs.Fit.{IsHold}
-use Rattle.sql_tables.specs.Rows.{change_row, cond_row, head_row, received_row}
+use Rattle.sql_tables.specs.Rows.{change_row, head_row, received_row}
 use Rattle.sql_tables.specs.Stored.{is_of, is_of_both}
-use Rattle.sql_tables.specs.Values.{date_value, hold_kind_value, id_value, ids_value, optional_id_value, state_order, sysmod_kind_order, texts_value}
+use Rattle.sql_tables.specs.Values.{date_value, hold_kind_value, id_value, ids_value, optional_id_value, texts_value}
 use Rattle.sql_writes.specs.Excused.{Takes}
-use Rattle.sql_rows.specs.Parts.{is_of_three}
 use Rattle.sql_writes.specs.Room.{are_short, are_short_ids, is_short}
 use Rattle.sql_rows.specs.Running.{FailsInside, Ran}
-use Rattle.sql_rows.proofs.AbsentFacts.{unique_cond, unique_head, unique_hold, unique_last, unique_received}
-use Rattle.sql_rows.proofs.FittingFacts.{fits_cond, fits_head, fits_hold, fits_last_change, fits_received}
+use Rattle.sql_rows.proofs.AbsentFacts.{unique_head, unique_hold, unique_last, unique_received}
+use Rattle.sql_rows.proofs.FittingFacts.{few, kind_low, fits_head, fits_hold, fits_last_change, fits_received}
 use Rattle.sql_writes.proofs.StepFacts.{comes_takes}
 
 -- ---- lengths and numbers
 
-pub few : (id : List ℕ) → IsId id → length (text_of id) ≤ 7
-few id is = text_is_few (text_of id) is.0
-
 pub short_enough : (text : List ℕ) → is_short text ≡ true → length text ≤ 300000000
 short_enough text is = grind (arith, nat_tests)
-
-kind_low : (kind : Kind) → kind_order kind ≤ 3
-kind_low ErrorHold = omega arith
-kind_low SystemHold = omega arith
-kind_low UserHold = omega arith
-kind_low FixcatHold = omega arith
-
-pub sysmod_kind_low : (kind : SysmodKind) → sysmod_kind_order kind ≤ 3
-sysmod_kind_low Func = omega arith
-sysmod_kind_low Ptf = omega arith
-sysmod_kind_low Apar = omega arith
-sysmod_kind_low Usermod = omega arith
-
-pub state_low : (state : ZoneState) → state_order state ≤ 2
-state_low Applied = omega arith
-state_low Accepted = omega arith
-state_low Superseded = omega arith
 
 -- ---- what may be absent
 
@@ -97,16 +68,6 @@ module _ (old new : State) (text : List ℕ) (result : Result (Unit {0}) Error) 
       comes_takes text old new result 2 schema.last_change refl (λ database known. known.numbered.1.1.0) (λ most trees low. low.1.1.0) 3 (change_row name last) (λ stored. list_any (is_of name) stored.changes ≡ false)
       means refl refl refl refl (fits_last_change (text_of name) last.number last.reply (few name is) (short_enough last.reply short) some)
       (λ database known none. unique_last database.trees (database.trees 4) name (Int (pos last.number) ∷ Blob last.reply ∷ []) is none)
-      (subst (λ row. Ran text row old new result) given ran) (subst (λ row. FailsInside text row old new result) given fails)
-
-  pub cond_takes : (id : List ℕ) (cond : CondNeed) (a b c : ValueRef) → IsId id → IsId cond.fmid → IsId cond.need → owned a ≡ id_value id → owned b ≡ id_value cond.fmid → owned c ≡ id_value cond.need
-      → (HasCleanDisk old → Means bureau text (insert_given 9 3) 3) → Ran text (bound (a ∷ b ∷ c ∷ [])) old new result → FailsInside text (bound (a ∷ b ∷ c ∷ [])) old new result
-      → Takes old new result 1 (λ stored. list_any (is_of_three id cond.fmid cond.need) stored.conds ≡ false)
-  cond_takes id cond a b c is is_fmid is_need at_a at_b at_c means ran fails =
-      let given : bound (a ∷ b ∷ c ∷ []) ≡ cond_row id cond = λ i. bound_value (at_a i) ∷ bound_value (at_b i) ∷ bound_value (at_c i) ∷ [] in
-      comes_takes text old new result 9 schema.sysmod_cond refl (λ database known. known.numbered.1.1.1.1.1.1.1.1.1.0) (λ most trees low. low.1.1.1.1.1.1.1.1.1.0) 3 (cond_row id cond) (λ stored. list_any (is_of_three id cond.fmid cond.need) stored.conds ≡ false)
-      means refl refl refl refl (fits_cond (text_of id) (text_of cond.fmid) (text_of cond.need) (few id is) (few cond.fmid is_fmid) (few cond.need is_need))
-      (λ database known none. unique_cond database.trees (database.trees 19) id cond.fmid cond.need [] is is_fmid is_need none)
       (subst (λ row. Ran text row old new result) given ran) (subst (λ row. FailsInside text row old new result) given fails)
 
   pub hold_takes : (hold : Hold) (a b c d e f h k : ValueRef) → owned a ≡ id_value hold.key.sysmod → owned b ≡ hold_kind_value hold.key.kind → owned c ≡ id_value hold.key.reason → owned d ≡ optional_id_value hold.fmid → owned e ≡ optional_id_value hold.class → owned f ≡ date_value hold.dated → owned h ≡ optional_id_value hold.resolver → owned k ≡ texts_value hold.categories

@@ -32,6 +32,7 @@ use Rattle.sql_state.specs.Writing.{IsKnown}
 use Rattle.sql_state.proofs.StopFacts.{was_clean}
 use Rattle.sql_writes.specs.Excused.{IsExcused, Takes}
 use Rattle.sql_writes.specs.Room.{AreUpTo, IsRoomy, are_up_to}
+use Rattle.sql_writes.specs.Many.{MeansBy}
 use Rattle.sql_rows.specs.Fitting.{IsFitting}
 use Rattle.sql_rows.specs.Running.{FailsInside, Ran}
 use Rattle.sql_writes.proofs.ExcuseFacts.{excused_by}
@@ -116,18 +117,18 @@ pub rows_go_takes : (text : List ℕ) (old new : State) (result : Result (Unit {
 rows_go_takes text old new result index table rows with_rows stands tests parameters params means given accepted ran fails =
     goes_takes text old new result index table stands.placed (numbered_so index table rows with_rows stands) (low_so index table stands.placed) tests parameters params means given accepted ran fails
 
-mapped_alike : {X Y Z : Type 0} (f : X → Y) (g : X → Z) (xs : List X) → length (map f xs) ≡ length (map g xs)
-mapped_alike f g [] = refl
-mapped_alike f g (x ∷ xs) = ap suc (mapped_alike f g xs)
+mapped_long : {X Y : Type 0} (f : X → Y) (xs : List X) → length (map f xs) ≡ length xs
+mapped_long f [] = refl
+mapped_long f (x ∷ xs) = ap suc (mapped_long f xs)
 
 -- a statement is prepared
-pub prepared_takes : {A : Type 0} (text_of : A → List ℕ) (old new : State) (text : List ℕ) (command : Command) (parameters : ℕ) (result : Result A Error) → Means bureau text command parameters
+pub prepared_takes : {A : Type 0} (text_of : A → List ℕ) (old new : State) (text : List ℕ) (command : Command) (names : List (List ℕ)) (result : Result A Error) → MeansBy bureau text command names
     → (HasCleanDisk new → IfOk result (λ a. (text_of a ≡ text) × IsUnchanged old new))
     → (HasCleanDisk new → IfErr result (λ e. (params : Row) → IsNotRun old new text params e)) → Takes old new result 0 (λ stored. Unit {0})
-prepared_takes {A} text_of old new text command parameters result means ok err = by result ok err
+prepared_takes {A} text_of old new text command names result means ok err = by result ok err
   where
     params : Row
-    params = map (λ k. Null) (range_with_len 1 parameters)
+    params = map (λ k. Null) names
 
     by : (r : Result A Error) → (HasCleanDisk new → IfOk r (λ a. (text_of a ≡ text) × IsUnchanged old new)) → (HasCleanDisk new → IfErr r (λ e. (params : Row) → IsNotRun old new text params e))
         → Takes old new r 0 (λ stored. Unit {0})
@@ -137,7 +138,7 @@ prepared_takes {A} text_of old new text command parameters result means ok err =
     }
     by (Err e) ok err = record {
       excused = λ most room clean inside from.
-          unrun old new text params command (map parameter (range_with_len 1 parameters)) e (ap (λ s. understood s text) from.0.0.schema ∙ means.statement)
-          (mapped_alike (λ k. Null) parameter (range_with_len 1 parameters)) (err clean params);
+          unrun old new text params command names e (ap (λ s. understood s text) from.0.0.schema ∙ means.statement)
+          (mapped_long (λ k. Null) names) (err clean params);
       numbers = tt;
     }

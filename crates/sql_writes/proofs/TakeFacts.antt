@@ -1,14 +1,12 @@
 -- From why one statement is refused to why several are.
-use Rattle.std.proofs.Common.{◌≡◌, ◌≤◌, ◌<◌, ◌+◌, ◌^◌, ℕ, zero, suc, Bool, true, List, [], ◌∷◌, Result, Ok, Err, IsTrue, OnOk, sym, ◌∙◌, ap, subst, inl, arith, length-append}
+use Rattle.std.proofs.Common.{◌≡◌, ◌≤◌, ◌<◌, ◌+◌, ◌^◌, ℕ, Bool, true, List, Result, Ok, Err, IsTrue, OnOk, sym, ◌∙◌, ap, subst, arith}
 use Rattle.std.specs.Result.{IsErrAnd}
 use Rattle.std.specs.Prelude.{◌-◌, get_or, length, sum_by, take}
 use Rattle.std.specs.List.{AllByRecursion, list_all}
-use Rattle.std.proofs.lemmas.List.{take_more}
 use Rattle.std.proofs.lemmas.List.Sums.{sum_by-take-drop, sum_by_more}
 use Rattle.sqlite_rules.proofs.ListLemmas.{all_has, has_at, test_has}
-use Rattle.sqlite.specs.State.{HasCleanDisk, State, Survives, store_error}
+use Rattle.sqlite.specs.State.{HasCleanDisk, State, Survives}
 use Rattle.sqlite.specs.declared.error.Error.{Error}
-use Rattle.sqlite_trees.specs.declared.error.StoreError.TheVariants.{OutOfMemory}
 use Rattle.sql_tables.specs.Stored.{Stored}
 use Rattle.sql_state.specs.Ours.{held_by}
 use Rattle.sql_state.specs.Writing.{Changes, IsKnown}
@@ -31,14 +29,6 @@ stopped_first {A} {B} old new e result rows more Fits Others same fits one fewer
       excused = λ most room clean inside from. subst (Excuses old new) (sym same) (one.excused most (omega (arith, room, fewer)) clean inside (from.0, fits (held_by old.now) from.1));
       numbers = tt;
     }
-
--- nothing was done yet, and memory ran out
-pub stopped_at_once : {B : Type 0} (at : State) (result : Result B Error) (rows : ℕ) (Fits : Stored → Type 0) → IsErrAnd result (λ f. f ≡ store_error OutOfMemory) → Takes at at result rows Fits
-stopped_at_once {B} at result rows Fits same = by result same
-  where
-    by : (r : Result B Error) → IsErrAnd r (λ f. f ≡ store_error OutOfMemory) → Takes at at r rows Fits
-    by (Ok b) same = absurd same
-    by (Err f) same = record { excused = λ most room clean inside from. inl same; numbers = tt }
 
 -- one call and then another, which fits where the first began
 pub takes_here : {A B E : Type 0} (old mid new : State) (a : A) (result : Result B Error) (first : Stored → Stored) (rows more : ℕ) (One Two : Stored → Type 0)
@@ -106,14 +96,6 @@ pub takes_as : {A : Type 0} (old new : State) (result : Result A Error) (Fits : 
 takes_as old new result Fits same one = subst (λ n. Takes old new result n Fits) same one
 
 module _ {X : Type 0} where
-  pub one_longer : (xs : List X) (i : ℕ) (x : X) → i < length xs → length (take i xs) + 1 ≡ length (take (i + 1) xs)
-  one_longer xs i x low = sym (ap length (take_more xs i x low) ∙ length-append (take i xs) (get_or xs i x ∷ []))
-
-  pub still_fewer : (xs : List X) (i : ℕ) → i < length xs → length (take i xs) + 1 ≤ length xs
-  still_fewer [] i low = absurd (omega (arith, low))
-  still_fewer (x ∷ xs) zero low = omega arith
-  still_fewer (x ∷ xs) (suc i) low = let rest = still_fewer xs i (omega (arith, low)) in omega (arith, rest)
-
   module _ (count : X → ℕ) where
     pub more_rows : (xs : List X) (i : ℕ) (x : X) → i < length xs → x ≡ get_or xs i x → sum_by count (take i xs) + count x ≡ sum_by count (take (i + 1) xs)
     more_rows xs i x low at = ap (λ y. sum_by count (take i xs) + count y) at ∙ sym (sum_by_more count xs i x low)

@@ -28,12 +28,20 @@ use Rattle.sql_writes.specs.Room.{rows_of_change}
 use Rattle.sql_writes.specs.declared.records.SupRow.{SupRow}
 use Rattle.sql_writes.specs.declared.records.SysmodRow.{SysmodRow}
 use Rattle.sql_rows.proofs.AbsentFacts.{gone_now}
-use Rattle.sql_writes.proofs.AlikeFacts.{each_new}
+use Rattle.sql_writes.proofs.AlikeFacts.{Comes, each_new}
 use Rattle.sql_writes.proofs.BoundFacts.{one_more}
 use Rattle.sql_rows.proofs.TableFacts.{none_filtered, none_gone}
 use Rattle.sql_writes.proofs.LeaveFacts.{named, next_sup}
 use Rattle.sql_rows.proofs.TurnFacts.{ComesInTurn}
 use Rattle.sql_rows.proofs.StoredFacts.{replaced_then}
+
+-- rows of what records supersede come after those that are there
+pub members_come_so : Comes member_values (λ stored. stored.sups) with_members
+members_come_so = record {
+  none = λ stored. ap (λ rows. record stored { sups = rows }) (sym (append-nil stored.sups));
+  more = λ xs ys stored. ap (λ rows. record stored { sups = rows }) (append_assoc stored.sups (map member_values xs) (map member_values ys) ∙ ap (λ rows. stored.sups ++ rows) (sym (map-append member_values xs ys)));
+  rows = λ xs stored. refl;
+}
 
 -- ---- the rows of one table
 

@@ -15,9 +15,8 @@ use Rattle.sqlite.specs.Source.TheVariants.{Values}
 use Rattle.sqlite.specs.Term.{Term, lit, col}
 use Rattle.sqlite.specs.declared.types.Value.TheVariants.{Int, Null}
 use Rattle.sqlite_resolve.specs.declared.compiled.Compiled.{Compiled}
-use Rattle.zone_lists.specs.declared.zones.ZoneRow.{ZoneRow}
-use Rattle.sql_tables.specs.Rows.{zone_row}
-use Rattle.sql_rows.specs.Parts.{is_of_three}
+use Rattle.sql_tables.specs.Changes.{replaced}
+use Rattle.sql_tables.specs.Stored.{Stored}
 
 -- parameters are written ?1 to ?99
 abbrev pub parameter : ℕ → List ℕ
@@ -68,17 +67,22 @@ pub record IsGiven (table : Table) (terms : List Term) (width : ℕ) (names : Li
   pub accepted : accepts_terms terms (stamped table params) ≡ true
   pub source : value_rows (stamped table params) width (length terms / width) terms ≡ unnumbered all
 
--- the parameters of a statement for so many things make their rows: after those of a key come those of each thing
+-- the parameters of a statement for so many things are as many as it has, of types that it takes, and make their rows: after
+-- those of a key come those of each thing
 abbrev pub AreGiven : {X : Type 0} → Table → ℕ → ℕ → Row → (X → Row) → (X → Row) → List X → Type 0
 AreGiven table shared own key values_of row_of things =
-    IsGiven table (rows_alike shared own (length things)) (1 + (shared + own)) (parameters_to (shared + own * length things))
-    (key ++ flat_map values_of things) (map row_of things)
+    let params = key ++ flat_map values_of things in
+    let terms = rows_alike shared own (length things) in
+    let width = 1 + (shared + own) in
+    ◌≡◌ {A = ℕ × (Bool × List Row)}
+    (length params, (accepts_terms terms (stamped table params), value_rows (stamped table params) width (length terms / width) terms))
+    (length (parameters_to (shared + own * length things)), (true, unnumbered (map row_of things)))
 
 -- none of these is told among the rows, nor comes twice: each is told by such a test, and makes such a row
 abbrev pub AreNew : {X : Type 0} → (X → Row → Bool) → (X → Row) → List X → List Row → Type 0
 AreNew is made [] rows = Unit {0}
 AreNew is made (one ∷ news) rows = (list_any (is one) rows ≡ false) × AreNew is made news (rows ++ made one ∷ [])
 
--- none of the rows of a client's zone stands among these, nor comes twice
-abbrev pub AreNewRows : List ℕ → List ℕ → List ZoneRow → List Row → Type 0
-AreNewRows client zone = AreNew (λ row. is_of_three client zone row.sysmod) (zone_row client zone)
+-- so it is where the rows of a key went
+abbrev pub AreNewInPlace : {X : Type 0} → (X → Row → Bool) → (X → Row) → List X → (Row → Bool) → (Stored → List Row) → Type 0
+AreNewInPlace is made news has rows = (stored : Stored) → AreNew is made news (replaced has [] (rows stored))

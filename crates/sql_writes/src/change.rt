@@ -37,7 +37,11 @@ fn change<S: Alter>(
         Effect::Publication { changes } => put_changes(alloc, tx, changes),
         Effect::ZonePut { client, zone, rows } => {
             keep_head(alloc, tx, client, zone)?;
-            load::zone_rows(tx, client, zone, rows)
+            let key = Zone {
+                client: *client,
+                zone: *zone,
+            };
+            load::replace::<Zone, ZoneRows, S>(tx, &key, rows)
         }
         Effect::ZoneDropped { client, zone } => {
             let key = Zone {

@@ -1,39 +1,85 @@
 //! Rows that come by one statement, after those of their table.
-ghost use Rattle.std.specs.Prelude.{◌≡◌, ◌⊎◌, ◌<◌, ◌≤◌, ◌++◌, List, ◌∷◌, [], false, flat_map, length, map, true};
+ghost use Rattle.std.specs.Prelude.{◌≡◌, ◌⊎◌, ◌<◌, ◌≤◌, ◌+◌, ◌*◌, ◌++◌, List, ◌∷◌, [], false, flat_map, length, map, true};
 ghost use Rattle.std.specs.List.{AllByRecursion, list_all, list_any};
 ghost use Rattle.catalogue.specs.declared.change.Change.{Change};
 ghost use Rattle.bureau_store.specs.Store.{greatest_number};
+ghost use Rattle.sql_texts.specs.Schema.{bureau};
 ghost use Rattle.sql_tables.specs.Changes.{is_under};
 ghost use Rattle.sql_tables.specs.Fit.{IsFitChange, IsHold};
 ghost use Rattle.sql_tables.specs.Stored.{is_of, is_of_both};
-ghost use Rattle.sql_writes.specs.Altering.{Alters, Inserts, RefusesExcused, TakesRoom, Turns};
+ghost use Rattle.sql_rows.specs.Parts.{coming};
+ghost use Rattle.sql_writes.specs.Altering.{Alters, InsertsAlike, RefusesExcused, TakesRoom, Turns};
 ghost use Rattle.sql_writes.specs.Making.{AreFit, IsOpened};
-ghost use Rattle.sql_writes.specs.Many.{AreNewRows};
-ghost use Rattle.sql_writes.specs.Records.{AreNewMembers, AreNewRecords, record_rows, values_of, with_members, with_sysmods};
+ghost use Rattle.sql_writes.specs.Many.{AreNew, MeansBy, insert_alike, parameters_to};
+ghost use Rattle.sql_writes.specs.Records.{AreNewRecords, record_rows, values_of, with_sysmods};
 ghost use Rattle.bureau_store.specs.declared.caller.CallerRow.{CallerRow};
 ghost use Rattle.sql_writes.specs.Room.{are_short, are_short_ids, is_short, is_short_change};
-ghost use Rattle.sql_rows.specs.Parts.{is_of_three};
-ghost use Rattle.sql_writes.specs.Parts.{with_callers, with_conds, with_head, with_hold, with_last, with_received, with_rows};
+ghost use Rattle.sql_writes.specs.Parts.{with_callers, with_head, with_hold, with_last, with_received};
 
-use crate::records::{SupRow, SysmodRow};
+use crate::params::{count_of, params_of};
+use crate::records::SysmodRow;
 use crate::run::{run, run_prepared};
+use crate::table::Several;
 use crate::texts;
 use crate::values::number_of;
 use bureau_store::CallerRow;
-use catalogue::CondNeed;
 use holddata::Hold;
 use mcs_reader::Id;
-use sql_rows::id_of;
+use sql_rows::{Key, id_of};
 use sql_tables::{
     categories_value, date_value, hold_kind_value, joined_ids, joined_patterns, optional_id_value,
-    state_value, sysmod_kind_value,
+    sysmod_kind_value,
 };
 use sql_texts::write;
 use sql_texts::write::{TableById, TableByZone};
 use sqlite::types::ValueRef;
 use sqlite::{Alter, Error, Statement, Transaction};
 use std::alloc::Global;
-use zone_lists::{Pattern, ZoneRow};
+use zone_lists::Pattern;
+
+/// Things come that belong to a key, all by one statement.
+pub(crate) fn rows<'a, K: Key, T: Several<K>, S: Alter>(
+    tx: &mut Transaction<'_, S>,
+    text: &str,
+    key: &'a K,
+    items: &'a [T::Item],
+) -> Result<(), Error>
+    requires count { T.counts (length items.now) }
+    requires means { MeansBy bureau text.now (insert_alike T.index K.parameters T.own (length items.now))
+        (parameters_to (K.parameters + T.own * length items.now)) }
+    ensures same { tx.new.conn.ghost_name ≡ tx.old.conn.ghost_name }
+    ensures changes { Alters S.Store tx.old.conn.now tx.new.conn.now result
+        (coming T.rows T.with_rows (map (T.row_of key.now) items.now)) }
+    ensures takes { AllByRecursion T.is_short items.now
+        → TakesRoom S.Store tx.old.conn.now tx.new.conn.now result (length items.now)
+        (λ stored. AreNew (T.is_same key.now) (T.row_of key.now) items.now (T.rows stored)) }
+{
+    let params = params_of::<K, T>(key, items);
+    let count = count_of::<K, T>(items);
+    run(tx, text, &params[..count])
+}
+
+/// Things come that belong to a key, by a statement that is prepared for so many.
+pub(crate) fn rows_by<'a, K: Key, T: Several<K>, S: Alter>(
+    tx: &mut Transaction<'_, S>,
+    statement: &Statement,
+    key: &'a K,
+    items: &'a [T::Item],
+) -> Result<(), Error>
+    requires count { T.counts (length items.now) }
+    requires means { InsertsAlike S.Store tx.old.conn.now statement.now.text
+        T.index K.parameters T.own (length items.now) }
+    ensures same { tx.new.conn.ghost_name ≡ tx.old.conn.ghost_name }
+    ensures changes { Alters S.Store tx.old.conn.now tx.new.conn.now result
+        (coming T.rows T.with_rows (map (T.row_of key.now) items.now)) }
+    ensures takes { AllByRecursion T.is_short items.now
+        → TakesRoom S.Store tx.old.conn.now tx.new.conn.now result (length items.now)
+        (λ stored. AreNew (T.is_same key.now) (T.row_of key.now) items.now (T.rows stored)) }
+{
+    let params = params_of::<K, T>(key, items);
+    let count = count_of::<K, T>(items);
+    run_prepared(tx, statement, &params[..count])
+}
 
 /// A caller with its token. `opened` and `excused` speak of tables that were made with the callers before it.
 pub(crate) fn caller<S: Alter>(tx: &mut Transaction<'_, S>, row: &CallerRow) -> Result<(), Error>
@@ -93,45 +139,6 @@ pub(crate) fn sysmods<'a, S: Alter>(
     run(tx, texts::sysmods(rows.len()), &params[..5 * rows.len()])
 }
 
-/// What records supersede, up to eight rows of it.
-pub(crate) fn sup_rows<'a, S: Alter>(
-    tx: &mut Transaction<'_, S>,
-    rows: &'a [SupRow],
-) -> Result<(), Error>
-    requires some { 0 < length rows.now }
-    requires few { length rows.now ≤ 8 }
-    ensures same { tx.new.conn.ghost_name ≡ tx.old.conn.ghost_name }
-    ensures changes { Alters S.Store tx.old.conn.now tx.new.conn.now result (with_members rows.now) }
-    ensures takes { TakesRoom S.Store tx.old.conn.now tx.new.conn.now result (length rows.now)
-        (λ stored. AreNewMembers rows.now stored.sups) }
-{
-    let mut params = [ValueRef::Null; 16];
-    for at in 0..rows.len() {
-        let row = &rows[at];
-        params[2 * at] = id_of(&row.id);
-        params[2 * at + 1] = id_of(&row.member);
-    }
-    run(tx, texts::sups(rows.len()), &params[..2 * rows.len()])
-}
-
-/// What a record requires where a function is installed, by the statement that inserts into `SysmodCond`.
-pub(crate) fn cond_row<S: Alter>(
-    tx: &mut Transaction<'_, S>,
-    statement: &Statement,
-    id: &Id,
-    cond: &CondNeed,
-) -> Result<(), Error>
-    requires means { Inserts S.Store tx.old.conn.now statement.now.text 9 3 }
-    ensures same { tx.new.conn.ghost_name ≡ tx.old.conn.ghost_name }
-    ensures changes { Alters S.Store tx.old.conn.now tx.new.conn.now result
-        (with_conds id.now (cond.now ∷ [])) }
-    ensures takes { TakesRoom S.Store tx.old.conn.now tx.new.conn.now result 1
-        (λ stored. list_any (is_of_three id.now cond.now.fmid cond.now.need) stored.conds ≡ false) }
-{
-    let params = [id_of(id), id_of(&cond.fmid), id_of(&cond.need)];
-    run_prepared(tx, statement, &params)
-}
-
 /// A hold.
 pub(crate) fn hold<S: Alter>(tx: &mut Transaction<'_, S>, hold: &Hold) -> Result<(), Error>
     ensures same { tx.new.conn.ghost_name ≡ tx.old.conn.ghost_name }
@@ -175,35 +182,6 @@ pub(crate) fn head<S: Alter>(
         ValueRef::Text(joined.as_slice()),
     ];
     run(tx, TableByZone::ZoneHead.insertion(), &params)
-}
-
-/// SYSMODs of a client's zone, up to eight of them.
-pub(crate) fn zone_rows<'a, S: Alter>(
-    tx: &mut Transaction<'_, S>,
-    client: &'a Id,
-    zone: &'a Id,
-    rows: &'a [ZoneRow],
-) -> Result<(), Error>
-    requires some { 0 < length rows.now }
-    requires few { length rows.now ≤ 8 }
-    ensures same { tx.new.conn.ghost_name ≡ tx.old.conn.ghost_name }
-    ensures changes { Alters S.Store tx.old.conn.now tx.new.conn.now result
-        (with_rows client.now zone.now rows.now) }
-    ensures takes { TakesRoom S.Store tx.old.conn.now tx.new.conn.now result (length rows.now)
-        (λ stored. AreNewRows client.now zone.now rows.now stored.rows) }
-{
-    let mut params = [id_of(client); 18];
-    params[1] = id_of(zone);
-    for at in 0..rows.len() {
-        let row = &rows[at];
-        params[2 * at + 2] = id_of(&row.sysmod);
-        params[2 * at + 3] = state_value(row.state);
-    }
-    run(
-        tx,
-        texts::zone_rows(rows.len()),
-        &params[..2 * rows.len() + 2],
-    )
 }
 
 /// What a client has received.

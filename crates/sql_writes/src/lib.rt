@@ -17,6 +17,7 @@ mod free;
 mod insert;
 mod load;
 mod migration;
+mod params;
 mod publication;
 mod records;
 mod run;

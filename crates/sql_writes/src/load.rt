@@ -2,45 +2,65 @@
 ghost use Rattle.std.specs.Prelude.{◌≡◌, ◌⊎◌, ◌+◌, List, flat_map, length, map, true};
 ghost use Rattle.std.specs.List.{AllByRecursion, list_all};
 ghost use Rattle.catalogue.specs.declared.change.Change.{Change};
-ghost use Rattle.catalogue.specs.Conditional.{CondsAscend};
-ghost use Rattle.sql_tables.specs.Fit.{AreZoneRows, IsCond, IsFitChange};
-ghost use Rattle.sql_writes.specs.Altering.{Alters, Inserts, TakesRoom};
-ghost use Rattle.sql_writes.specs.Parts.{with_conds, with_rows, without_conds, without_rows};
+ghost use Rattle.sql_tables.specs.Fit.{IsFitChange};
+ghost use Rattle.sql_rows.specs.Parts.{instead};
+ghost use Rattle.sql_writes.specs.Altering.{Alters, InsertsAlike, TakesRoom};
+ghost use Rattle.sql_writes.specs.Many.{AreNewInPlace};
 ghost use Rattle.sql_writes.specs.Records.{AreNewMembers, AreNewRecords, record_rows, values_of, with_members, with_sysmods};
 ghost use Rattle.sql_writes.specs.Room.{is_short_change};
 
+use crate::insert;
 use crate::records::{SupRow, SysmodRow};
-use crate::{delete, insert};
-use catalogue::CondNeed;
-use mcs_reader::Id;
-use sql_rows::{Conds, Zone, ZoneRows};
+use crate::table::{ByEights, ByOne, Leaves};
+use sql_rows::{All, Key, Sups};
 use sqlite::{Alter, Error, Statement, Transaction};
-use zone_lists::ZoneRow;
 
-/// The rows of a client's zone, in place of those that stand there, eight by one statement.
-pub(crate) fn zone_rows<S: Alter>(
+/// Things of a key come in place of those that stand there, eight by one statement.
+pub(crate) fn replace<K: Key, T: ByEights<K> + Leaves<K>, S: Alter>(
     tx: &mut Transaction<'_, S>,
-    client: &Id,
-    zone: &Id,
-    rows: &[ZoneRow],
+    key: &K,
+    items: &[T::Item],
 ) -> Result<(), Error>
     ensures same { tx.new.conn.ghost_name ≡ tx.old.conn.ghost_name }
     ensures changes { Alters S.Store tx.old.conn.now tx.new.conn.now result
-        (λ stored. with_rows client.now zone.now rows.now (without_rows client.now zone.now stored)) }
-    ensures takes { AreZoneRows rows.now
+        (instead T.rows T.with_rows (K.has key.now) (map (T.row_of key.now) items.now)) }
+    ensures takes { AllByRecursion T.is_short items.now
+        → AreNewInPlace (T.is_same key.now) (T.row_of key.now) items.now (K.has key.now) T.rows
         → TakesRoom S.Store tx.old.conn.now tx.new.conn.now result
-        (length rows.now) (λ stored. Unit {0}) }
+        (length items.now) (λ stored. Unit {0}) }
 {
-    let key = Zone {
-        client: *client,
-        zone: *zone,
-    };
-    delete::any_of::<Zone, ZoneRows, S>(tx, &key)?;
+    <T as Leaves<K>>::leave(tx, key)?;
     let mut at = 0;
-    while at < rows.len() {
-        let count = (rows.len() - at).min(8);
-        insert::zone_rows(tx, client, zone, &rows[at..at + count])?;
+    while at < items.len() {
+        let count = (items.len() - at).min(8);
+        let text = <T as ByEights<K>>::insertion(count);
+        insert::rows::<K, T, S>(tx, text, key, &items[at..at + count])?;
         at += count;
+    }
+    Ok(())
+}
+
+/// The same, one by one by a statement that is prepared.
+pub(crate) fn replace_by<K: Key, T: ByOne<K> + Leaves<K>, S: Alter>(
+    tx: &mut Transaction<'_, S>,
+    statement: &Statement,
+    key: &K,
+    items: &[T::Item],
+) -> Result<(), Error>
+    requires means { InsertsAlike S.Store tx.old.conn.now statement.now.text T.index K.parameters T.own 1 }
+    ensures same { tx.new.conn.ghost_name ≡ tx.old.conn.ghost_name }
+    ensures changes { Alters S.Store tx.old.conn.now tx.new.conn.now result
+        (instead T.rows T.with_rows (K.has key.now) (map (T.row_of key.now) items.now)) }
+    ensures takes { AllByRecursion T.is_short items.now
+        → AreNewInPlace (T.is_same key.now) (T.row_of key.now) items.now (K.has key.now) T.rows
+        → TakesRoom S.Store tx.old.conn.now tx.new.conn.now result
+        (length items.now) (λ stored. Unit {0}) }
+{
+    <T as Leaves<K>>::leave(tx, key)?;
+    let mut at = 0;
+    while at < items.len() {
+        insert::rows_by::<K, T, S>(tx, statement, key, &items[at..at + 1])?;
+        at += 1;
     }
     Ok(())
 }
@@ -64,31 +84,9 @@ pub(crate) fn records<S: Alter>(
     let mut at = 0;
     while at < sups.len() {
         let count = (sups.len() - at).min(8);
-        insert::sup_rows(tx, &sups[at..at + count])?;
+        let text = <Sups as ByEights<All>>::insertion(count);
+        insert::rows::<All, Sups, S>(tx, text, &All, &sups[at..at + count])?;
         at += count;
-    }
-    Ok(())
-}
-
-/// What a record requires under a condition, in place of what stands there, by the statement that inserts into
-/// `SysmodCond`.
-pub(crate) fn conditional<S: Alter>(
-    tx: &mut Transaction<'_, S>,
-    statement: &Statement,
-    id: &Id,
-    conds: &[CondNeed],
-) -> Result<(), Error>
-    requires means { Inserts S.Store tx.old.conn.now statement.now.text 9 3 }
-    ensures same { tx.new.conn.ghost_name ≡ tx.old.conn.ghost_name }
-    ensures changes { Alters S.Store tx.old.conn.now tx.new.conn.now result
-        (λ stored. with_conds id.now conds.now (without_conds id.now stored)) }
-    ensures takes { AllByRecursion IsCond conds.now → CondsAscend conds.now
-        → TakesRoom S.Store tx.old.conn.now tx.new.conn.now result
-        (length conds.now) (λ stored. Unit {0}) }
-{
-    delete::rows_of::<Id, Conds, S>(tx, id)?;
-    for cond in conds {
-        insert::cond_row(tx, statement, id, cond)?;
     }
     Ok(())
 }

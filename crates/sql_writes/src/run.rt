@@ -1,12 +1,12 @@
 //! One statement of a transaction.
-ghost use Rattle.std.specs.Prelude.{◌≡◌, ℕ, IfOk};
+ghost use Rattle.std.specs.Prelude.{◌≡◌, ℕ, IfOk, List};
 ghost use Rattle.sqlite.specs.Command.{Command};
 ghost use Rattle.sqlite.specs.Held.{state};
 ghost use Rattle.sqlite.specs.State.{HasCleanDisk};
 ghost use Rattle.sqlite.specs.Values.{bound};
-ghost use Rattle.sql_texts.specs.Meaning.{Means};
 ghost use Rattle.sql_texts.specs.Schema.{bureau};
 ghost use Rattle.sql_writes.specs.Altering.{Alters, TakesRoom};
+ghost use Rattle.sql_writes.specs.Many.{MeansBy};
 ghost use Rattle.sql_rows.specs.Running.{FailsInside, Ran};
 
 use sqlite::types::ValueRef;
@@ -34,7 +34,7 @@ pub(crate) fn prepare<S: Alter>(tx: &mut Transaction<'_, S>, text: &str) -> Resu
     ensures text { IfOk result (λ statement. HasCleanDisk (state S.Store tx.new.conn.now)
         → statement.text ≡ text.now) }
     ensures changes { Alters S.Store tx.old.conn.now tx.new.conn.now result (λ stored. stored) }
-    ensures takes { (command : Command) (parameters : ℕ) → Means bureau text.now command parameters
+    ensures takes { (command : Command) (names : List (List ℕ)) → MeansBy bureau text.now command names
         → TakesRoom S.Store tx.old.conn.now tx.new.conn.now result 0 (λ stored. Unit {0}) }
 {
     tx.prepare(text)

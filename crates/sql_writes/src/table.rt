@@ -1,14 +1,26 @@
 //! What is special to a table where its rows are written, one file a table: the texts and what they mean, and how a
 //! thing is a row.
-ghost use Rattle.std.specs.Prelude.{◌≡◌, ◌∷◌, [], ℕ, List, true};
-ghost use Rattle.sqlite.specs.Tree.{Trees};
-ghost use Rattle.sqlite_sql.specs.Program.{ProgramOverflows};
+ghost use Rattle.std.specs.Prelude.{◌≡◌, ◌≤◌, ◌<◌, ◌+◌, ◌*◌, ◌∷◌, [], ℕ, Bool, List, false, length, take, true};
+ghost use Rattle.std.specs.List.{list_any};
+ghost use Rattle.sqlite.specs.Cast.{cast_row};
+ghost use Rattle.sqlite.specs.Tree.{Trees, put_row};
+ghost use Rattle.sqlite.specs.Values.{bound};
+ghost use Rattle.sqlite.specs.declared.types.Value.TheVariants.{Null};
+ghost use Rattle.sqlite_rules.specs.Keys.{are_unique};
+ghost use Rattle.sqlite_schema.specs.Rules.{references_fit};
+ghost use Rattle.sqlite_trees.specs.Tree.{with_tree};
 ghost use Rattle.sqlite_typing.specs.Types.{accepts_program};
+ghost use Rattle.sqlite_value.specs.Order.{Row as Values};
 ghost use Rattle.sql_texts.specs.Meaning.{Means, Reads};
 ghost use Rattle.sql_texts.specs.Reads.{from_table};
 ghost use Rattle.sql_texts.specs.Schema.{bureau};
 ghost use Rattle.sql_texts.specs.Writes.{delete_of};
+ghost use Rattle.sql_tables.specs.InTrees.{columns_of};
+ghost use Rattle.sql_rows.specs.Fitting.{IsFitting};
+ghost use Rattle.sql_rows.specs.Parts.{going};
+ghost use Rattle.sql_writes.specs.Altering.{Alters, TakesRoom};
 ghost use Rattle.sql_writes.specs.Asking.{first_in};
+ghost use Rattle.sql_writes.specs.Many.{AreGiven, MeansBy, insert_alike, parameters_to, with_next};
 
 mod cond;
 mod head;
@@ -19,6 +31,8 @@ mod sysmod;
 mod zone_row;
 
 use sql_rows::{Key, Table};
+use sqlite::types::ValueRef;
+use sqlite::{Alter, Error, Transaction};
 
 /// A table from which the rows of a key go.
 pub trait Deletes<K: Key>: Table {
@@ -56,4 +70,101 @@ pub trait Bare: Table {
 
     /// The database takes it.
     ghost takes: { accepts_program bureau [] (first_in Self.table.tree) [] ≡ true };
+}
+
+/// A table whose rows of a key go before others come in their place, in the way that is fast for it.
+pub trait Leaves<K: Key>: Table {
+    /// They go.
+    fn leave<S: Alter>(tx: &mut Transaction<'_, S>, key: &K) -> Result<(), Error>
+        ensures same { tx.new.conn.ghost_name ≡ tx.old.conn.ghost_name }
+        ensures changes { Alters S.Store tx.old.conn.now tx.new.conn.now result
+            (going Self.rows Self.with_rows (K.has key.now)) }
+        ensures takes { TakesRoom S.Store tx.old.conn.now tx.new.conn.now result 0 (λ stored. Unit {0}) };
+}
+
+/// A table into which things come that belong to a key, several by one statement.
+pub trait Several<K: Key>: Table {
+    /// What comes.
+    type Item;
+
+    /// How many columns of a row are of the thing alone, after those of the key.
+    ghost own: { ℕ };
+
+    /// The values of those columns.
+    ghost values_of: { Self.Item → Values };
+
+    /// The row of a thing.
+    ghost row_of: { K → Self.Item → Values };
+
+    /// What holds of each thing.
+    ghost is_fit: { Self.Item → Type 0 };
+
+    /// What has to hold of a thing so that a database can store it.
+    ghost is_short: { Self.Item → Type 0 };
+
+    /// Whether a row has the key of the table that the row of a thing has.
+    ghost is_same: { K → Self.Item → Values → Bool };
+
+    /// Whether so many may come by one statement.
+    ghost counts: { ℕ → Type 0 };
+
+    /// A thing as it is bound to the first of some parameters.
+    fn columns<'a>(item: &'a Self::Item) -> [ValueRef<'a>; 5]
+        ensures long { length result ≡ 5 }
+        ensures bound { bound (take own result) ≡ values_of item.now }
+        ensures fit { is_fit item.now };
+
+    /// How many columns of a row are of the thing alone.
+    fn width() -> usize
+        ensures width { result ≡ own }
+        ensures few { result ≤ 5 };
+
+    /// Forty parameters are enough.
+    ghost room: { (count : ℕ) → counts count → K.parameters + own * count ≤ 40 };
+
+    /// The parameters of the text make the rows of the things.
+    ghost given: { (key : K) (items : List Self.Item) → counts (length items)
+        → AreGiven Self.table K.parameters own (K.values key) values_of (row_of key) items };
+
+    /// The values are of their columns' types.
+    ghost cast: { (key : K) (item : Self.Item)
+        → cast_row Self.table (Null ∷ row_of key item) ≡ Null ∷ row_of key item };
+
+    /// No rule that speaks of one row is broken.
+    ghost fits: { (key : K) (item : Self.Item) → K.is_fit key → is_fit item → is_short item
+        → IsFitting Self.table (row_of key item) };
+
+    /// The keys of the table are told apart by the test.
+    ghost unique: { (db : Trees) (others : List Values) (key : K) (item : Self.Item) → K.is_fit key → is_fit item
+        → list_any (is_same key item) (columns_of others) ≡ false
+        → are_unique bureau.indexes
+        (with_tree db Self.table.tree (put_row (with_next others (row_of key item)) others)) Self.table
+        (with_next others (row_of key item) ∷ []) ≡ true };
+
+    /// The table refers to no other.
+    ghost referred: { (adds : Bool) → references_fit bureau Self.table adds false ≡ true };
+}
+
+/// A table into which up to eight rows come by one statement.
+pub trait ByEights<K: Key>: Several<K> {
+    /// The text by which so many come: the key, and then each of them.
+    fn insertion(count: usize) -> &'static str
+        requires some { 0 < count }
+        requires few { count ≤ 8 }
+        ensures { MeansBy bureau result.now (insert_alike Self.index K.parameters Self.own count)
+            (parameters_to (K.parameters + Self.own * count)) };
+
+    /// So many may come.
+    ghost eights: { (count : ℕ) → 0 < count → count ≤ 8 → Self.counts count };
+}
+
+/// A table into which rows come one by one.
+pub trait ByOne<K: Key>: Several<K> {
+    /// The text by which one comes: the key, and then the rest.
+    fn insertion() -> &'static str
+        ensures { MeansBy bureau result.now (insert_alike Self.index K.parameters Self.own 1)
+            (parameters_to (K.parameters + Self.own * 1)) };
+
+    /// One may come.
+    ghost one: { Self.counts 1 };
 }

@@ -1,9 +1,13 @@
 //! The table `sysmod_cond`: what a record requires under a condition.
 #![tactic(auto, unfolding(sqlite::specs::Listing::understood, sqlite_tied::specs::Compute::everything))]
 
-use super::{Asked, Bare, Deletes};
+use super::{Asked, Bare, ByOne, Deletes, Leaves, Several};
+use crate::delete;
+use catalogue::CondNeed;
 use mcs_reader::Id;
-use sql_rows::Conds;
+use sql_rows::{Conds, id_of};
+use sqlite::types::ValueRef;
+use sqlite::{Alter, Error, Transaction};
 
 impl Deletes<Id> for Conds {
     ghost use Rattle.std.specs.Prelude.{refl};
@@ -37,4 +41,79 @@ impl Bare for Conds {
     }
 
     ghost takes = { refl };
+}
+
+impl Leaves<Id> for Conds {
+    fn leave<S: Alter>(tx: &mut Transaction<'_, S>, id: &Id) -> Result<(), Error> {
+        delete::rows_of::<Id, Conds, S>(tx, id)
+    }
+}
+
+impl Several<Id> for Conds {
+    ghost use Rattle.std.specs.Prelude.{◌≡◌, ◌∷◌, [], false, refl, true};
+    ghost use Rattle.mcs_reader.specs.Id.{IsId, text_of};
+    ghost use Rattle.sql_tables.specs.Rows as spec;
+    ghost use Rattle.sql_tables.specs.Values.{id_value};
+    ghost use Rattle.sql_rows.specs.Parts.{is_of_three};
+    ghost use Rattle.sql_texts.specs.Schema as schema;
+    ghost use Rattle.sql_writes.specs.Many.{AreGiven};
+    ghost use Rattle.sql_rows.proofs.AbsentFacts.{unique_cond};
+    ghost use Rattle.sql_rows.proofs.CountFacts.{one_only, room_of_one};
+    ghost use Rattle.sql_rows.proofs.FittingFacts.{few, fits_cond};
+    ghost use Rattle.sql_rows.proofs.StatementFacts.{cast_null};
+
+    type Item = CondNeed;
+
+    ghost own = { 2 };
+
+    ghost values_of = { λ cond. id_value cond.fmid ∷ id_value cond.need ∷ [] };
+
+    ghost row_of = { spec.cond_row };
+
+    ghost is_fit = { λ cond. IsId cond.fmid × IsId cond.need };
+
+    ghost is_short = { λ cond. Unit {0} };
+
+    ghost is_same = { λ id cond. is_of_three id cond.fmid cond.need };
+
+    ghost counts = { λ count. count ≡ 1 };
+
+    fn columns<'a>(cond: &'a CondNeed) -> [ValueRef<'a>; 5] {
+        [
+            id_of(&cond.fmid),
+            id_of(&cond.need),
+            ValueRef::Null,
+            ValueRef::Null,
+            ValueRef::Null,
+        ]
+    }
+
+    fn width() -> usize {
+        2
+    }
+
+    ghost room = { λ count is. room_of_one 1 2 count is refl };
+
+    ghost given = { λ id conds is. one_only
+        (AreGiven schema.sysmod_cond 1 2 (id_value id ∷ []) (λ cond. id_value cond.fmid ∷ id_value cond.need ∷ []) (spec.cond_row id))
+        (λ a. refl) conds is };
+
+    ghost cast = { λ id cond i. cast_null i ∷ spec.cond_row id cond };
+
+    ghost fits = { λ id cond is here short. fits_cond (text_of id) (text_of cond.fmid) (text_of cond.need) (few id is)
+        (few cond.fmid here.0) (few cond.need here.1) };
+
+    ghost unique = { λ db others id cond is here none. unique_cond db others id cond.fmid cond.need [] is here.0 here.1 none };
+
+    ghost referred = { elim [ true ↦ refl | false ↦ refl ] };
+}
+
+impl ByOne<Id> for Conds {
+    ghost use Rattle.std.specs.Prelude.{refl};
+
+    fn insertion() -> &'static str {
+        "INSERT INTO sysmod_cond (id, fmid, member) VALUES (?1, ?2, ?3)"
+    }
+
+    ghost one = { refl };
 }

@@ -1,9 +1,12 @@
 //! The table `sysmod_sup`: what a record supersedes.
 #![tactic(auto, unfolding(sqlite::specs::Listing::understood, sqlite_tied::specs::Compute::everything))]
 
-use super::{Asked, Bare, Deletes};
+use super::{Asked, Bare, ByEights, Deletes, Several};
+use crate::records::SupRow;
+use crate::texts;
 use mcs_reader::Id;
-use sql_rows::Sups;
+use sql_rows::{All, Sups, id_of};
+use sqlite::types::ValueRef;
 
 impl Deletes<Id> for Sups {
     ghost use Rattle.std.specs.Prelude.{refl};
@@ -37,4 +40,71 @@ impl Bare for Sups {
     }
 
     ghost takes = { refl };
+}
+
+impl Several<All> for Sups {
+    ghost use Rattle.std.specs.Prelude.{◌<◌, ◌≤◌, ◌∷◌, [], false, refl, true};
+    ghost use Rattle.mcs_reader.specs.Id.{IsId, text_of};
+    ghost use Rattle.sql_tables.specs.Stored.{is_of_both};
+    ghost use Rattle.sql_tables.specs.Values.{id_value};
+    ghost use Rattle.sql_writes.specs.Records.{member_values};
+    ghost use Rattle.sql_texts.specs.Schema as schema;
+    ghost use Rattle.sql_writes.specs.Many.{AreGiven};
+    ghost use Rattle.sql_rows.proofs.AbsentFacts.{unique_sup};
+    ghost use Rattle.sql_rows.proofs.CountFacts.{room_of, up_to_eight};
+    ghost use Rattle.sql_rows.proofs.FittingFacts.{few, fits_sup};
+    ghost use Rattle.sql_rows.proofs.StatementFacts.{cast_null};
+
+    type Item = SupRow;
+
+    ghost own = { 2 };
+
+    ghost values_of = { member_values };
+
+    ghost row_of = { λ key. member_values };
+
+    ghost is_fit = { λ row. IsId row.id × IsId row.member };
+
+    ghost is_short = { λ row. Unit {0} };
+
+    ghost is_same = { λ key row. is_of_both row.id row.member };
+
+    ghost counts = { λ count. (0 < count) × (count ≤ 8) };
+
+    fn columns<'a>(row: &'a SupRow) -> [ValueRef<'a>; 5] {
+        [
+            id_of(&row.id),
+            id_of(&row.member),
+            ValueRef::Null,
+            ValueRef::Null,
+            ValueRef::Null,
+        ]
+    }
+
+    fn width() -> usize {
+        2
+    }
+
+    ghost room = { λ count is. room_of 0 2 count 8 is.1 refl };
+
+    ghost given = { λ key rows is. up_to_eight (AreGiven schema.sysmod_sup 0 2 [] member_values member_values)
+        refl (λ a. refl) (λ a b. refl) (λ a b c. refl) (λ a b c d. refl) (λ a b c d e. refl)
+        (λ a b c d e f. refl) (λ a b c d e f g. refl) (λ a b c d e f g h. refl) rows is.1 };
+
+    ghost cast = { λ key row i. cast_null i ∷ member_values row };
+
+    ghost fits = { λ key row is here short. fits_sup (text_of row.id) (text_of row.member) (few row.id here.0)
+        (few row.member here.1) };
+
+    ghost unique = { λ db others key row is here none. unique_sup db others row.id row.member [] here.0 here.1 none };
+
+    ghost referred = { elim [ true ↦ refl | false ↦ refl ] };
+}
+
+impl ByEights<All> for Sups {
+    fn insertion(count: usize) -> &'static str {
+        texts::sups(count)
+    }
+
+    ghost eights = { λ count some few. (some, few) };
 }

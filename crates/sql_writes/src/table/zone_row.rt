@@ -1,9 +1,14 @@
 //! The table `zone_row`: the SYSMODs of a client's zone with their states.
 #![tactic(auto, unfolding(sqlite::specs::Listing::understood, sqlite_tied::specs::Compute::everything))]
 
-use super::Deletes;
+use super::{ByEights, Deletes, Leaves, Several};
+use crate::{delete, texts};
 use mcs_reader::Id;
-use sql_rows::{Zone, ZoneRows};
+use sql_rows::{Zone, ZoneRows, id_of};
+use sql_tables::state_value;
+use sqlite::types::ValueRef;
+use sqlite::{Alter, Error, Transaction};
+use zone_lists::ZoneRow;
 
 impl Deletes<Zone> for ZoneRows {
     ghost use Rattle.std.specs.Prelude.{refl};
@@ -23,4 +28,81 @@ impl Deletes<Id> for ZoneRows {
     }
 
     ghost accepts = { λ client. refl };
+}
+
+impl Leaves<Zone> for ZoneRows {
+    fn leave<S: Alter>(tx: &mut Transaction<'_, S>, key: &Zone) -> Result<(), Error> {
+        delete::any_of::<Zone, ZoneRows, S>(tx, key)
+    }
+}
+
+impl Several<Zone> for ZoneRows {
+    ghost use Rattle.std.specs.Prelude.{◌<◌, ◌≤◌, ◌∷◌, [], false, pos, refl, true};
+    ghost use Rattle.mcs_reader.specs.Id.{IsId, text_of};
+    ghost use Rattle.sql_tables.specs.Rows as spec;
+    ghost use Rattle.sql_tables.specs.Values.{id_value, state_order, state_value};
+    ghost use Rattle.sql_rows.specs.Parts.{is_of_three};
+    ghost use Rattle.sql_texts.specs.Schema as schema;
+    ghost use Rattle.sql_writes.specs.Many.{AreGiven};
+    ghost use Rattle.sql_rows.proofs.AbsentFacts.{unique_zone_row};
+    ghost use Rattle.sql_rows.proofs.CountFacts.{room_of, up_to_eight};
+    ghost use Rattle.sql_rows.proofs.FittingFacts.{few, fits_zone_row, state_low};
+    ghost use Rattle.sql_rows.proofs.StatementFacts.{cast_int, cast_null};
+
+    type Item = ZoneRow;
+
+    ghost own = { 2 };
+
+    ghost values_of = { λ row. id_value row.sysmod ∷ state_value row.state ∷ [] };
+
+    ghost row_of = { λ key row. spec.zone_row key.client key.zone row };
+
+    ghost is_fit = { λ row. IsId row.sysmod };
+
+    ghost is_short = { λ row. Unit {0} };
+
+    ghost is_same = { λ key row. is_of_three key.client key.zone row.sysmod };
+
+    ghost counts = { λ count. (0 < count) × (count ≤ 8) };
+
+    fn columns<'a>(row: &'a ZoneRow) -> [ValueRef<'a>; 5] {
+        [
+            id_of(&row.sysmod),
+            state_value(row.state),
+            ValueRef::Null,
+            ValueRef::Null,
+            ValueRef::Null,
+        ]
+    }
+
+    fn width() -> usize {
+        2
+    }
+
+    ghost room = { λ count is. room_of 2 2 count 8 is.1 refl };
+
+    ghost given = { λ key rows is. up_to_eight
+        (AreGiven schema.zone_row 2 2 (id_value key.client ∷ id_value key.zone ∷ [])
+        (λ row. id_value row.sysmod ∷ state_value row.state ∷ []) (spec.zone_row key.client key.zone))
+        refl (λ a. refl) (λ a b. refl) (λ a b c. refl) (λ a b c d. refl) (λ a b c d e. refl)
+        (λ a b c d e f. refl) (λ a b c d e f g. refl) (λ a b c d e f g h. refl) rows is.1 };
+
+    ghost cast = { λ key row i. cast_null i ∷ id_value key.client ∷ id_value key.zone ∷ id_value row.sysmod
+        ∷ cast_int (pos (state_order row.state)) i ∷ [] };
+
+    ghost fits = { λ key row is here short. fits_zone_row (text_of key.client) (text_of key.zone) (text_of row.sysmod)
+        (state_order row.state) (few key.client is.0) (few key.zone is.1) (few row.sysmod here) (state_low row.state) };
+
+    ghost unique = { λ db others key row is here none. unique_zone_row db others key.client key.zone row.sysmod
+        (state_value row.state ∷ []) is.0 is.1 here none };
+
+    ghost referred = { elim [ true ↦ refl | false ↦ refl ] };
+}
+
+impl ByEights<Zone> for ZoneRows {
+    fn insertion(count: usize) -> &'static str {
+        texts::zone_rows(count)
+    }
+
+    ghost eights = { λ count some few. (some, few) };
 }

@@ -1,9 +1,10 @@
 use Rattle.std.proofs.Common.{◌≡◌, [], ◌∷◌, ap, length, refl, subst, true}
 use Rattle.std.specs.Prelude.{map}
 use Rattle.sql_tables.specs.Changes as change
+use Rattle.sql_tables.specs.Changes.{replaced}
 use Rattle.sql_tables.specs.Rows.{head_row, received_row, zone_row}
 use Rattle.sql_tables.specs.Stored.{is_of, is_of_both}
-use Rattle.sql_writes.specs.Parts.{with_head, with_received, with_rows, without_head, without_received, without_rows}
+use Rattle.sql_writes.specs.Parts.{with_head, with_received, without_head, without_received, without_rows}
 use Rattle.sql_rows.proofs.ChangeFacts.{both}
 use Rattle.sql_writes.proofs.LastFacts.{by_effect}
 use Rattle.sql_rows.proofs.StoredFacts.{replaced_then}
@@ -11,7 +12,8 @@ use Rattle.sql_tables.specs.Fit.{IsFit}
 use Rattle.bureau_store.specs.Effects.{effect_as}
 use Rattle.sql_writes.specs.Room.{is_short_effect}
 use Rattle.bureau_store.specs.declared.effect.Effect.{Effect}
-use Rattle.sql_writes.proofs.LeaveFacts.{none_head, none_received}
+use Rattle.sql_writes.proofs.LeaveFacts.{none_head, none_received, rows_new}
+use Rattle.sql_writes.proofs.SeveralFacts.{all_so}
 use Rattle.sql_writes.proofs.TakeFacts.{takes_of, takes_then}
 use Rattle.sql_writes.proofs.change.change.Goals as goal
 
@@ -21,9 +23,9 @@ returns-in_ok-keep_head-in-ZonePut-clause-changes g c =
     let zone = c.in-ZonePut.zone.now in
     let news = c.in-ZonePut.rows.now in
     by_effect _ _ _ _ _ c.in-ZonePut.is
-    (both _ _ _ tt _ (λ stored. record stored { heads = change.with_head client zone stored.heads }) (λ stored. with_rows client zone news (without_rows client zone stored)) _
-    (λ stored. ap (λ rows. record stored { heads = change.with_head client zone stored.heads; rows = rows }) (replaced_then (is_of_both client zone) (map (zone_row client zone) news) stored.rows))
-    c.in_ok-keep_head-in-ZonePut.ensures.changes c.zone_rows.ensures.changes)
+    (both _ _ _ tt _ (λ stored. record stored { heads = change.with_head client zone stored.heads }) (λ stored. record stored { rows = replaced (is_of_both client zone) (map (zone_row client zone) news) stored.rows }) _
+    (λ stored. refl)
+    c.in_ok-keep_head-in-ZonePut.ensures.changes c.replace.ensures.changes)
 
 pub returns-in_ok-any_of-in-ZoneDropped-clause-changes : goal.returns-in_ok-any_of-in-ZoneDropped-clause-changes
 returns-in_ok-any_of-in-ZoneDropped-clause-changes g c =
@@ -58,7 +60,8 @@ returns-in_ok-keep_head-in-ZonePut-clause-takes g c fit short =
     let known = subst (λ (it : Effect). IsFit (effect_as it)) c.in-ZonePut.is fit in
     takes_of _ _ _ _ _ c.in-ZonePut.is
     (takes_then _ _ _ tt _ (λ stored. record stored { heads = change.with_head client zone stored.heads }) 1 (length c.in-ZonePut.rows.now) (λ stored. Unit {0}) (λ stored. Unit {0}) (λ stored u. tt)
-    c.in_ok-keep_head-in-ZonePut.ensures.changes c.in_ok-keep_head-in-ZonePut.ensures.takes c.zone_rows.ensures.changes.survives (c.zone_rows.ensures.takes known.1))
+    c.in_ok-keep_head-in-ZonePut.ensures.changes c.in_ok-keep_head-in-ZonePut.ensures.takes c.replace.ensures.changes.survives
+    (c.replace.ensures.takes (all_so (λ row. Unit {0}) (λ row. tt) _) (rows_new client zone c.in-ZonePut.rows.now known.1)))
 
 pub returns-in_ok-any_of-in-ZoneDropped-clause-takes : goal.returns-in_ok-any_of-in-ZoneDropped-clause-takes
 returns-in_ok-any_of-in-ZoneDropped-clause-takes g c fit short =

@@ -1,9 +1,8 @@
 use Rattle.std.proofs.Common.{◌≤◌, ◌+◌, ◌-◌, Err, Ok, ap, drop, length, take, subst, sym, ◌∙◌, arith}
 use Rattle.std.specs.Prelude.{fold, sum_by}
 use Rattle.std.proofs.lemmas.List.{length-drop, take_all}
-use Rattle.sql_texts.specs.Meaning.{Means}
 use Rattle.sql_texts.specs.Schema.{bureau}
-use Rattle.sql_texts.specs.Writes.{insert_given}
+use Rattle.sql_writes.specs.Many.{MeansBy, insert_alike, parameters_to}
 use Rattle.sql_tables.specs.Changes.{published}
 use Rattle.sql_tables.specs.Fit.{IsFitChange}
 use Rattle.sql_state.proofs.StopFacts.{was_clean}
@@ -30,7 +29,7 @@ loop-at-init g c =
           (changes_then _ _ _ c.in_ok-free.free (Ok c.in_ok-conds.conds) (λ stored. stored) (λ stored. stored) c.in_ok-free.ensures.changes c.in_ok-conds.ensures.changes));
       takes = λ fits short. takes_told _ _ c.in_ok-conds.conds tt 0 Fits (takes_more _ _ _ (0 + 0) 0 (λ stored. Unit {0}) Fits (λ stored free. tt) (omega arith)
           (takes_then _ _ _ c.in_ok-free.free (Ok c.in_ok-conds.conds) (λ stored. stored) 0 0 (λ stored. Unit {0}) (λ stored. Unit {0}) (λ stored u. tt)
-          c.in_ok-free.ensures.changes c.in_ok-free.ensures.takes c.prepare.ensures.changes.survives (c.in_ok-conds.ensures.takes (insert_given 9 3) 3 c.insertion.ensures)));
+          c.in_ok-free.ensures.changes c.in_ok-free.ensures.takes c.prepare.ensures.changes.survives (c.in_ok-conds.ensures.takes (insert_alike 9 1 2 1) (parameters_to 3) c.insertion.ensures)));
       clean = λ clean. clean;
     }
 
@@ -43,7 +42,7 @@ put_together-requires g c =
     let long = ap length rest in
     let low : at + c.together-count.result ≤ length all = omega (arith, left, long, c.together-count.ensures.within, c.loop-at.invariant.within) in
     record {
-      conds = λ clean. subst (λ text. Means bureau text (insert_given 9 3) 3) (sym (c.in_ok-conds.ensures.text (c.loop-at.invariant.clean clean))) c.insertion.ensures;
+      conds = λ clean. subst (λ text. MeansBy bureau text (insert_alike 9 1 2 1) (parameters_to 3)) (sym (c.in_ok-conds.ensures.text (c.loop-at.invariant.clean clean))) c.insertion.ensures;
       together = subst IsTogether (ap (take c.together-count.result) rest ∙ part_as at c.together-count.result all) c.together-count.ensures.together;
     }
 
@@ -62,7 +61,7 @@ pub returns-in_err-conds-clause-takes : goal.returns-in_err-conds-clause-takes
 returns-in_err-conds-clause-takes g c fits short =
     stopped_first _ _ c.in_err-conds.field-0.0 _ (0 + 0) _ (λ stored. Unit {0}) (λ stored. Unit {0}) c.from_residual-in_err-conds.ensures.1 (λ stored u. tt)
     (takes_then _ _ _ c.in_ok-free.free (Err c.in_err-conds.field-0.0) (λ stored. stored) 0 0 (λ stored. Unit {0}) (λ stored. Unit {0}) (λ stored u. tt)
-    c.in_ok-free.ensures.changes c.in_ok-free.ensures.takes c.prepare.ensures.changes.survives (c.in_err-conds.ensures.takes (insert_given 9 3) 3 c.insertion.ensures)) (omega arith)
+    c.in_ok-free.ensures.changes c.in_ok-free.ensures.takes c.prepare.ensures.changes.survives (c.in_err-conds.ensures.takes (insert_alike 9 1 2 1) (parameters_to 3) c.insertion.ensures)) (omega arith)
 
 pub returns-in_err-put_together-clause-changes : goal.returns-in_err-put_together-clause-changes
 returns-in_err-put_together-clause-changes g c =

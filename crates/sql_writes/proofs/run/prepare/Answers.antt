@@ -7,4 +7,4 @@ returns-clause-changes g c =
     prepared (λ statement. statement.text) _ _ c.args.text.now _ c.prepare.ensures.ok c.prepare.ensures.err c.prepare.ensures.survives
 
 pub returns-clause-takes : goal.returns-clause-takes
-returns-clause-takes g c command parameters means = prepared_takes (λ statement. statement.text) _ _ c.args.text.now command parameters _ means c.prepare.ensures.ok c.prepare.ensures.err
+returns-clause-takes g c command names means = prepared_takes (λ statement. statement.text) _ _ c.args.text.now command names _ means c.prepare.ensures.ok c.prepare.ensures.err
