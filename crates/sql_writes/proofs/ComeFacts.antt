@@ -82,27 +82,3 @@ module _ {A F : Type 0} (old new : State) (text : List ℕ) (result : Result A F
         held_set 11 _ old.now new.now set ∙ ap (λ all. record (held_by old.now) { holds = all }) (come rows (Int (next_rowid rows) ∷ values)),
         set.others.0 (λ e. omega (arith, e)),
       ))
-
-  pub heads_come : (client : List ℕ) (zone : List ℕ) (patterns : List (List ℕ)) (a b c : ValueRef) → owned a ≡ id_value client → owned b ≡ id_value zone → owned c ≡ texts_value patterns
-      → (HasCleanDisk old → Means bureau text (insert_given 6 3) 3) → Ran text (bound (a ∷ b ∷ c ∷ [])) old new result → Changes old new result (with_head client zone patterns)
-  heads_come client zone patterns a b c at_a at_b at_c means ran =
-      let rows = old.now.trees 13 in
-      let values = head_row client zone patterns in
-      changed_by old new text values result (with_head client zone patterns) (subst (λ row. Ran text row old new result) (λ i. bound_value (at_a i) ∷ bound_value (at_b i) ∷ bound_value (at_c i) ∷ []) ran) (λ clean count known executes.
-      let set = inserts text 6 schema.zone_head 3 values values old new count (means clean) refl refl refl (λ i. cast_null i ∷ head_row client zone patterns) known.schema known.numbered.1.1.1.1.1.1.0 executes in (
-        known_after 13 _ old.now new.now known.numbered set,
-        held_set 13 _ old.now new.now set ∙ ap (λ all. record (held_by old.now) { heads = all }) (come rows (Int (next_rowid rows) ∷ values)),
-        set.others.0 (λ e. omega (arith, e)),
-      ))
-
-  pub received_come : (client : List ℕ) (ids : List (List ℕ)) (a b : ValueRef) → owned a ≡ id_value client → owned b ≡ ids_value ids
-      → (HasCleanDisk old → Means bureau text (insert_given 8 2) 2) → Ran text (bound (a ∷ b ∷ [])) old new result → Changes old new result (with_received client ids)
-  received_come client ids a b at_a at_b means ran =
-      let rows = old.now.trees 17 in
-      let values = received_row client ids in
-      changed_by old new text values result (with_received client ids) (subst (λ row. Ran text row old new result) (λ i. bound_value (at_a i) ∷ bound_value (at_b i) ∷ []) ran) (λ clean count known executes.
-      let set = inserts text 8 schema.received_list 2 values values old new count (means clean) refl refl refl (λ i. cast_null i ∷ received_row client ids) known.schema known.numbered.1.1.1.1.1.1.1.1.0 executes in (
-        known_after 17 _ old.now new.now known.numbered set,
-        held_set 17 _ old.now new.now set ∙ ap (λ all. record (held_by old.now) { received = all }) (come rows (Int (next_rowid rows) ∷ values)),
-        set.others.0 (λ e. omega (arith, e)),
-      ))

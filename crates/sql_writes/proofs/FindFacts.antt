@@ -3,6 +3,7 @@ use Rattle.std.proofs.Common.{◌≡◌, ℕ, zero, suc, ◌==◌, Bool, false, 
 use Rattle.std.specs.Prelude.{drop, filter, length, map, not}
 use Rattle.std.specs.List.{list_any}
 use Rattle.std.proofs.lemmas.Bool.Decides.{nat_tests}
+use Rattle.std.proofs.lemmas.List.{length-map}
 use Rattle.std.proofs.lemmas.List.Sorted.{length_permutation}
 use Rattle.sqlite.specs.Order.{Row}
 use Rattle.sqlite.specs.State.{HasCleanDisk, Shown, State}
@@ -30,10 +31,6 @@ use Rattle.sql_rows.proofs.TableFacts.{none_goes}
 use Rattle.sql_rows.proofs.TurnFacts.{told}
 use Rattle.sql_rows.proofs.RowidFacts.{any_counts, any_mapped, is_some_of}
 
-mapped_as_long : {X Y : Type 0} (f : X → Y) (xs : List X) → length (map f xs) ≡ length xs
-mapped_as_long f [] = refl
-mapped_as_long f (x ∷ xs) = ap suc (mapped_as_long f xs)
-
 any_alike : {X : Type 0} (f g : X → Bool) → ((x : X) → f x ≡ g x) → (xs : List X) → list_any f xs ≡ list_any g xs
 any_alike f g same xs = ap (λ test. list_any test xs) (λ i x. same x i)
 
@@ -48,7 +45,7 @@ rows_found : (text : List ℕ) (tree : ℕ) (tests : List Term) (project order :
 rows_found text tree tests project order names parameters params old new rows test reads known shows alike =
     let trees = old.now.trees tree in
     let same = table_read text tree tests project order names parameters params old new rows reads known.schema shows in
-    ap is_some_of (length_permutation (map (shown project) (filter (passes params tests) trees)) rows same ∙ mapped_as_long (shown project) (filter (passes params tests) trees))
+    ap is_some_of (length_permutation (map (shown project) (filter (passes params tests) trees)) rows same ∙ length-map (filter (passes params tests) trees) (shown project))
     ∙ sym (any_counts (passes params tests) trees)
     ∙ any_alike (passes params tests) (λ row. test (drop 1 row)) alike trees
     ∙ sym (any_mapped test (drop 1) trees)

@@ -1,5 +1,5 @@
 -- Why the statement is refused that inserts a row of one of the bureau's tables.
-use Rattle.std.proofs.Common.{◌≡◌, ◌≤◌, ◌<◌, ℕ, ℤ, pos, negsuc, false, true, List, [], ◌∷◌, Option, None, Some, Result, length, refl, ◌∙◌, ap, subst, arith}
+use Rattle.std.proofs.Common.{sym, ◌≡◌, ◌≤◌, ◌<◌, ℕ, ℤ, pos, negsuc, false, true, List, [], ◌∷◌, Option, None, Some, Result, length, refl, ◌∙◌, ap, subst, arith}
 use Rattle.std.specs.Prelude.{IfSome}
 use Rattle.std.specs.List.{list_any}
 use Rattle.std.proofs.lemmas.Bool.Decides.{nat_tests}
@@ -11,6 +11,7 @@ use Rattle.sqlite.specs.Order.{Row}
 use Rattle.sqlite.specs.State.{HasCleanDisk, State}
 use Rattle.sqlite.specs.Values.{bound, bound_value}
 use Rattle.sqlite.specs.declared.error.Error.{Error}
+use Rattle.sqlite.specs.declared.types.Value.{Value}
 use Rattle.sqlite.specs.declared.types.Value.TheVariants.{Blob, Int, Text}
 use Rattle.sqlite_value.specs.Value.{owned}
 use Rattle.sqlite_value.specs.declared.value.ValueRef.{ValueRef}
@@ -34,6 +35,9 @@ use Rattle.sql_writes.proofs.StepFacts.{comes_takes}
 
 pub short_enough : (text : List ℕ) → is_short text ≡ true → length text ≤ 300000000
 short_enough text is = grind (arith, nat_tests)
+
+pub text_short : (a b : List ℕ) → ◌≡◌ {A = Value} (Text a) (Text b) → is_short b ≡ true → length a ≤ 300000000
+text_short a b same short = let one : a ≡ b = cc in subst (λ text. length text ≤ 300000000) (sym one) (short_enough b short)
 
 -- ---- what may be absent
 
@@ -82,23 +86,4 @@ module _ (old new : State) (text : List ℕ) (result : Result (Unit {0}) Error) 
       (fits_hold (text_of hold.key.sysmod) (kind_order hold.key.kind) (text_of hold.key.reason) (optional_text hold.fmid) (optional_text hold.class) (date_number hold.dated) (optional_text hold.resolver) _
       (few hold.key.sysmod is.sysmod) (kind_low hold.key.kind) (few hold.key.reason is.reason) (optional_few hold.fmid is.fmid) (optional_few hold.class is.class) (optional_few hold.resolver is.resolver) (short_enough _ short))
       (λ database known none. unique_hold database known hold.key rest is.sysmod is.reason none)
-      (subst (λ row. Ran text row old new result) given ran) (subst (λ row. FailsInside text row old new result) given fails)
-
-  pub head_takes : (client zone : List ℕ) (patterns : List (List ℕ)) (a b c : ValueRef) → IsId client → IsId zone → owned a ≡ id_value client → owned b ≡ id_value zone → owned c ≡ texts_value patterns
-      → (HasCleanDisk old → Means bureau text (insert_given 6 3) 3) → Ran text (bound (a ∷ b ∷ c ∷ [])) old new result → FailsInside text (bound (a ∷ b ∷ c ∷ [])) old new result
-      → are_short patterns ≡ true → Takes old new result 1 (λ stored. list_any (is_of_both client zone) stored.heads ≡ false)
-  head_takes client zone patterns a b c is is_zone at_a at_b at_c means ran fails short =
-      let given : bound (a ∷ b ∷ c ∷ []) ≡ head_row client zone patterns = λ i. bound_value (at_a i) ∷ bound_value (at_b i) ∷ bound_value (at_c i) ∷ [] in
-      comes_takes text old new result 6 schema.zone_head refl (λ database known. known.numbered.1.1.1.1.1.1.0) (λ most trees low. low.1.1.1.1.1.1.0) 3 (head_row client zone patterns) (λ stored. list_any (is_of_both client zone) stored.heads ≡ false)
-      means refl refl refl refl (fits_head (text_of client) (text_of zone) _ (few client is) (few zone is_zone) (short_enough _ short))
-      (λ database known none. unique_head database.trees (database.trees 13) client zone (texts_value patterns ∷ []) is is_zone none)
-      (subst (λ row. Ran text row old new result) given ran) (subst (λ row. FailsInside text row old new result) given fails)
-
-  pub received_takes : (client : List ℕ) (ids : List (List ℕ)) (a b : ValueRef) → IsId client → owned a ≡ id_value client → owned b ≡ ids_value ids
-      → (HasCleanDisk old → Means bureau text (insert_given 8 2) 2) → Ran text (bound (a ∷ b ∷ [])) old new result → FailsInside text (bound (a ∷ b ∷ [])) old new result
-      → are_short_ids ids ≡ true → Takes old new result 1 (λ stored. list_any (is_of client) stored.received ≡ false)
-  received_takes client ids a b is at_a at_b means ran fails short =
-      let given : bound (a ∷ b ∷ []) ≡ received_row client ids = λ i. bound_value (at_a i) ∷ bound_value (at_b i) ∷ [] in
-      comes_takes text old new result 8 schema.received_list refl (λ database known. known.numbered.1.1.1.1.1.1.1.1.0) (λ most trees low. low.1.1.1.1.1.1.1.1.0) 2 (received_row client ids) (λ stored. list_any (is_of client) stored.received ≡ false)
-      means refl refl refl refl (fits_received (text_of client) _ (few client is) (short_enough _ short)) (λ database known none. unique_received database.trees (database.trees 17) client (ids_value ids ∷ []) is none)
       (subst (λ row. Ran text row old new result) given ran) (subst (λ row. FailsInside text row old new result) given fails)

@@ -2,6 +2,7 @@
 use Rattle.std.proofs.Common.{◌≡◌, ◌<◌, ◌+◌, ◌^◌, ◌/◌, ℕ, true, false, List, [], ◌∷◌, Option, None, Some, Result, Ok, Err, IsTrue, OnOk, length, map, suc, refl, sym, ◌∙◌, ap, subst}
 use Rattle.std.specs.Prelude.{IfErr, IfOk, IsSome, slice_get}
 use Rattle.std.specs.List.{range_with_len}
+use Rattle.std.proofs.lemmas.List.{length-map}
 use Rattle.sqlite.specs.Command.{Command}
 use Rattle.sqlite.specs.Does.{Does}
 use Rattle.sqlite.specs.Edit.{next_rowid}
@@ -117,10 +118,6 @@ pub rows_go_takes : (text : List ℕ) (old new : State) (result : Result (Unit {
 rows_go_takes text old new result index table rows with_rows stands tests parameters params means given accepted ran fails =
     goes_takes text old new result index table stands.placed (numbered_so index table rows with_rows stands) (low_so index table stands.placed) tests parameters params means given accepted ran fails
 
-mapped_long : {X Y : Type 0} (f : X → Y) (xs : List X) → length (map f xs) ≡ length xs
-mapped_long f [] = refl
-mapped_long f (x ∷ xs) = ap suc (mapped_long f xs)
-
 -- a statement is prepared
 pub prepared_takes : {A : Type 0} (text_of : A → List ℕ) (old new : State) (text : List ℕ) (command : Command) (names : List (List ℕ)) (result : Result A Error) → MeansBy bureau text command names
     → (HasCleanDisk new → IfOk result (λ a. (text_of a ≡ text) × IsUnchanged old new))
@@ -139,6 +136,6 @@ prepared_takes {A} text_of old new text command names result means ok err = by r
     by (Err e) ok err = record {
       excused = λ most room clean inside from.
           unrun old new text params command names e (ap (λ s. understood s text) from.0.0.schema ∙ means.statement)
-          (mapped_long (λ k. Null) names) (err clean params);
+          (length-map names (λ k. Null)) (err clean params);
       numbers = tt;
     }

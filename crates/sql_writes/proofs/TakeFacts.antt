@@ -85,6 +85,10 @@ takes_more {A} old new result rows more Fits Others fits fewer one = record {
         let sum : (most + rows) + (more - rows) ≡ most + more = omega (arith, fewer) in
         subst (λ n. AreUpTo n new.now.trees) sum (raised_up_to (most + rows) (more - rows) new.now.trees (numbers clean inside most from))
 
+-- one row, of which alone such a thing is true
+pub takes_alone : {A : Type 0} (old new : State) (result : Result A Error) (Fits : Stored → Type 0) → Takes old new result 1 (λ stored. Fits stored × Unit {0}) → Takes old new result 1 Fits
+takes_alone old new result Fits one = takes_more old new result 1 1 (λ stored. Fits stored × Unit {0}) Fits (λ stored fits. (fits, tt)) (omega arith) one
+
 -- a success is told otherwise
 pub takes_told : {A B : Type 0} (old new : State) (a : A) (b : B) (rows : ℕ) (Fits : Stored → Type 0) → Takes {Answer = A} old new (Ok a) rows Fits → Takes {Answer = B} old new (Ok b) rows Fits
 takes_told old new a b rows Fits one = record { excused = λ most room. tt; numbers = one.numbers }

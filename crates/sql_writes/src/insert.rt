@@ -19,19 +19,19 @@ ghost use Rattle.sql_writes.specs.Parts.{with_callers, with_head, with_hold, wit
 use crate::params::{count_of, params_of};
 use crate::records::SysmodRow;
 use crate::run::{run, run_prepared};
-use crate::table::Several;
+use crate::table::{ByOne, Several};
 use crate::texts;
 use crate::values::number_of;
 use bureau_store::CallerRow;
 use holddata::Hold;
 use mcs_reader::Id;
-use sql_rows::{Key, id_of};
+use sql_rows::{Heads, Key, Received, Zone, id_of};
 use sql_tables::{
     categories_value, date_value, hold_kind_value, joined_ids, joined_patterns, optional_id_value,
     sysmod_kind_value,
 };
 use sql_texts::write;
-use sql_texts::write::{TableById, TableByZone};
+use sql_texts::write::TableById;
 use sqlite::types::ValueRef;
 use sqlite::{Alter, Error, Statement, Transaction};
 use std::alloc::Global;
@@ -175,13 +175,13 @@ pub(crate) fn head<S: Alter>(
         → TakesRoom S.Store tx.old.conn.now tx.new.conn.now result 1
         (λ stored. list_any (is_of_both client.now zone.now) stored.heads ≡ false) }
 {
-    let joined = joined_patterns(alloc, patterns)?;
-    let params = [
-        id_of(client),
-        id_of(zone),
-        ValueRef::Text(joined.as_slice()),
-    ];
-    run(tx, TableByZone::ZoneHead.insertion(), &params)
+    let joined = [joined_patterns(alloc, patterns)?];
+    let key = Zone {
+        client: *client,
+        zone: *zone,
+    };
+    let text = <Heads as ByOne<Zone>>::insertion();
+    rows::<Zone, Heads, S>(tx, text, &key, &joined)
 }
 
 /// What a client has received.
@@ -198,10 +198,7 @@ pub(crate) fn received<S: Alter>(
         → TakesRoom S.Store tx.old.conn.now tx.new.conn.now result 1
         (λ stored. list_any (is_of client.now) stored.received ≡ false) }
 {
-    let joined = joined_ids(alloc, ids)?;
-    run(
-        tx,
-        TableById::ReceivedList.insertion(),
-        &[id_of(client), ValueRef::Text(joined.as_slice())],
-    )
+    let joined = [joined_ids(alloc, ids)?];
+    let text = <Received as ByOne<Id>>::insertion();
+    rows::<Id, Received, S>(tx, text, client, &joined)
 }

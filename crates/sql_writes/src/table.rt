@@ -52,7 +52,8 @@ pub trait Asked<K: Key>: Deletes<K> {
 
     /// The text that shows the first column of the rows of a key.
     fn question() -> &'static str
-        ensures { Reads bureau result.now (from_table Self.table.tree K.tests (1 ∷ []) []) (name ∷ []) K.parameters };
+        ensures { Reads bureau result.now (from_table Self.table.tree K.tests (1 ∷ []) []) (name ∷ [])
+            K.parameters };
 
     /// The database takes each key in its tests.
     ghost takes: { (key : K)

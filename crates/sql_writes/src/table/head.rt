@@ -1,9 +1,10 @@
 //! The table `zone_head`: that a client has a zone, and the patterns that it asks for in it.
 #![tactic(auto, unfolding(sqlite::specs::Listing::understood, sqlite_tied::specs::Compute::everything))]
 
-use super::{Asked, Deletes};
+use super::{Asked, ByOne, Deletes, Several};
 use mcs_reader::Id;
 use sql_rows::{Heads, Zone};
+use sqlite::types::ValueRef;
 
 impl Deletes<Zone> for Heads {
     ghost use Rattle.std.specs.Prelude.{refl};
@@ -35,4 +36,75 @@ impl Asked<Zone> for Heads {
     }
 
     ghost takes = { λ key. refl };
+}
+
+impl Several<Zone> for Heads {
+    ghost use Rattle.std.specs.Prelude.{◌≡◌, ◌≤◌, ◌∷◌, [], false, length, refl, true};
+    ghost use Rattle.mcs_reader.specs.Id.{text_of};
+    ghost use Rattle.sqlite_value.specs.declared.value.Value.TheVariants.{Text};
+    ghost use Rattle.sql_texts.specs.Schema as schema;
+    ghost use Rattle.sql_tables.specs.Stored.{is_of_both};
+    ghost use Rattle.sql_tables.specs.Values.{id_value};
+    ghost use Rattle.sql_writes.specs.Many.{AreGiven};
+    ghost use Rattle.sql_rows.proofs.AbsentFacts.{unique_head};
+    ghost use Rattle.sql_rows.proofs.CountFacts.{one_only, room_of_one};
+    ghost use Rattle.sql_rows.proofs.FittingFacts.{few, fits_head};
+    ghost use Rattle.sql_rows.proofs.StatementFacts.{cast_null};
+
+    type Item = Vec<u8>;
+
+    ghost own = { 1 };
+
+    ghost values_of = { λ joined. Text joined.items ∷ [] };
+
+    ghost row_of = { λ key joined. id_value key.client ∷ id_value key.zone ∷ Text joined.items ∷ [] };
+
+    ghost is_fit = { λ joined. Unit {0} };
+
+    ghost is_short = { λ joined. length joined.items ≤ 300000000 };
+
+    ghost is_same = { λ key joined. is_of_both key.client key.zone };
+
+    ghost counts = { λ count. count ≡ 1 };
+
+    fn columns<'a>(joined: &'a Vec<u8>) -> [ValueRef<'a>; 5] {
+        [
+            ValueRef::Text(joined.as_slice()),
+            ValueRef::Null,
+            ValueRef::Null,
+            ValueRef::Null,
+            ValueRef::Null,
+        ]
+    }
+
+    fn width() -> usize {
+        1
+    }
+
+    ghost room = { λ count is. room_of_one 2 1 count is refl };
+
+    ghost given = { λ key all is. one_only
+        (AreGiven schema.zone_head 2 1 (id_value key.client ∷ id_value key.zone ∷ []) (λ joined. Text joined.items ∷ [])
+        (λ joined. id_value key.client ∷ id_value key.zone ∷ Text joined.items ∷ []))
+        (λ a. refl) all is };
+
+    ghost cast = { λ key joined i. cast_null i ∷ id_value key.client ∷ id_value key.zone ∷ Text joined.items ∷ [] };
+
+    ghost fits = { λ key joined is here short. fits_head (text_of key.client) (text_of key.zone) joined.items
+        (few key.client is.0) (few key.zone is.1) short };
+
+    ghost unique = { λ db others key joined is here none. unique_head db others key.client key.zone (Text joined.items ∷ [])
+        is.0 is.1 none };
+
+    ghost referred = { elim [ true ↦ refl | false ↦ refl ] };
+}
+
+impl ByOne<Zone> for Heads {
+    ghost use Rattle.std.specs.Prelude.{refl};
+
+    fn insertion() -> &'static str {
+        "INSERT INTO zone_head (client, zone, patterns) VALUES (?1, ?2, ?3)"
+    }
+
+    ghost one = { refl };
 }

@@ -1,9 +1,10 @@
 //! The table `received_list`: what a client has received.
 #![tactic(auto, unfolding(sqlite::specs::Listing::understood, sqlite_tied::specs::Compute::everything))]
 
-use super::{Asked, Deletes};
+use super::{Asked, ByOne, Deletes, Several};
 use mcs_reader::Id;
 use sql_rows::Received;
+use sqlite::types::ValueRef;
 
 impl Deletes<Id> for Received {
     ghost use Rattle.std.specs.Prelude.{refl};
@@ -25,4 +26,75 @@ impl Asked<Id> for Received {
     }
 
     ghost takes = { λ id. refl };
+}
+
+impl Several<Id> for Received {
+    ghost use Rattle.std.specs.Prelude.{◌≡◌, ◌≤◌, ◌∷◌, [], false, length, refl, true};
+    ghost use Rattle.mcs_reader.specs.Id.{text_of};
+    ghost use Rattle.sqlite_value.specs.declared.value.Value.TheVariants.{Text};
+    ghost use Rattle.sql_texts.specs.Schema as schema;
+    ghost use Rattle.sql_tables.specs.Stored.{is_of};
+    ghost use Rattle.sql_tables.specs.Values.{id_value};
+    ghost use Rattle.sql_writes.specs.Many.{AreGiven};
+    ghost use Rattle.sql_rows.proofs.AbsentFacts.{unique_received};
+    ghost use Rattle.sql_rows.proofs.CountFacts.{one_only, room_of_one};
+    ghost use Rattle.sql_rows.proofs.FittingFacts.{few, fits_received};
+    ghost use Rattle.sql_rows.proofs.StatementFacts.{cast_null};
+
+    type Item = Vec<u8>;
+
+    ghost own = { 1 };
+
+    ghost values_of = { λ joined. Text joined.items ∷ [] };
+
+    ghost row_of = { λ client joined. id_value client ∷ Text joined.items ∷ [] };
+
+    ghost is_fit = { λ joined. Unit {0} };
+
+    ghost is_short = { λ joined. length joined.items ≤ 300000000 };
+
+    ghost is_same = { λ client joined. is_of client };
+
+    ghost counts = { λ count. count ≡ 1 };
+
+    fn columns<'a>(joined: &'a Vec<u8>) -> [ValueRef<'a>; 5] {
+        [
+            ValueRef::Text(joined.as_slice()),
+            ValueRef::Null,
+            ValueRef::Null,
+            ValueRef::Null,
+            ValueRef::Null,
+        ]
+    }
+
+    fn width() -> usize {
+        1
+    }
+
+    ghost room = { λ count is. room_of_one 1 1 count is refl };
+
+    ghost given = { λ client all is. one_only
+        (AreGiven schema.received_list 1 1 (id_value client ∷ []) (λ joined. Text joined.items ∷ [])
+        (λ joined. id_value client ∷ Text joined.items ∷ []))
+        (λ a. refl) all is };
+
+    ghost cast = { λ client joined i. cast_null i ∷ id_value client ∷ Text joined.items ∷ [] };
+
+    ghost fits = { λ client joined is here short. fits_received (text_of client) joined.items
+        (few client is) short };
+
+    ghost unique = { λ db others client joined is here none. unique_received db others client (Text joined.items ∷ [])
+        is none };
+
+    ghost referred = { elim [ true ↦ refl | false ↦ refl ] };
+}
+
+impl ByOne<Id> for Received {
+    ghost use Rattle.std.specs.Prelude.{refl};
+
+    fn insertion() -> &'static str {
+        "INSERT INTO received_list (client, ids) VALUES (?1, ?2)"
+    }
+
+    ghost one = { refl };
 }

@@ -1,14 +1,16 @@
-use Rattle.std.proofs.Common.{ap, ◌∙◌}
-use Rattle.sqlite.specs.declared.types.Value.TheVariants.{Text}
-use Rattle.sqlite_value.specs.declared.value.ValueRef.TheVariants as lent
-use Rattle.sql_writes.proofs.ComeFacts.{heads_come}
-use Rattle.sql_writes.proofs.RoomFacts.{head_takes}
+use Rattle.std.proofs.Common.{◌≡◌, ◌++◌, [], ◌∷◌, subst}
+use Rattle.sqlite.specs.Held.{state}
+use Rattle.sqlite.specs.declared.error.Error.{Error}
+use Rattle.sql_tables.specs.Values.{id_value}
+use Rattle.sql_state.specs.Writing.{Changes}
+use Rattle.sql_writes.proofs.RoomFacts.{text_short}
+use Rattle.sql_writes.proofs.TakeFacts.{takes_alone}
 use Rattle.sql_writes.proofs.insert.head.Goals as goal
 
 pub returns-clause-changes : goal.returns-clause-changes
 returns-clause-changes g c =
-    heads_come _ _ _ _ c.args.client.now c.args.zone.now c.args.patterns.now c.id_of.result c.id_of-2.result (lent.Text c.as_slice.result) c.id_of.ensures.value c.id_of-2.ensures.value (ap Text c.as_slice.ensures.value ∙ c.in_ok-joined.ensures) (λ _. c.insertion.ensures) c.run.ensures.ran
+    subst (λ value. Changes {Answer = Unit {0}} {Fault = Error} (state g.S.Store c.args.tx.now.conn.now) (state g.S.Store c.rows.new.tx.conn.now) c.rows.result
+    (λ stored. record stored { heads = stored.heads ++ (id_value c.args.client.now ∷ id_value c.args.zone.now ∷ value ∷ []) ∷ [] })) c.in_ok-joined_patterns.ensures c.rows.ensures.changes
 
 pub returns-clause-takes : goal.returns-clause-takes
-returns-clause-takes g c =
-    head_takes _ _ _ _ c.args.client.now c.args.zone.now c.args.patterns.now c.id_of.result c.id_of-2.result (lent.Text c.as_slice.result) c.id_of.ensures.is_id c.id_of-2.ensures.is_id c.id_of.ensures.value c.id_of-2.ensures.value (ap Text c.as_slice.ensures.value ∙ c.in_ok-joined.ensures) (λ _. c.insertion.ensures) c.run.ensures.ran c.run.ensures.fails
+returns-clause-takes g c short = takes_alone _ _ _ _ (c.rows.ensures.takes (text_short _ _ c.in_ok-joined_patterns.ensures short, tt))
