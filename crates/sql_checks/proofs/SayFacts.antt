@@ -5,9 +5,8 @@ use Rattle.std.proofs.lemmas.List.Sums.{sum_by-cons}
 use Rattle.std.proofs.lemmas.Slice.Eq.{bytes_eq-Decides}
 use Rattle.std.specs.Prelude.{map, nat_lt, option_and_then, option_map, sum_by, unwrap_or}
 use Rattle.bureau_store.specs.Caller.{caller_named, is_publisher, publisher_name}
-use Rattle.bureau_store.specs.Tables.{LastChange, NamesAscend, ZoneTable, Zones, no_change}
+use Rattle.bureau_store.specs.Tables.{LastChange, ZoneTable, Zones, no_change}
 use Rattle.bureau_store.specs.declared.caller.Caller.TheVariants.{Client, Publisher}
-use Rattle.bureau_store.specs.declared.caller.CallerRow.{CallerRow}
 use Rattle.lemmas.proofs.TestFacts.{less_number}
 use Rattle.mcs_reader.specs.Id.{IsId, text_of}
 use Rattle.sqlite.specs.Query.{IsAnswer}
@@ -17,33 +16,21 @@ use Rattle.sqlite_value.specs.declared.value.Value.TheVariants.{Text}
 use Rattle.sql_reads.specs.Answering.{one_of}
 use Rattle.sql_reads.specs.ZoneCounts.{zone_counted}
 use Rattle.sql_reads.proofs.ClientFacts.{last_told}
+use Rattle.sql_reads.proofs.UnsaidFacts.{one_list}
 use Rattle.sql_reads.proofs.ZoneFacts.{zones_told}
 use Rattle.sql_tables.specs.InTrees.{stored_in}
-use Rattle.sql_tables.specs.Rows.{caller_found, change_found}
+use Rattle.sql_tables.specs.Rows.{change_found}
 use Rattle.sql_tables.specs.Stored.{name_of, tables_of}
 use Rattle.sql_tables.specs.Values.{number_in}
 use Rattle.sql_tables.specs.Whole.{IsWhole}
 use Rattle.sql_texts.specs.Reads as read
-use Rattle.sql_checks.specs.Refused.{IsCountOf, SaysCallers, SaysCount, SaysLast, SaysZones, counted}
+use Rattle.sql_checks.specs.Refused.{IsCountOf, SaysCount, SaysLast, SaysZones, counted}
 
 -- ---- rows that say nothing
-
--- what all say is one list
-one_list : {A : Type 0} (xs ys : List A) → map Some xs ≡ map Some ys → xs ≡ ys
-one_list [] [] same = refl
-one_list [] (y ∷ ys) same = cc
-one_list (x ∷ xs) [] same = cc
-one_list (x ∷ xs) (y ∷ ys) same =
-    let first : x ≡ y = cc in
-    let rest : map Some xs ≡ map Some ys = cc in ap (λ a. a ∷ xs) first ∙ ap (λ all. y ∷ all) (one_list xs ys rest)
 
 -- zones that can't be counted leave their rows unsaid
 pub uncounted : (rows : List Row) (zones : List (List ℕ × ℕ)) → map Some zones ≡ map zone_counted rows → ((counts : ℕ × ℕ) → IsCountOf zones counts → ⊥) → (counts : ℕ × ℕ) → SaysZones rows counts → ⊥
 uncounted rows zones are none counts said = none counts (subst (λ all. IsCountOf all counts) (one_list said.0 zones (said.1 ∙ sym are)) said.2)
-
--- so do callers that are out of order
-pub disordered : (rows : List Row) (callers : List CallerRow) → map Some callers ≡ map caller_found rows → (NamesAscend (map (λ row. row.name) callers) → ⊥) → (others : List CallerRow) → SaysCallers rows others → ⊥
-disordered rows callers are none others said = none (subst (λ all. NamesAscend (map (λ (row : CallerRow). row.name) all)) (one_list others callers (said.0 ∙ sym are)) said.1)
 
 -- ---- what is said is so
 

@@ -1,6 +1,6 @@
 -- What each row of a store keeps to, so that it is one that the bureau writes, and that a read takes.
-use Rattle.std.specs.Prelude.{◌≡◌, ℕ, suc, Bool, true, false, List, [], ◌∷◌, map, IsSome, IsTrue, Some}
-use Rattle.std.specs.List.{AllByRecursion}
+use Rattle.std.specs.Prelude.{◌≡◌, ℕ, suc, Bool, true, false, List, [], length, map, IsSome, IsTrue, Some}
+use Rattle.std.specs.List.{AllByRecursion, range_with_len}
 use Rattle.bureau_store.specs.Tables.{PatternsAscend}
 use Rattle.catalogue.specs.Ids.{Ascend}
 use Rattle.sqlite.specs.Query.{Query}
@@ -17,55 +17,7 @@ use Rattle.sql_texts.specs.Schema.{columns_of}
 use Rattle.sql_checks.specs.declared.table.StoreTable.{StoreTable}
 use Rattle.sql_checks.specs.declared.table.StoreTable.TheVariants.{Caller, LastChange, Sysmod, SysmodSup, SysmodCond, HoldRow, ZoneHead, ZoneRow, ReceivedList}
 
--- ---- the tables
-
--- as the database makes it
-abbrev pub table_of : StoreTable → Table
-table_of Caller = made.caller
-table_of LastChange = made.last_change
-table_of Sysmod = made.sysmod
-table_of SysmodSup = made.sysmod_sup
-table_of SysmodCond = made.sysmod_cond
-table_of HoldRow = made.hold_row
-table_of ZoneHead = made.zone_head
-table_of ZoneRow = made.zone_row
-table_of ReceivedList = made.received_list
-
-abbrev pub table_name : StoreTable → List ℕ
-table_name table = (table_of table).name
-
--- its rows
-abbrev pub rows_in : StoreTable → Stored → List Row
-rows_in Caller stored = stored.callers
-rows_in LastChange stored = stored.changes
-rows_in Sysmod stored = stored.sysmods
-rows_in SysmodSup stored = stored.sups
-rows_in SysmodCond stored = stored.conds
-rows_in HoldRow stored = stored.holds
-rows_in ZoneHead stored = stored.heads
-rows_in ZoneRow stored = stored.rows
-rows_in ReceivedList stored = stored.received
-
--- its columns, from 0 on
-abbrev pub indices_in : StoreTable → List ℕ
-indices_in Caller = 0 ∷ 1 ∷ []
-indices_in LastChange = 0 ∷ 1 ∷ 2 ∷ []
-indices_in Sysmod = 0 ∷ 1 ∷ 2 ∷ 3 ∷ 4 ∷ []
-indices_in SysmodSup = 0 ∷ 1 ∷ []
-indices_in SysmodCond = 0 ∷ 1 ∷ 2 ∷ []
-indices_in HoldRow = 0 ∷ 1 ∷ 2 ∷ 3 ∷ 4 ∷ 5 ∷ 6 ∷ 7 ∷ []
-indices_in ZoneHead = 0 ∷ 1 ∷ 2 ∷ []
-indices_in ZoneRow = 0 ∷ 1 ∷ 2 ∷ 3 ∷ []
-indices_in ReceivedList = 0 ∷ 1 ∷ []
-
-abbrev pub names_in : StoreTable → List (List ℕ)
-names_in table = columns_of (table_of table)
-
--- the query of all its rows, with all columns
-abbrev pub all_of : StoreTable → Query
-all_of table = from_table (table_of table).tree [] (map suc (indices_in table)) []
-
--- ---- what a row keeps to
+-- ---- what stands in the columns of a row
 
 abbrev pub is_any_text : Value → Bool
 is_any_text (Text t) = true
@@ -103,16 +55,88 @@ IsHeadRow row = IsIdColumn row 0 × IsIdColumn row 1 × ArePatternsColumn row 2
 abbrev pub IsZoneRow : Row → Type 0
 IsZoneRow row = IsIdColumn row 0 × IsIdColumn row 1 × IsIdColumn row 2 × IsSome (state_in (column row 3))
 
+-- ---- the tables
+
+-- what is known of a table
+pub record Known : Type 1 where
+  -- as the database makes it
+  pub table : Table
+  -- its rows
+  pub rows : Stored → List Row
+  -- what each of them keeps to
+  pub Keeps : Row → Type 0
+
+abbrev pub known : StoreTable → Known
+known Caller = record {
+  table = made.caller;
+  rows = λ stored. stored.callers;
+  Keeps = IsCallerRow;
+}
+known LastChange = record {
+  table = made.last_change;
+  rows = λ stored. stored.changes;
+  Keeps = IsChangeRow;
+}
+known Sysmod = record {
+  table = made.sysmod;
+  rows = λ stored. stored.sysmods;
+  Keeps = IsSysmodRow;
+}
+known SysmodSup = record {
+  table = made.sysmod_sup;
+  rows = λ stored. stored.sups;
+  Keeps = λ row. IsIdColumn row 0 × IsIdColumn row 1;
+}
+known SysmodCond = record {
+  table = made.sysmod_cond;
+  rows = λ stored. stored.conds;
+  Keeps = λ row. IsIdColumn row 0 × IsIdColumn row 1 × IsIdColumn row 2;
+}
+known HoldRow = record {
+  table = made.hold_row;
+  rows = λ stored. stored.holds;
+  Keeps = IsHoldRow;
+}
+known ZoneHead = record {
+  table = made.zone_head;
+  rows = λ stored. stored.heads;
+  Keeps = IsHeadRow;
+}
+known ZoneRow = record {
+  table = made.zone_row;
+  rows = λ stored. stored.rows;
+  Keeps = IsZoneRow;
+}
+known ReceivedList = record {
+  table = made.received_list;
+  rows = λ stored. stored.received;
+  Keeps = λ row. IsIdColumn row 0 × AreIdsColumn row 1;
+}
+
+abbrev pub table_of : StoreTable → Table
+table_of table = (known table).table
+
+abbrev pub table_name : StoreTable → List ℕ
+table_name table = (table_of table).name
+
+abbrev pub rows_in : StoreTable → Stored → List Row
+rows_in table = (known table).rows
+
+-- its columns, from 0 on
+abbrev pub indices_in : StoreTable → List ℕ
+indices_in table = range_with_len 0 (length (table_of table).columns)
+
+abbrev pub names_in : StoreTable → List (List ℕ)
+names_in table = columns_of (table_of table)
+
+-- the query of all its rows, with all columns
+abbrev pub all_of : StoreTable → Query
+all_of table = from_table (table_of table).tree [] (map suc (indices_in table)) []
+
+-- ---- what the rows keep to
+
 abbrev pub KeepsTo : StoreTable → Row → Type 0
-KeepsTo Caller row = IsCallerRow row
-KeepsTo LastChange row = IsChangeRow row
-KeepsTo Sysmod row = IsSysmodRow row
-KeepsTo SysmodSup row = IsIdColumn row 0 × IsIdColumn row 1
-KeepsTo SysmodCond row = IsIdColumn row 0 × IsIdColumn row 1 × IsIdColumn row 2
-KeepsTo HoldRow row = IsHoldRow row
-KeepsTo ZoneHead row = IsHeadRow row
-KeepsTo ZoneRow row = IsZoneRow row
-KeepsTo ReceivedList row = IsIdColumn row 0 × AreIdsColumn row 1
+KeepsTo table = (known table).Keeps
 
 -- all rows of a table keep to it
 abbrev pub KeepTo : StoreTable → Stored → Type 0

@@ -69,16 +69,10 @@ pub(crate) fn rows_keep<T: Checked, S: Alter>(
     }
 }
 
+// Whether all of these rows are such.
 fn all_keep<T: Checked>(alloc: Global, rows: &[Row]) -> Result<bool, ReadFault>
     ensures keep { IfOk result (λ keep. IsTrue keep ↔ AllByRecursion (KeepsTo T.table) rows.now) }
     ensures memory { IfErr result (λ fault. fault ≡ ReadFault.Memory) }
-{
-    Ok(keep_to::<T>(alloc, rows)?)
-}
-
-// Whether all of these rows keep to a table.
-fn keep_to<T: Checked>(alloc: Global, rows: &[Row]) -> Result<bool, NoMemory>
-    ensures { IfOk result (λ keep. IsTrue keep ↔ AllByRecursion (KeepsTo T.table) rows.now) }
 {
     for row in rows {
         if !T::keeps(alloc, row)? {

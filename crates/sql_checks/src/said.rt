@@ -1,15 +1,13 @@
 //! What the rows say that answer a question about a store.
-ghost use Rattle.std.specs.Prelude.{◌≡◌, ◌<◌, ◌↔◌, ℕ, List, None, Some, map, sum_by, IfOk, IfSome, IsErrOf, IsTrue};
-ghost use Rattle.bureau_store.specs.Tables.{NamesAscend};
+ghost use Rattle.std.specs.Prelude.{◌≡◌, ◌<◌, ℕ, List, None, sum_by, IfOk, IfSome, IsErrOf};
 ghost use Rattle.bureau_store.specs.declared.caller.CallerRow.{CallerRow as SomeCallerRow};
-ghost use Rattle.sql_tables.specs.Rows.{caller_found};
 ghost use Rattle.sql_checks.specs.Refused as refused;
 ghost use Rattle.sql_checks.specs.Refused.{IsCountOf, SaysCallers, SaysCount, SaysLast, SaysZones};
 
 use bureau_store::CallerRow;
 use mcs_reader::Id;
-use sql_reads::{ReadFault, each_zone, names_ascend};
-use sql_tables::{NoMemory, caller_in, change_in, count_in};
+use sql_reads::{ReadFault, each_zone, entries, names_ascend};
+use sql_tables::{NoMemory, change_in, count_in};
 use sqlite::Row;
 use std::alloc::Global;
 
@@ -111,42 +109,5 @@ pub(crate) fn callers(alloc: Global, rows: &[Row]) -> Result<Vec<CallerRow>, Rea
     ensures unsaid { IsErrOf result ReadFault.Device → (callers : List SomeCallerRow)
         → SaysCallers rows.now callers → ⊥ }
 {
-    match each_caller(alloc, rows) {
-        Ok(callers) => in_order(callers).ok_or(ReadFault::Device),
-        Err(fault) => Err(fault),
-    }
-}
-
-// The caller of each row.
-fn each_caller(alloc: Global, rows: &[Row]) -> Result<Vec<CallerRow>, ReadFault>
-    ensures said { IfOk result (λ callers. map Some callers.items ≡ map caller_found rows.now) }
-    ensures unsaid { IsErrOf result ReadFault.Device → (callers : List SomeCallerRow)
-        → map Some callers ≡ map caller_found rows.now → ⊥ }
-{
-    let mut callers = Vec::with_capacity(alloc, rows.len())?;
-    for row in rows {
-        let Some(caller) = caller_in(alloc, row)? else {
-            return Err(ReadFault::Device);
-        };
-        callers.push(caller)?;
-    }
-    Ok(callers)
-}
-
-// The same callers, if their names ascend, each once.
-fn in_order(callers: Vec<CallerRow>) -> Option<Vec<CallerRow>>
-    ensures same { IfSome result (λ same. same.items ≡ callers.items) }
-    ensures ascend { IfSome result (λ same. NamesAscend (map (λ row. row.name) same.items)) }
-    ensures none { result ≡ None → NamesAscend (map (λ row. row.name) callers.items) → ⊥ }
-{
-    if !callers_ascend(callers.as_slice()) {
-        return None;
-    }
-    Some(callers)
-}
-
-fn callers_ascend(callers: &[CallerRow]) -> bool
-    ensures { IsTrue result ↔ NamesAscend (map (λ row. row.name) callers.now) }
-{
-    callers.is_sorted_by(|caller, next| caller.name.cmp(&next.name).is_lt())
+    entries(alloc, rows)
 }

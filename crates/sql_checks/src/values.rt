@@ -1,17 +1,16 @@
 //! Whether what stands in a column of a row is a value that the bureau writes.
 ghost use Rattle.std.specs.Prelude.{◌≡◌, ◌↔◌, IfOk, IsSome, IsTrue};
-ghost use Rattle.bureau_store.specs.Tables.{PatternsAscend};
 ghost use Rattle.sqlite_value.specs.Order as order;
 ghost use Rattle.sqlite_value.specs.Value.{owned};
 ghost use Rattle.sql_checks.specs.Kept.{AreIdsColumn, ArePatternsColumn, IsIdColumn, is_any_text};
 ghost use Rattle.sql_tables.specs.Values as value;
 
 use catalogue::Ids;
+use sql_reads::are_ascending;
 use sql_tables::{NoMemory, id_in, ids_in, patterns_in};
 use sqlite::Row;
 use sqlite::types::ValueRef;
 use std::alloc::Global;
-use zone_lists::Pattern;
 
 /// The value in a column.
 pub(crate) fn column(row: &Row, at: usize) -> ValueRef<'_>
@@ -68,11 +67,5 @@ pub(crate) fn are_patterns(alloc: Global, row: &Row, at: usize) -> Result<bool, 
     let Some(patterns) = patterns_in(alloc, column(row, at))? else {
         return Ok(false);
     };
-    Ok(patterns_ascend(patterns.as_slice()))
-}
-
-fn patterns_ascend(patterns: &[Pattern]) -> bool
-    ensures { IsTrue result ↔ PatternsAscend patterns.now }
-{
-    patterns.is_sorted_by(|pattern, next| pattern.cmp(next).is_lt())
+    Ok(are_ascending(patterns.as_slice()))
 }

@@ -1,5 +1,5 @@
 //! What the rows of an answer say, each for itself, and the order in which that comes.
-ghost use Rattle.std.specs.Prelude.{◌≡◌, List, Option, Some, map, IfOk, IfSome, IsTrue};
+ghost use Rattle.std.specs.Prelude.{◌≡◌, ◌↔◌, List, None, Option, Some, map, IfOk, IfSome, IsErrOf, IsTrue};
 ghost use Rattle.std.specs.Cmp.{IsTotalOrder};
 ghost use Rattle.std.specs.List.Sorted.{IsStrictlySortedBy};
 ghost use Rattle.std.specs.Ordering.{is_lt};
@@ -12,7 +12,7 @@ use sqlite::Row;
 use std::alloc::Global;
 
 /// What comes in an order of its own.
-pub(crate) trait Ordered {
+pub trait Ordered {
     /// The order.
     ghost cmp: { Self → Self → Ordering };
 
@@ -26,12 +26,12 @@ pub(crate) trait Ordered {
     /// The order is total.
     ghost total: { IsTotalOrder cmp };
 
-    /// What is in order ascends.
-    ghost so_ascend: { (items : List Self) → IsStrictlySortedBy cmp items → ascend items };
+    /// What ascends is what is in order.
+    ghost ascends: { (items : List Self) → ascend items ↔ IsStrictlySortedBy cmp items };
 }
 
 /// What one row says.
-pub(crate) trait Entry: Ordered {
+pub trait Entry: Ordered {
     /// What the columns that are shown say.
     ghost found: { Values → Option Self };
 
@@ -41,19 +41,28 @@ pub(crate) trait Entry: Ordered {
 }
 
 /// What each row says.
-pub(crate) fn each<E: Entry + Drop>(alloc: Global, rows: &[Row]) -> Result<Vec<E>, ReadFault>
-    ensures { IfOk result (λ entries. map Some entries.items ≡ map E.found rows.now) }
+///
+/// # Errors
+///
+/// `Device` where a row says nothing; `Memory` where memory ran out.
+pub fn each<E: Entry + Drop>(alloc: Global, rows: &[Row]) -> Result<Vec<E>, ReadFault>
+    ensures said { IfOk result (λ entries. map Some entries.items ≡ map E.found rows.now) }
+    ensures unsaid { IsErrOf result ReadFault.Device → (entries : List E)
+        → map Some entries ≡ map E.found rows.now → ⊥ }
 {
     let mut entries = Vec::with_capacity(alloc, rows.len())?;
     for row in rows {
-        entries.push(E::in_row(alloc, row)?.ok_or(ReadFault::Device)?)?;
+        let Some(entry) = E::in_row(alloc, row)? else {
+            return Err(ReadFault::Device);
+        };
+        entries.push(entry)?;
     }
     Ok(entries)
 }
 
-// Whether these ascend, each once.
-fn are_ascending<X: Ordered>(items: &[X]) -> bool
-    ensures { IsTrue result → X.ascend items.now }
+/// Whether these ascend, each once.
+pub fn are_ascending<X: Ordered>(items: &[X]) -> bool
+    ensures { IsTrue result ↔ X.ascend items.now }
 {
     items.is_sorted_by(|item, next| item.is_below(next))
 }
@@ -62,6 +71,7 @@ fn are_ascending<X: Ordered>(items: &[X]) -> bool
 pub(crate) fn ascending<X: Ordered + Drop>(items: Vec<X>) -> Option<Vec<X>>
     ensures same { IfSome result (λ same. same.items ≡ items.items) }
     ensures ascend { IfSome result (λ same. X.ascend same.items) }
+    ensures none { result ≡ None → X.ascend items.items → ⊥ }
 {
     if !are_ascending(items.as_slice()) {
         return None;
@@ -70,10 +80,18 @@ pub(crate) fn ascending<X: Ordered + Drop>(items: Vec<X>) -> Option<Vec<X>>
 }
 
 /// What each row says, in ascending order.
-pub(crate) fn entries<E: Entry + Drop>(alloc: Global, rows: &[Row]) -> Result<Vec<E>, ReadFault>
-    ensures entries { IfOk result (λ entries. map Some entries.items ≡ map E.found rows.now) }
+///
+/// # Errors
+///
+/// `Device` where a row says nothing, or what they say doesn't ascend, each once; `Memory` where memory ran out.
+pub fn entries<E: Entry + Drop>(alloc: Global, rows: &[Row]) -> Result<Vec<E>, ReadFault>
+    ensures said { IfOk result (λ entries. map Some entries.items ≡ map E.found rows.now) }
     ensures ascend { IfOk result (λ entries. E.ascend entries.items) }
+    ensures unsaid { IsErrOf result ReadFault.Device → (entries : List E)
+        → map Some entries ≡ map E.found rows.now → E.ascend entries → ⊥ }
 {
-    let entries = each::<E>(alloc, rows)?;
-    ascending(entries).ok_or(ReadFault::Device)
+    match each::<E>(alloc, rows) {
+        Ok(entries) => ascending(entries).ok_or(ReadFault::Device),
+        Err(fault) => Err(fault),
+    }
 }

@@ -20,7 +20,7 @@ impl Ordered for Id {
 
     ghost total = { ids_total };
 
-    ghost so_ascend = { λ ids ascend. ascend };
+    ghost ascends = { λ items. (λ ascend. ascend, λ ascend. ascend) };
 }
 
 impl Entry for Id {

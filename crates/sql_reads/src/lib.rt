@@ -9,7 +9,8 @@
 //! - [`ids`], [`sysmod`], [`superseders`], [`holds_on`], [`counts`]: what is published
 //! - [`seen`], [`is_run`]: the records and holds of many SYSMODs at once
 //! - [`each_zone`], [`names_ascend`]: what the rows of a client's zones say
-//! - [`rows_of`]: what any text that reads the tables finds
+//! - [`rows_of`]: what any text that reads the tables finds; [`each`], [`entries`]: what its rows say, each an [`Entry`];
+//!   [`are_ascending`]: whether what is [`Ordered`] ascends
 //! - [`ReadFault`]: why a read is refused
 //!
 //! A contract says by `Finds` of `sql_state` what a read tells and what it leaves.
@@ -34,6 +35,7 @@ mod values;
 mod zone_counts;
 
 pub use counted::{counts, zone_count};
+pub use entry::{Entry, Ordered, are_ascending, each, entries};
 pub use fault::ReadFault;
 pub use joins::{held_in, superseders, zone};
 pub use many::{is_run, seen};

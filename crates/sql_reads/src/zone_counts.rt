@@ -9,10 +9,11 @@ ghost use Rattle.sql_tables.specs.Stored.{tables_of};
 ghost use Rattle.sql_tables.specs.Values as value;
 
 use crate::ReadFault;
+use crate::entry::{Entry, Ordered, are_ascending, each, entries};
 use crate::rows::rows_of;
 use crate::values::id_of;
 use mcs_reader::Id;
-use sql_tables::id_row_in;
+use sql_tables::{NoMemory, id_row_in};
 use sql_texts::read;
 use sqlite::types::ValueRef;
 use sqlite::{Alter, Connection, Row};
@@ -38,19 +39,34 @@ pub fn zones<S: Alter>(
 {
     let params = [id_of(client)];
     let rows = rows_of(conn, read::zones(), &params)?;
-    ascending_zones(alloc, rows.as_slice())
+    entries(alloc, rows.as_slice())
 }
 
-// The zones of all rows, in the order of their names.
-fn ascending_zones(alloc: Global, rows: &[Row]) -> Result<Vec<(Id, u64)>, ReadFault>
-    ensures zones { IfOk result (λ zones. map Some zones.items ≡ map zone_counted rows.now) }
-    ensures ascend { IfOk result (λ zones. NamesAscend (map (λ zone. zone.0) zones.items)) }
-{
-    let zones = each_zone(alloc, rows)?;
-    if !names_ascend(zones.as_slice()) {
-        return Err(ReadFault::Device);
+impl Ordered for (Id, u64) {
+    ghost use Rattle.catalogue.specs.Ids.{id_cmp};
+    ghost use Rattle.catalogue.proofs.IdFacts.{ids_total};
+    ghost use Rattle.std.proofs.lemmas.Cmp.{on_total};
+    ghost use Rattle.sql_reads.specs.Orders.{ascends_by};
+
+    ghost cmp = { λ zone next. id_cmp zone.0 next.0 };
+
+    ghost ascend = { λ zones. NamesAscend (map (λ zone. zone.0) zones) };
+
+    fn is_below(&self, next: &(Id, u64)) -> bool {
+        self.0.cmp(&next.0).is_lt()
     }
-    Ok(zones)
+
+    ghost total = { on_total (λ zone. zone.0) ids_total };
+
+    ghost ascends = { ascends_by id_cmp (λ zone. zone.0) };
+}
+
+impl Entry for (Id, u64) {
+    ghost found = { zone_counted };
+
+    fn in_row(_alloc: Global, row: &Row) -> Result<Option<(Id, u64)>, NoMemory> {
+        Ok(zone_in(row))
+    }
 }
 
 /// The zone of each row, with how many rows it has.
@@ -63,14 +79,7 @@ pub fn each_zone(alloc: Global, rows: &[Row]) -> Result<Vec<(Id, u64)>, ReadFaul
     ensures unsaid { IsErrOf result ReadFault.Device → (zones : List (List ℕ × ℕ))
         → map Some zones ≡ map zone_counted rows.now → ⊥ }
 {
-    let mut zones = Vec::with_capacity(alloc, rows.len())?;
-    for row in rows {
-        let Some(zone) = zone_in(row) else {
-            return Err(ReadFault::Device);
-        };
-        zones.push(zone)?;
-    }
-    Ok(zones)
+    each(alloc, rows)
 }
 
 // A zone with how many rows it has. As much as the database can count is none, since it may be more.
@@ -99,5 +108,5 @@ fn second_number(row: &Row) -> Option<u64>
 pub fn names_ascend(zones: &[(Id, u64)]) -> bool
     ensures { IsTrue result ↔ NamesAscend (map (λ zone. zone.0) zones.now) }
 {
-    zones.is_sorted_by(|zone, next| zone.0.cmp(&next.0).is_lt())
+    are_ascending(zones)
 }

@@ -41,7 +41,7 @@ impl Ordered for CallerRow {
 
     ghost total = { on_total (λ caller. caller.name) ids_total };
 
-    ghost so_ascend = { λ callers ascend. ascends_by id_cmp (λ caller. caller.name) callers ascend };
+    ghost ascends = { ascends_by id_cmp (λ caller. caller.name) };
 }
 
 impl Entry for CallerRow {

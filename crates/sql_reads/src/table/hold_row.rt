@@ -33,7 +33,7 @@ impl Ordered for Hold {
 
     ghost total = { on_total (λ hold. hold.key) keys_total };
 
-    ghost so_ascend = { λ holds ascend. ascends_by key_cmp (λ hold. hold.key) holds ascend };
+    ghost ascends = { ascends_by key_cmp (λ hold. hold.key) };
 }
 
 impl Entry for Hold {

@@ -1,6 +1,5 @@
 //! The table `sysmod_cond`: what a SYSMOD requires under a condition.
 
-use crate::ReadFault;
 use crate::entry::{Entry, Ordered};
 use crate::listed::Listed;
 use crate::scan::Scanned;
@@ -26,7 +25,7 @@ impl Ordered for CondNeed {
 
     ghost total = { conds_total };
 
-    ghost so_ascend = { λ conds ascend. ascend };
+    ghost ascends = { λ items. (λ ascend. ascend, λ ascend. ascend) };
 }
 
 impl Entry for CondNeed {

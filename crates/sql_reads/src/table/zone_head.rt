@@ -34,7 +34,7 @@ impl Ordered for Pattern {
 
     ghost total = { ids_total };
 
-    ghost so_ascend = { λ patterns ascend. ascend };
+    ghost ascends = { λ items. (λ ascend. ascend, λ ascend. ascend) };
 }
 
 /// A zone's patterns, in the one row that it has.

@@ -33,7 +33,7 @@ impl Ordered for ZoneRow {
 
     ghost total = { on_total (λ row. row.sysmod) ids_total };
 
-    ghost so_ascend = { λ rows ascend. ascends_by id_cmp (λ row. row.sysmod) rows ascend };
+    ghost ascends = { ascends_by id_cmp (λ row. row.sysmod) };
 }
 
 impl Entry for ZoneRow {

@@ -24,6 +24,6 @@ returns-clause-finds g c =
     ∙ ap (λ v. Text (text_of c.args.client.now) ∷ Text (text_of c.args.zone.now) ∷ bound_value v ∷ []) c.hold_kind_value.ensures) old (state g.S.Store c.rows_of.new.conn)
     read.held_in hold_columns 3 c.held_in.ensures
     c.in_ok-rows.rows c.as_slice.result.now c.as_slice.ensures.value c.in_ok-rows.ensures.answers c.entries.result
-    (λ holds. map Some holds.items ≡ map hold_found c.as_slice.result.now) (λ holds. IsInKeyOrder holds.items) c.entries.ensures.entries c.entries.ensures.ascend
+    (λ holds. map Some holds.items ≡ map hold_found c.as_slice.result.now) (λ holds. IsInKeyOrder holds.items) c.entries.ensures.said c.entries.ensures.ascend
     (λ stored holds. holds.items ≡ held_in (tables_of stored).content (zone_rows_of stored.rows c.args.client.now c.args.zone.now) c.args.kind)
     (λ ours answer holds said also. held_told old.committed.trees c.args.client.now c.args.zone.now c.args.kind c.id_of.ensures.is_id c.id_of-2.ensures.is_id ours.rows.whole c.as_slice.result.now holds.items also answer said)

@@ -21,6 +21,6 @@ returns-clause-finds g c =
     finds_of_two c.superseders.result.now (bound_value (owned c.id_of.result) ∷ []) (Text (text_of c.args.id.now) ∷ []) (ap (λ v. bound_value v ∷ []) c.id_of.ensures.value) old (state g.S.Store c.rows_of.new.conn)
     read.superseders (codes "id" ∷ []) 1 c.superseders.ensures
     c.in_ok-rows.rows c.as_slice.result.now c.as_slice.ensures.value c.in_ok-rows.ensures.answers c.entries.result
-    (λ ids. map Some ids.items ≡ map (λ row. id_in (column row 0)) c.as_slice.result.now) (λ ids. Ascend ids.items) c.entries.ensures.entries c.entries.ensures.ascend
+    (λ ids. map Some ids.items ≡ map (λ row. id_in (column row 0)) c.as_slice.result.now) (λ ids. Ascend ids.items) c.entries.ensures.said c.entries.ensures.ascend
     (λ stored ids. ids.items ≡ superseders (tables_of stored).content c.args.id.now)
     (λ ours answer ids said also. superseders_told old.committed.trees c.args.id.now c.id_of.ensures.is_id ours.rows.whole c.as_slice.result.now ids.items also answer said)

@@ -18,7 +18,7 @@ returns-clause-finds g c =
     let old = state g.S.Store c.args.conn.now in
     finds_of_two c.zones.result.now (bound_value (owned c.id_of.result) ∷ []) (Text (text_of c.args.client.now) ∷ []) (ap (λ v. bound_value v ∷ []) c.id_of.ensures.value) old (state g.S.Store c.rows_of.new.conn)
     read.zones (codes "zone" ∷ codes "sysmods" ∷ []) 1 c.zones.ensures
-    c.in_ok-rows.rows c.as_slice.result.now c.as_slice.ensures.value c.in_ok-rows.ensures.answers c.ascending_zones.result
-    (λ zones. map Some zones.items ≡ map zone_counted c.as_slice.result.now) (λ zones. NamesAscend (map (λ zone. zone.0) zones.items)) c.ascending_zones.ensures.zones c.ascending_zones.ensures.ascend
+    c.in_ok-rows.rows c.as_slice.result.now c.as_slice.ensures.value c.in_ok-rows.ensures.answers c.entries.result
+    (λ zones. map Some zones.items ≡ map zone_counted c.as_slice.result.now) (λ zones. NamesAscend (map (λ zone. zone.0) zones.items)) c.entries.ensures.said c.entries.ensures.ascend
     (λ stored zones. zones.items ≡ map (λ zone. (zone.0, length zone.1.rows)) ((tables_of stored).zones c.args.client.now))
     (λ ours answer zones said also. zones_told old.committed.trees c.args.client.now c.id_of.ensures.is_id ours.rows.whole c.as_slice.result.now zones.items also answer said)

@@ -12,5 +12,5 @@ pub returns-clause-finds : goal.returns-clause-finds
 returns-clause-finds g c =
     let rows = c.in_ok-rows.rows in
     finds_from (state g.S.Store c.args.conn.now) (state g.S.Store c.select.new.conn) rows c.entries.result _ (λ stored holds. holds.items ≡ holds_on (tables_of stored).content c.args.id.now) c.in_ok-rows.ensures.finds
-    (λ holds. map Some holds.items ≡ map hold_found c.as_slice.result.now) (λ holds. IsInKeyOrder holds.items) c.entries.ensures.entries c.entries.ensures.ascend
+    (λ holds. map Some holds.items ≡ map hold_found c.as_slice.result.now) (λ holds. IsInKeyOrder holds.items) c.entries.ensures.said c.entries.ensures.ascend
     (λ stored whole holds shows said ordered. holds_shown stored c.args.id.now rows.items holds.items ordered shows (said ∙ ap (map hold_found) c.as_slice.ensures.value))

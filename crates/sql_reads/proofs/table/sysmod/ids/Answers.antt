@@ -13,5 +13,5 @@ pub returns-clause-finds : goal.returns-clause-finds
 returns-clause-finds g c =
     let rows = c.in_ok-rows.rows in
     finds_from (state g.S.Store c.args.conn.now) (state g.S.Store c.select.new.conn) rows c.entries.result _ (λ stored ids. ids.items ≡ ids_of (tables_of stored).content) c.in_ok-rows.ensures.finds
-    (λ ids. map Some ids.items ≡ map (λ row. id_in (column row 0)) c.as_slice.result.now) (λ ids. Ascend ids.items) c.entries.ensures.entries c.entries.ensures.ascend
+    (λ ids. map Some ids.items ≡ map (λ row. id_in (column row 0)) c.as_slice.result.now) (λ ids. Ascend ids.items) c.entries.ensures.said c.entries.ensures.ascend
     (λ stored whole ids shows said ascend. ids_shown stored rows.items ids.items whole ascend shows (said ∙ ap (map (λ row. id_in (column row 0))) c.as_slice.ensures.value))
