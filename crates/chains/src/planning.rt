@@ -1,12 +1,11 @@
 //! Verdicts from a frame alone.
-ghost use Rattle.std.specs.Prelude.{◌≡◌, ◌<◌, ℕ, Bool, List, Contains, IfOk, OnOk, filter, length, map};
+ghost use Rattle.std.specs.Prelude.{◌≡◌, ◌<◌, ℕ, Bool, List, Contains, IfOk, filter, length, map};
 ghost use Rattle.std.specs.List.{list_any};
 ghost use Rattle.zone_lists.specs.Installed.{is_installed};
 ghost use Rattle.catalogue.specs.Content.{Content};
-ghost use Rattle.catalogue.specs.Ids.{Ascend};
 ghost use Rattle.requisites.specs.Nodes.{mark_of};
 ghost use Rattle.listings.specs.Cuts.{id_at};
-ghost use Rattle.listings.specs.Indices.{AreIndexed, AreIndicesOf, AreThere};
+ghost use Rattle.listings.specs.Indices.{AreIndexed, AreThere};
 ghost use Rattle.chains.specs.FrameIndices.{node_needs};
 ghost use Rattle.chains.specs.Frames.{IsFrame, ids_in};
 ghost use Rattle.chains.specs.Judge as judge;
@@ -15,7 +14,7 @@ ghost use Rattle.chains.specs.Verdicts.{is_good, verdict_of};
 use crate::Verdict;
 use crate::frames::{Frame, FrameNode};
 use crate::node_verdicts::by_ids;
-use listings::{index_of, is_any_installed, push_indices_where, there_marks};
+use listings::{index_of, is_any_installed, put_needs_where, there_marks};
 use mcs_reader::{Id, NoMemory};
 use requisites::{Nodes, Rows, is_marked, resolve, verdict_of_node};
 use std::alloc::Global;
@@ -72,33 +71,17 @@ fn zone_needs(alloc: Global, frame: &Frame, zone: &Zone) -> Result<Rows, NoMemor
     let mut needs = Rows::new(alloc);
     let mut indices = Vec::new(alloc);
     for (index, node) in frame.nodes().iter().enumerate() {
-        put_needs(
+        let always = frame.needs().row(index);
+        put_needs_where(
             &mut indices,
-            frame.needs().row(index),
+            always,
             frame.ids(),
             zone,
-            node,
+            node.conds.as_slice(),
         )?;
         needs.push_row(&indices)?;
     }
     Ok(needs)
-}
-
-// Makes a list that of the indices of what a node needs in the zone, given those of what it always needs.
-fn put_needs(
-    indices: &mut Vec<usize>,
-    always: &[usize],
-    ids: &[Id],
-    zone: &Zone,
-    node: &FrameNode,
-) -> Result<(), NoMemory>
-    requires { Ascend ids.now }
-    ensures { OnOk result (AreIndicesOf ids.now node.now.needs always.now
-        → AreIndicesOf ids.now (node_needs zone.now node.now) indices.new.items) }
-{
-    indices.clear();
-    indices.extend_from_slice(always)?;
-    push_indices_where(indices, ids, zone, node.conds.as_slice())
 }
 
 // Which nodes may be installed.

@@ -4,6 +4,7 @@ pub mod Marks
 pub mod Superseders
 pub mod Indices
 pub mod Places
+pub mod ListedRows
 pub mod MemberRows
 pub mod ZoneNodes
 pub mod Gathered

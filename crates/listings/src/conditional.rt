@@ -20,7 +20,7 @@ pub(crate) fn push_each_need(ids: &mut Vec<Id>, conds: &[CondNeed]) -> Result<()
 }
 
 /// Adds the indices of the needs of those whose function is installed in a zone.
-pub fn push_indices_where(
+pub(crate) fn push_indices_where(
     indices: &mut Vec<usize>,
     members: &[Id],
     zone: &Zone,
@@ -34,6 +34,23 @@ pub fn push_indices_where(
         push_index_where(indices, members, zone, cond)?;
     }
     Ok(())
+}
+
+/// Makes a list that of the indices of what is needed in a zone, given those of what is always needed.
+pub fn put_needs_where(
+    indices: &mut Vec<usize>,
+    always: &[usize],
+    members: &[Id],
+    zone: &Zone,
+    conds: &[CondNeed],
+) -> Result<(), NoMemory>
+    requires { Ascend members.now }
+    ensures { OnOk result ((ids : List (List ℕ)) → AreIndicesOf members.now ids always.now
+        → AreIndicesOf members.now (ids ++ needs_where zone.now conds.now) indices.new.items) }
+{
+    indices.clear();
+    indices.extend_from_slice(always)?;
+    push_indices_where(indices, members, zone, conds)
 }
 
 fn push_index_where(

@@ -5,13 +5,14 @@
 //! - [`ZoneNodes`]: the nodes of a zone; [`ZoneNodes::of_listing`]: by a listing; [`zone_nodes_of`]: from a source
 //! - [`there_marks`]: which ids are there in a zone; [`has_source`], [`source_at`]: what gives them
 //! - [`Entry`]: what is read of an id, and nothing else
-//! - [`Gathered`]: what is read of an id that another reaches, and what supersedes it; [`gather`]: of all that one reaches, from a source
+//! - [`Gathered`]: what is read of an id that another reaches, and what supersedes it; [`gather`]: of all that
+//!   one reaches, from a source
 //! - [`Links`]: what these need and supersede, by index; [`givers_at`]: the ids that give one
 //! - [`ids_found`], [`next_unread`]: how a walk that reads goes on
 //! - [`index_of`], [`put_indices`], [`id_at`], [`ids_at`]: ids by their indices in a list that ascends
 //! - [`sort_each_once`], [`do_ascend`], [`ascending`]: ids in ascending order
 //! - [`is_marked`]: whether an id is one of some that ascend
-//! - [`is_any_installed`], [`push_indices_where`]: what a zone has, and what is needed there under a condition
+//! - [`is_any_installed`], [`put_needs_where`]: what a zone has, and what is needed there under a condition
 #![tactic(auto)]
 
 mod conditional;
@@ -19,6 +20,7 @@ mod found;
 mod gathered;
 mod indices;
 mod links;
+mod listed_rows;
 mod listing;
 mod member_rows;
 mod places;
@@ -28,7 +30,7 @@ mod superseders;
 mod supersedes;
 mod zone_nodes;
 
-pub use conditional::push_indices_where;
+pub use conditional::put_needs_where;
 pub use found::{ids_found, next_unread};
 pub use gathered::{Gathered, gather};
 pub use indices::{ascending, do_ascend, id_at, ids_at, index_of, put_indices, sort_each_once};

@@ -8,11 +8,12 @@ ghost use Rattle.catalogue.specs.View.{MayAsk, Tells};
 ghost use Rattle.catalogue.specs.declared.fault.SourceFault.TheVariants.{Device};
 ghost use Rattle.supersede.specs.Giving.{is_candidate};
 ghost use Rattle.catalogue.specs.Seen.{seen_in};
+ghost use Rattle.listings.specs.ListedRows.{AreListedRows};
 ghost use Rattle.listings.specs.Marks.{IsListingBut, SaysOf, sight_seen};
 ghost use Rattle.listings.specs.Sights.{IsListing, reasons_in, sight_from, sight_of, unseen};
-ghost use Rattle.listings.specs.Superseders.{AreSuperseders};
 
 use crate::indices::{ascending, ids_at, index_of, sort_each_once};
+use crate::listed_rows::ListedRows;
 use crate::renewing::{found_entries, ids_now, unmarked_entries, woven};
 use crate::superseders::Superseders;
 use catalogue::{CondNeeds, Ids, Published, Seen, SourceFault, Sysmod};
@@ -123,11 +124,13 @@ pub struct Listing {
     ids: Vec<Id>,
     entries: Vec<Entry>,
     superseders: Superseders,
+    rows: ListedRows,
 }
 
 impl Model for Listing {
     ghost use Rattle.std.specs.Prelude.{◌≡◌, length};
     ghost use Rattle.catalogue.specs.Ids.{Ascend, in_order};
+    ghost use Rattle.listings.specs.ListedRows.{AreListedRows};
     ghost use Rattle.listings.specs.Sights.{ListingLists};
     ghost use Rattle.listings.specs.Superseders.{AreSuperseders};
 
@@ -138,18 +141,12 @@ impl Model for Listing {
     ghost invariant = { λ listing. Ascend listing.ids.items
         × (length listing.entries.items ≡ length listing.ids.items)
         × AreSuperseders listing.entries.items listing.superseders.superseded.items
-        listing.superseders.below listing.superseders.above };
+        listing.superseders.below listing.superseders.above
+        × AreListedRows listing.ids.items listing.entries.items listing.rows.members.items
+        listing.rows.listed.items listing.rows.needs listing.rows.supersedes };
 }
 
 impl Listing {
-    /// What is catalogued, ascending.
-    pub(crate) fn ids(&self) -> &[Id]
-        ensures ids { result.now ≡ self.now.ids }
-        ensures ascend { Ascend result.now }
-    {
-        self.ids.as_slice()
-    }
-
     /// What is read of each of them, in their order.
     pub(crate) fn entries(&self) -> &[Entry]
         ensures sights { result.now ≡ self.now.sights }
@@ -158,12 +155,12 @@ impl Listing {
         self.entries.as_slice()
     }
 
-    /// The SUP of all of them, both ways.
-    pub(crate) fn all_superseders(&self) -> &Superseders
-        ensures { AreSuperseders self.now.sights result.now.superseded.items
-            result.now.below result.now.above }
+    /// What it keeps by the indices of its members.
+    pub(crate) fn rows(&self) -> &ListedRows
+        ensures { AreListedRows self.now.ids self.now.sights result.now.members.items
+            result.now.listed.items result.now.needs result.now.supersedes }
     {
-        &self.superseders
+        &self.rows
     }
 
     /// The SYSMODs whose SUP names an id, ascending.
@@ -194,16 +191,20 @@ impl Listing {
             ids: listed,
             entries,
             superseders,
+            rows,
         } = self;
+        drop(rows); // The new ones take its room.
         let ids = ids_now(alloc, &listed, marks, &read)?;
         let kept = unmarked_entries(alloc, &listed, entries, marks)?;
         let found = found_entries(alloc, read)?;
         let entries = woven(alloc, &ids, marks, kept, found)?;
         let superseders = superseders.renewed(alloc, &listed, marks, &ids, &entries)?;
+        let rows = ListedRows::of(alloc, &ids, &entries, &superseders)?;
         Ok(Listing {
             ids,
             entries,
             superseders,
+            rows,
         })
     }
 
@@ -246,10 +247,12 @@ pub fn listing_of<P: Published>(alloc: Global, source: &mut P) -> Result<Listing
     let ids = source.ids()?;
     let entries = entries_of(alloc, source, &ids)?;
     let superseders = Superseders::of(alloc, &entries)?;
+    let rows = ListedRows::of(alloc, &ids, &entries, &superseders)?;
     Ok(Listing {
         ids,
         entries,
         superseders,
+        rows,
     })
 }
 

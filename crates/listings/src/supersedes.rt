@@ -2,6 +2,7 @@
 ghost use Rattle.std.specs.Prelude.{◌≡◌, ℕ, List, IfOk, length, map};
 ghost use Rattle.catalogue.specs.Ids.{Ascend};
 ghost use Rattle.listings.specs.Indices.{IsSupSeen};
+ghost use Rattle.listings.specs.ListedRows.{sight_placed};
 ghost use Rattle.listings.specs.Places as Places;
 ghost use Rattle.listings.specs.Places.{ArePlaces, IsPlace};
 ghost use Rattle.listings.specs.Sights as Sights;
@@ -58,7 +59,8 @@ pub(crate) fn entry_at<'a>(
     place: Option<usize>,
 ) -> &'a Entry
     requires { unseen.now ≡ Sights.unseen }
-    ensures { (f : List ℕ → Sight) (ids : List (List ℕ)) (id : List ℕ) → entries.now ≡ map f ids
+    ensures value { result.now ≡ sight_placed entries.now place }
+    ensures seen { (f : List ℕ → Sight) (ids : List (List ℕ)) (id : List ℕ) → entries.now ≡ map f ids
         → IsPlace ids id place → IsSeen f ids id result.now }
 {
     let Some(index) = place else {

@@ -8,15 +8,16 @@ ghost use Rattle.requisites.specs.Nodes.{world};
 ghost use Rattle.requisites.specs.Sources.{HasSource, source_of};
 ghost use Rattle.listings.specs.Cuts.{IsCut, id_at};
 ghost use Rattle.listings.specs.Indices.{AreNodesWithin, AreSeen, AreThere, IsThereAt, MarksAre};
+ghost use Rattle.listings.specs.ListedRows.{AreAlwaysNeeds};
+ghost use Rattle.listings.specs.MemberRows.{AreRowsWithin};
 ghost use Rattle.listings.specs.Places.{ArePlaces};
 ghost use Rattle.listings.specs.Sights.{IsListing, Sight};
 ghost use Rattle.listings.specs.ZoneNodes.{world_of};
 
-use crate::indices::members_of;
+use crate::conditional::put_needs_where;
+use crate::listed_rows::ListedRows;
 use crate::listing::{Entry, Listing};
-use crate::member_rows::put_needs;
-use crate::places::places;
-use crate::supersedes::{entry_at, moved_supersedes};
+use crate::supersedes::entry_at;
 use mcs_reader::{Id, NoMemory};
 use requisites::{Nodes, Rows, least_sources};
 use std::alloc::Global;
@@ -30,8 +31,8 @@ pub struct ZoneNodes {
 }
 
 impl ZoneNodes {
-    /// All that is catalogued, and all that it needs, whatever the zone, by a listing, which has where all that is
-    /// superseded stands.
+    /// All that is catalogued, and all that it needs, whatever the zone, by a listing, which keeps what needs no
+    /// zone.
     pub fn of_listing(alloc: Global, zone: &Zone, listing: &Listing) -> Result<ZoneNodes, NoMemory>
         ensures ascend { IfOk result (λ cut. Ascend cut.members.items) }
         ensures cut { IfOk result (λ cut. (content : Content) → IsListing content listing.now
@@ -40,33 +41,73 @@ impl ZoneNodes {
         ensures ids { IfOk result
             (λ cut. (id : List ℕ) → Contains listing.now.ids id → Contains cut.members.items id) }
     {
-        let entries = listing.entries();
-        let members = members_of(alloc, listing.ids(), entries)?;
-        let listed = places(alloc, &members, listing.ids())?;
-        let supersedes = moved_supersedes(alloc, &members, &listed, listing.all_superseders())?;
-        let nodes = nodes_by_places(alloc, zone, &members, &listed, entries, supersedes)?;
+        let rows = listing.rows();
+        let members = Vec::from_slice(alloc, &rows.members)?;
+        let nodes = nodes_by_rows(alloc, zone, rows, listing.entries())?;
         Ok(ZoneNodes { members, nodes })
     }
 }
 
-// The nodes of some members, by where each stands among the ids, and by what each supersedes.
-fn nodes_by_places(
+// The nodes of the members of a listing, by what it keeps of them.
+fn nodes_by_rows(
+    alloc: Global,
+    zone: &Zone,
+    rows: &ListedRows,
+    entries: &[Entry],
+) -> Result<Nodes, NoMemory>
+    requires members { Ascend rows.now.members.items }
+    requires listed { length rows.now.listed.items ≡ length rows.now.members.items }
+    requires needs { AreAlwaysNeeds entries.now rows.now.members.items rows.now.listed.items rows.now.needs }
+    ensures seen { IfOk result (λ nodes. (f : List ℕ → Sight) (ids : List (List ℕ)) → entries.now ≡ map f ids
+        → ArePlaces rows.now.members.items ids (length rows.now.members.items) rows.now.listed.items
+        → AreSeen zone.now f ids rows.now.members.items (length rows.now.members.items)
+        nodes.candidates.items nodes.needs) }
+    ensures supersedes { IfOk result (λ nodes. nodes.supersedes ≡ rows.now.supersedes) }
+    ensures within { IfOk result (λ nodes. AreNodesWithin rows.now.members.items nodes) }
+    ensures there { IfOk result
+        (λ nodes. AreThere zone.now rows.now.members.items nodes.supersedes nodes.there.items) }
+{
+    let marked = marks_and_needs(
+        alloc,
+        zone,
+        &rows.members,
+        &rows.listed,
+        &rows.needs,
+        entries,
+    )?;
+    let there = there_marks(alloc, zone, &rows.members, &rows.supersedes)?;
+    Ok(Nodes {
+        candidates: marked.candidates,
+        there,
+        needs: marked.needs,
+        supersedes: rows.supersedes.copy()?,
+    })
+}
+
+// Of each member whether it may be installed in a zone, and what it needs there.
+#[derive(Drop)]
+struct Marked {
+    candidates: Vec<bool>,
+    needs: Rows,
+}
+
+fn marks_and_needs(
     alloc: Global,
     zone: &Zone,
     members: &[Id],
     listed: &[Option<usize>],
+    always: &Rows,
     entries: &[Entry],
-    supersedes: Rows,
-) -> Result<Nodes, NoMemory>
+) -> Result<Marked, NoMemory>
     requires members { Ascend members.now }
     requires listed { length listed.now ≡ length members.now }
-    ensures seen { IfOk result (λ nodes. (f : List ℕ → Sight) (ids : List (List ℕ))
+    requires needs { AreAlwaysNeeds entries.now members.now listed.now always.now }
+    ensures seen { IfOk result (λ marked. (f : List ℕ → Sight) (ids : List (List ℕ))
         → entries.now ≡ map f ids → ArePlaces members.now ids (length members.now) listed.now
         → AreSeen zone.now f ids members.now (length members.now)
-        nodes.candidates.items nodes.needs) }
-    ensures supersedes { IfOk result (λ nodes. nodes.supersedes ≡ supersedes) }
-    ensures within { IfOk result (λ nodes. AreNodesWithin members.now nodes) }
-    ensures there { IfOk result (λ nodes. AreThere zone.now members.now nodes.supersedes nodes.there.items) }
+        marked.candidates.items marked.needs) }
+    ensures within { IfOk result
+        (λ marked. AreRowsWithin members.now marked.candidates.items marked.needs) }
 {
     let unseen = Entry::unseen(alloc);
     let mut candidates = Vec::with_capacity(alloc, members.len())?;
@@ -75,16 +116,17 @@ fn nodes_by_places(
     for (index, place) in listed.iter().enumerate() {
         let entry = entry_at(entries, &unseen, *place);
         candidates.push(entry.is_candidate(zone))?;
-        put_needs(&mut indices, members, index + 1, zone, entry)?;
+        let always = always.row(index);
+        put_needs_where(
+            &mut indices,
+            always,
+            members,
+            zone,
+            entry.conds().as_slice(),
+        )?;
         needs.push_row(&indices)?;
     }
-    let there = there_marks(alloc, zone, members, &supersedes)?;
-    Ok(Nodes {
-        candidates,
-        there,
-        needs,
-        supersedes,
-    })
+    Ok(Marked { candidates, needs })
 }
 
 /// Which members are there: those that the zone lists, and what the installed ones supersede, themselves

@@ -1,6 +1,8 @@
 use Rattle.std.proofs.Common.{List, ℕ, [], ◌∷◌, ◌++◌, ◌∙◌, ◌≡◌, ◌<◌, ap, get_or, length, subst, sym, map}
 use Rattle.lemmas.proofs.ResultFacts.{ok_so}
-use Rattle.listings.specs.Indices.{AreIndexed}
+use Rattle.catalogue.specs.declared.conditional.CondNeed.{CondNeed}
+use Rattle.supersede.specs.Giving.{needs_where}
+use Rattle.listings.specs.Indices.{AreIndexed, AreIndicesOf}
 use Rattle.chains.specs.FrameIndices.{node_needs}
 use Rattle.chains.specs.Frames.{ids_in}
 use Rattle.chains.specs.declared.frames.FrameNode.{FrameNode}
@@ -16,7 +18,10 @@ returns-then-not-is_conditional c =
 pub loop-index-preserved : goal.loop-index-preserved
 loop-index-preserved c =
     let L : List FrameNode → Type 0 = λ l. c.loop-index.index < length l in
+    let node = c.node-item.result in
+    let C : List CondNeed → Type 0 = λ conds. AreIndicesOf c.ids.result.now node.needs c.row-always.result.now → AreIndicesOf c.ids.result.now (node.needs ++ needs_where c.args.zone.now conds) c.put_needs_where.new.indices.items in
+    let put = subst C c.as_slice.ensures.value (c.in_ok-put_needs_where.ensures node.needs) in
     let A : List FrameNode → Type 0 = λ l. c.node-item.result ≡ get_or l c.loop-index.index c.node-item.result in
-    needs_more c.args.zone.now c.args.frame.now.nodes c.ids.result.now c.loop-index.index c.node-item.result c.row.result.now c.put_needs.new.indices.items c.needs-in-loop-index.result.now c.loop-index.needs _
-    (subst L c.nodes-node-items.ensures.value c.loop-index-test.true) (subst A c.nodes-node-items.ensures.value c.node-item.is) c.ids.ensures.value c.needs-in-loop-index.ensures c.row.ensures c.in_ok-put_needs.ensures c.loop-index.invariant
+    needs_more c.args.zone.now c.args.frame.now.nodes c.ids.result.now c.loop-index.index c.node-item.result c.row-always.result.now c.put_needs_where.new.indices.items c.needs-in-loop-index.result.now c.loop-index.needs _
+    (subst L c.nodes-node-items.ensures.value c.loop-index-test.true) (subst A c.nodes-node-items.ensures.value c.node-item.is) c.ids.ensures.value c.needs-in-loop-index.ensures c.row-always.ensures put c.loop-index.invariant
     (c.in_ok-push_row.ensures.rows ∙ ap (λ (row : List ℕ). c.loop-index.needs ++ row ∷ []) c.deref.ensures.value)

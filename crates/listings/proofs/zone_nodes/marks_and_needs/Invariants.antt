@@ -3,7 +3,7 @@ use Rattle.std.specs.List.{Contains}
 use Rattle.listings.specs.Indices.{AreSeen, RowsAre}
 use Rattle.listings.specs.Places.{ArePlaces}
 use Rattle.listings.specs.Sights.{Sight}
-use Rattle.listings.proofs.zone_nodes.nodes_by_places.Given as goal
+use Rattle.listings.proofs.zone_nodes.marks_and_needs.Given as goal
 
 abbrev pub invariant-loop-index : goal.invariant-loop-index
 invariant-loop-index l = record {
