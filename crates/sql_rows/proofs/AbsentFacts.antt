@@ -82,7 +82,7 @@ any_known : {X : Type 0} (f g : X → Bool) (xs : List X) → AllByRecursion (λ
 any_known f g [] same = refl
 any_known f g (x ∷ xs) same = ap₂ ◌||◌ same.0 (any_known f g xs same.1)
 
-every : {X : Type 0} (P : X → Type 0) → ((x : X) → P x) → (xs : List X) → AllByRecursion P xs
+pub every : {X : Type 0} (P : X → Type 0) → ((x : X) → P x) → (xs : List X) → AllByRecursion P xs
 every P each [] = tt
 every P each (x ∷ xs) = (each x, every P each xs)
 
