@@ -9,9 +9,9 @@ use Rattle.std.proofs.lemmas.Bool.{and_parts, both_ways, false_from_ne_true, fal
 use Rattle.std.proofs.lemmas.Cmp.{tied_itself}
 use Rattle.std.proofs.lemmas.List.{append-nil}
 use Rattle.holddata.specs.declared.key.HoldKey.{HoldKey}
-use Rattle.mcs_reader.specs.Id.{IsId}
+use Rattle.mcs_reader.specs.Id.{IsId, text_of}
 use Rattle.sqlite.specs.Effect.{Database}
-use Rattle.sqlite.specs.Order.{Row}
+use Rattle.sqlite.specs.Order.{Row, column}
 use Rattle.sqlite.specs.Edit.{next_rowid}
 use Rattle.sqlite.specs.Ops.{binary, from_truth, is_true}
 use Rattle.sqlite.specs.Tree.{Trees, put_row, rowid}
@@ -26,7 +26,7 @@ use Rattle.sqlite_schema.specs.declared.schema.Constraint.TheVariants.{Datatype}
 use Rattle.sqlite_trees.proofs.ListLemmas.{all_weaker}
 use Rattle.sqlite_trees.specs.Tree.{with_tree}
 use Rattle.sqlite_value.specs.Keys.{first_key, plain}
-use Rattle.sql_texts.specs.Found.{passes}
+use Rattle.sql_texts.specs.Found.{is_text, passes}
 use Rattle.sql_texts.specs.Schema as schema
 use Rattle.sql_texts.specs.Schema.{bureau}
 use Rattle.sql_tables.specs.Changes.{is_under, replaced}
@@ -34,7 +34,7 @@ use Rattle.sql_tables.specs.InTrees.{columns_of}
 use Rattle.sql_tables.specs.Stored.{is_of, is_of_both}
 use Rattle.sql_tables.specs.Values.{hold_kind_value, id_value}
 use Rattle.sql_state.specs.Writing.{IsKnown}
-use Rattle.sql_state.proofs.TextFacts.{text_given}
+use Rattle.sql_state.proofs.TextFacts.{text_given, text_named}
 use Rattle.sql_rows.specs.Parts.{is_of_three}
 use Rattle.sql_rows.proofs.KindFacts.{key_given}
 use Rattle.sql_rows.proofs.RowidFacts.{any_mapped}
@@ -82,7 +82,7 @@ any_known : {X : Type 0} (f g : X → Bool) (xs : List X) → AllByRecursion (λ
 any_known f g [] same = refl
 any_known f g (x ∷ xs) same = ap₂ ◌||◌ same.0 (any_known f g xs same.1)
 
-every : {X : Type 0} (P : X → Type 0) → ((x : X) → P x) → (xs : List X) → AllByRecursion P xs
+pub every : {X : Type 0} (P : X → Type 0) → ((x : X) → P x) → (xs : List X) → AllByRecursion P xs
 every P each [] = tt
 every P each (x ∷ xs) = (each x, every P each xs)
 
@@ -96,6 +96,10 @@ module _ (places : List ℕ) (test : Row → Bool) (n : ℤ) (values : Row) (row
   none_agree_so : ((other : Row) → agree plain places other places (Int n ∷ values) ≡ test (drop 1 other)) → list_any test (columns_of rows) ≡ false
       → list_any (λ other. agree plain places other places (Int n ∷ values)) rows ≡ false
   none_agree_so alike none = none_agrees (every (λ other. agree plain places other places (Int n ∷ values) ≡ test (drop 1 other)) alike rows) none
+
+-- that no row has the text of an id tells that none has the id
+pub none_of_text : (id : List ℕ) → IsId id → (rows : List Row) → list_any (λ other. is_text (text_of id) (column other 0)) rows ≡ false → list_any (is_of id) rows ≡ false
+none_of_text id is rows none = ap (λ test. list_any test rows) (λ i other. sym (text_named id is (column other 0)) i) ∙ none
 
 -- ---- a new row keeps the keys of its table apart, among any rows of it
 

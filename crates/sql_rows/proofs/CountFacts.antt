@@ -1,5 +1,5 @@
 -- What is so of short lists, whatever they have, is shown for each length.
-use Rattle.std.proofs.Common.{◌≡◌, ◌≤◌, ◌+◌, ◌*◌, ℕ, List, [], ◌∷◌, true, length, subst, sym, arith}
+use Rattle.std.proofs.Common.{◌≡◌, ◌≤◌, ◌⊎◌, ◌+◌, ◌*◌, ℕ, inl, inr, List, [], ◌∷◌, true, length, subst, sym, arith}
 use Rattle.std.specs.Prelude.{nat_le}
 use Rattle.std.proofs.Math.Nat.{mul-le-mul_left}
 use Rattle.std.proofs.lemmas.Bool.Decides.{nat_tests}
@@ -23,6 +23,23 @@ module _ {X : Type 0} (P : List X → Type 0) where
   up_to_eight p0 p1 p2 p3 p4 p5 p6 p7 p8 (a ∷ b ∷ c ∷ d ∷ e ∷ f ∷ g ∷ []) low = p7 a b c d e f g
   up_to_eight p0 p1 p2 p3 p4 p5 p6 p7 p8 (a ∷ b ∷ c ∷ d ∷ e ∷ f ∷ g ∷ h ∷ []) low = p8 a b c d e f g h
   up_to_eight p0 p1 p2 p3 p4 p5 p6 p7 p8 (a ∷ b ∷ c ∷ d ∷ e ∷ f ∷ g ∷ h ∷ k ∷ more) low = absurd (omega (arith, low))
+
+  pub one_or_eight : ((a : X) → P (a ∷ [])) → ((a b c d e f g h : X) → P (a ∷ b ∷ c ∷ d ∷ e ∷ f ∷ g ∷ h ∷ [])) → (xs : List X) → (length xs ≡ 1) ⊎ (length xs ≡ 8) → P xs
+  one_or_eight one eight xs (inl is) = one_only one xs is
+  one_or_eight one eight [] (inr is) = absurd (omega (arith, is))
+  one_or_eight one eight (a ∷ []) (inr is) = absurd (omega (arith, is))
+  one_or_eight one eight (a ∷ b ∷ []) (inr is) = absurd (omega (arith, is))
+  one_or_eight one eight (a ∷ b ∷ c ∷ []) (inr is) = absurd (omega (arith, is))
+  one_or_eight one eight (a ∷ b ∷ c ∷ d ∷ []) (inr is) = absurd (omega (arith, is))
+  one_or_eight one eight (a ∷ b ∷ c ∷ d ∷ e ∷ []) (inr is) = absurd (omega (arith, is))
+  one_or_eight one eight (a ∷ b ∷ c ∷ d ∷ e ∷ f ∷ []) (inr is) = absurd (omega (arith, is))
+  one_or_eight one eight (a ∷ b ∷ c ∷ d ∷ e ∷ f ∷ g ∷ []) (inr is) = absurd (omega (arith, is))
+  one_or_eight one eight (a ∷ b ∷ c ∷ d ∷ e ∷ f ∷ g ∷ h ∷ []) (inr is) = eight a b c d e f g h
+  one_or_eight one eight (a ∷ b ∷ c ∷ d ∷ e ∷ f ∷ g ∷ h ∷ k ∷ more) (inr is) = absurd (omega (arith, is))
+
+pub up_to_the_eighth : (count : ℕ) → (count ≡ 1) ⊎ (count ≡ 8) → count ≤ 8
+up_to_the_eighth count (inl is) = omega (arith, is)
+up_to_the_eighth count (inr is) = omega (arith, is)
 
 -- how many parameters a key and so many things have, where the greatest number of things has few enough
 pub room_of : (shared own count most : ℕ) → count ≤ most → nat_le (shared + own * most) 40 ≡ true → shared + own * count ≤ 40

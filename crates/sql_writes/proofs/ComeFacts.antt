@@ -16,11 +16,11 @@ use Rattle.sql_texts.specs.Meaning.{Means}
 use Rattle.sql_texts.specs.Schema as schema
 use Rattle.sql_texts.specs.Schema.{bureau}
 use Rattle.sql_texts.specs.Writes.{insert_given}
-use Rattle.sql_tables.specs.Rows.{caller_row, change_row, head_row, hold_row, received_row}
-use Rattle.sql_tables.specs.Values.{date_value, hold_kind_value, id_value, ids_value, optional_id_value, texts_value}
+use Rattle.sql_tables.specs.Rows.{caller_row, change_row, hold_row}
+use Rattle.sql_tables.specs.Values.{date_value, hold_kind_value, id_value, optional_id_value, texts_value}
 use Rattle.sql_state.specs.Ours.{held_by}
 use Rattle.sql_state.specs.Writing.{Changes}
-use Rattle.sql_writes.specs.Parts.{with_callers, with_head, with_hold, with_last, with_received}
+use Rattle.sql_writes.specs.Parts.{with_callers, with_hold, with_last}
 use Rattle.sql_rows.specs.Running.{Ran}
 use Rattle.sql_rows.proofs.ChangeFacts.{changed_by}
 use Rattle.sql_rows.proofs.StatementFacts.{cast_int, cast_null, inserts}

@@ -21,14 +21,14 @@ use Rattle.sql_texts.specs.Schema.{bureau}
 use Rattle.sql_texts.specs.Writes.{insert_given}
 use Rattle.sql_tables.specs.Changes.{is_under}
 use Rattle.sql_tables.specs.Fit.{IsHold}
-use Rattle.sql_tables.specs.Rows.{change_row, head_row, received_row}
-use Rattle.sql_tables.specs.Stored.{is_of, is_of_both}
-use Rattle.sql_tables.specs.Values.{date_value, hold_kind_value, id_value, ids_value, optional_id_value, texts_value}
+use Rattle.sql_tables.specs.Rows.{change_row}
+use Rattle.sql_tables.specs.Stored.{is_of}
+use Rattle.sql_tables.specs.Values.{date_value, hold_kind_value, id_value, optional_id_value, texts_value}
 use Rattle.sql_writes.specs.Excused.{Takes}
-use Rattle.sql_writes.specs.Room.{are_short, are_short_ids, is_short}
+use Rattle.sql_writes.specs.Room.{are_short, is_short}
 use Rattle.sql_rows.specs.Running.{FailsInside, Ran}
-use Rattle.sql_rows.proofs.AbsentFacts.{unique_head, unique_hold, unique_last, unique_received}
-use Rattle.sql_rows.proofs.FittingFacts.{few, kind_low, fits_head, fits_hold, fits_last_change, fits_received}
+use Rattle.sql_rows.proofs.AbsentFacts.{unique_hold, unique_last}
+use Rattle.sql_rows.proofs.FittingFacts.{few, kind_low, fits_hold, fits_last_change}
 use Rattle.sql_writes.proofs.StepFacts.{comes_takes}
 
 -- ---- lengths and numbers

@@ -49,11 +49,6 @@ bound_one_more values_of key all i x low at =
     append_assoc key (flat_map values_of (take i all)) (values_of x)
     ∙ ap (λ rest. key ++ rest) (flat_more values_of (take i all) x ∙ ap (flat_map values_of) (one_more all i x low at))
 
--- what is so of each thing is so of all
-pub all_so : {X : Type 0} (P : X → Type 0) → ((x : X) → P x) → (xs : List X) → AllByRecursion P xs
-all_so P each [] = tt
-all_so P each (x ∷ xs) = (each x, all_so P each xs)
-
 module _ (index : ℕ) (table : Table) (rows : Stored → List Row) (with_rows : List Row → Stored → Stored) (stands : Stands index table rows with_rows)
     {X : Type 0} (row_of : X → Row) where
   -- things come after those that are there

@@ -1,12 +1,13 @@
 -- No part of what is promised: private contracts cite it. Records of the catalogue that are put together.
-use Rattle.std.specs.Prelude.{◌≡◌, ◌≢◌, ◌⊎◌, ℕ, suc, Bool, false, IsTrue, List, [], ◌∷◌, ◌++◌, drop, length, map, take}
+use Rattle.std.specs.Prelude.{◌≡◌, ◌≤◌, ◌≢◌, ◌⊎◌, ℕ, suc, Bool, false, IsTrue, List, [], ◌∷◌, ◌++◌, drop, length, map, take}
 use Rattle.std.specs.List.{AllByRecursion, list_any}
-use Rattle.mcs_reader.specs.Id.{IsId}
+use Rattle.mcs_reader.specs.Id.{IsId, text_of}
 use Rattle.catalogue.specs.declared.change.Change.{Change}
 use Rattle.catalogue.specs.declared.change.Change.TheVariants.{Whole, OfHold}
 use Rattle.catalogue.specs.declared.sysmod.Sysmod.{Sysmod}
-use Rattle.sqlite_value.specs.Order.{Row}
+use Rattle.sqlite_value.specs.Order.{Row, column}
 use Rattle.sqlite_value.specs.declared.value.Value.TheVariants.{Text}
+use Rattle.sql_texts.specs.Found.{is_text}
 use Rattle.sql_tables.specs.Changes.{holds_changed}
 use Rattle.sql_tables.specs.Rows.{sup_row, sysmod_row}
 use Rattle.sql_tables.specs.Stored.{Stored, is_of, is_of_both}
@@ -21,6 +22,16 @@ use Rattle.sql_writes.specs.declared.records.SysmodRow.{SysmodRow}
 abbrev pub values_of : SysmodRow → Row
 values_of row =
     id_value row.id ∷ sysmod_kind_value row.kind ∷ Text row.fmids.items ∷ Text row.pre.items ∷ Text row.req.items ∷ []
+
+-- whether a row's first column is the text of this record's id
+abbrev pub has_id_of : SysmodRow → Row → Bool
+has_id_of row other = is_text (text_of row.id) (column other 0)
+
+-- its lists are not too long for one row
+abbrev pub IsShortRow : SysmodRow → Type 0
+IsShortRow row =
+    (length row.fmids.items ≤ 300000000)
+    × ((length row.pre.items ≤ 300000000) × (length row.req.items ≤ 300000000))
 
 -- the columns of a row of what a record supersedes
 abbrev pub member_values : SupRow → Row

@@ -25,7 +25,7 @@ use crate::values::number_of;
 use bureau_store::CallerRow;
 use holddata::Hold;
 use mcs_reader::Id;
-use sql_rows::{Heads, Key, Received, Zone, id_of};
+use sql_rows::{All, Heads, Key, Received, Sysmods, Zone, id_of};
 use sql_tables::{
     categories_value, date_value, hold_kind_value, joined_ids, joined_patterns, optional_id_value,
     sysmod_kind_value,
@@ -127,16 +127,8 @@ pub(crate) fn sysmods<'a, S: Alter>(
         → TakesRoom S.Store tx.old.conn.now tx.new.conn.now result (length rows.now)
         (λ stored. AreNewRecords records stored.sysmods) }
 {
-    let mut params = [ValueRef::Null; 40];
-    for at in 0..rows.len() {
-        let row = &rows[at];
-        params[5 * at] = id_of(&row.id);
-        params[5 * at + 1] = sysmod_kind_value(row.kind);
-        params[5 * at + 2] = ValueRef::Text(row.fmids.as_slice());
-        params[5 * at + 3] = ValueRef::Text(row.pre.as_slice());
-        params[5 * at + 4] = ValueRef::Text(row.req.as_slice());
-    }
-    run(tx, texts::sysmods(rows.len()), &params[..5 * rows.len()])
+    let text = texts::sysmods(rows.len());
+    self::rows::<All, Sysmods, S>(tx, text, &All, rows)
 }
 
 /// A hold.

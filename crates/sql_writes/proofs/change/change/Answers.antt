@@ -13,7 +13,7 @@ use Rattle.bureau_store.specs.Effects.{effect_as}
 use Rattle.sql_writes.specs.Room.{is_short_effect}
 use Rattle.bureau_store.specs.declared.effect.Effect.{Effect}
 use Rattle.sql_writes.proofs.LeaveFacts.{none_head, none_received, rows_new}
-use Rattle.sql_writes.proofs.SeveralFacts.{all_so}
+use Rattle.sql_rows.proofs.AbsentFacts.{every}
 use Rattle.sql_writes.proofs.TakeFacts.{takes_of, takes_then}
 use Rattle.sql_writes.proofs.change.change.Goals as goal
 
@@ -61,7 +61,7 @@ returns-in_ok-keep_head-in-ZonePut-clause-takes g c fit short =
     takes_of _ _ _ _ _ c.in-ZonePut.is
     (takes_then _ _ _ tt _ (λ stored. record stored { heads = change.with_head client zone stored.heads }) 1 (length c.in-ZonePut.rows.now) (λ stored. Unit {0}) (λ stored. Unit {0}) (λ stored u. tt)
     c.in_ok-keep_head-in-ZonePut.ensures.changes c.in_ok-keep_head-in-ZonePut.ensures.takes c.replace.ensures.changes.survives
-    (c.replace.ensures.takes (all_so (λ row. Unit {0}) (λ row. tt) _) (rows_new client zone c.in-ZonePut.rows.now known.1)))
+    (c.replace.ensures.takes (every (λ row. Unit {0}) (λ row. tt) _) (rows_new client zone c.in-ZonePut.rows.now known.1)))
 
 pub returns-in_ok-any_of-in-ZoneDropped-clause-takes : goal.returns-in_ok-any_of-in-ZoneDropped-clause-takes
 returns-in_ok-any_of-in-ZoneDropped-clause-takes g c fit short =

@@ -5,7 +5,7 @@ use Rattle.sql_writes.proofs.AlikeFacts.{part_is, part_length, parts_begun, part
 use Rattle.sql_rows.proofs.ChangeFacts.{stopped}
 use Rattle.sql_texts.specs.Schema.{bureau}
 use Rattle.sql_writes.specs.Many.{MeansBy, insert_alike, parameters_to}
-use Rattle.sql_writes.proofs.SeveralFacts.{all_so}
+use Rattle.sql_rows.proofs.AbsentFacts.{every}
 use Rattle.sql_writes.proofs.TogetherFacts.{members_come_so}
 use Rattle.sql_writes.proofs.TakeFacts.{stopped_first, takes_more}
 use Rattle.sql_writes.proofs.load.records.Goals as goal
@@ -53,7 +53,7 @@ loop-at-preserved g c =
       changes = parts_longer _ _ _ members_come_so (with_sysmods c.args.rows.now) sups c.loop-at.at c.min-count.result _ _ _ (Ok tt) c.loop-at.invariant.changes c.in_ok-rows.ensures.changes;
       takes = λ records same fit short. parts_fit _ _ _ members_come_so (with_sysmods c.args.rows.now) sups (λ row. is_of_both row.id row.member) (λ stored. AreNewRecords records stored.sysmods × AreNewMembers sups stored.sups) (λ stored both. both.1)
           (length c.args.rows.now) c.loop-at.at c.min-count.result _ _ _ (Ok tt) is.2
-          c.loop-at.invariant.changes (c.loop-at.invariant.takes records same fit short) c.rows.ensures.changes.survives (c.in_ok-rows.ensures.takes (all_so (λ row. Unit {0}) (λ row. tt) _));
+          c.loop-at.invariant.changes (c.loop-at.invariant.takes records same fit short) c.rows.ensures.changes.survives (c.in_ok-rows.ensures.takes (every (λ row. Unit {0}) (λ row. tt) _));
     }
 
 pub returns-clause-changes : goal.returns-clause-changes
@@ -68,5 +68,5 @@ returns-in_err-rows-clause-takes g c records same fit short =
     let Fits = λ (stored : Stored). AreNewRecords records stored.sysmods × AreNewMembers sups stored.sups in
     stopped_first _ _ c.in_err-rows.field-0.0 _ (length c.args.rows.now + (c.loop-at.at + c.min-count.result)) _ Fits Fits c.from_residual-in_err-rows.ensures.1 (λ stored both. both)
     (parts_fit _ _ _ members_come_so (with_sysmods c.args.rows.now) sups (λ row. is_of_both row.id row.member) Fits (λ stored both. both.1) (length c.args.rows.now) c.loop-at.at c.min-count.result _ _ _ (Err c.in_err-rows.field-0.0) low
-    c.loop-at.invariant.changes (c.loop-at.invariant.takes records same fit short) c.rows.ensures.changes.survives (c.in_err-rows.ensures.takes (all_so (λ row. Unit {0}) (λ row. tt) _)))
+    c.loop-at.invariant.changes (c.loop-at.invariant.takes records same fit short) c.rows.ensures.changes.survives (c.in_err-rows.ensures.takes (every (λ row. Unit {0}) (λ row. tt) _)))
     (omega (arith, low))

@@ -12,7 +12,7 @@ use Rattle.sql_tables.specs.Fit.{IsCond, IsFitChange}
 use Rattle.sql_writes.specs.Excused.{Takes}
 use Rattle.sql_writes.specs.Records.{rest_count, rest_put}
 use Rattle.sql_writes.proofs.LeaveFacts.{conds_new}
-use Rattle.sql_writes.proofs.SeveralFacts.{all_so}
+use Rattle.sql_rows.proofs.AbsentFacts.{every}
 use Rattle.sql_writes.proofs.publication.put_rest.Goals as goal
 
 pub returns-in-OfHold-Put-clause-changes : goal.returns-in-OfHold-Put-clause-changes
@@ -30,5 +30,5 @@ returns-in-Whole-clause-takes g c fits short =
     let new = state g.S.Store c.replace_by.new.tx.conn.now in
     subst (λ (change : Change). Takes {Answer = Unit {0}} old new c.replace_by.result (rest_count change) (λ stored. Unit {0})) (sym c.in-Whole.is)
     (subst (λ (all : List CondNeed). Takes {Answer = Unit {0}} old new c.replace_by.result (length all) (λ stored. Unit {0})) is
-    (c.replace_by.ensures.takes (all_so (λ cond. Unit {0}) (λ cond. tt) conds)
+    (c.replace_by.ensures.takes (every (λ cond. Unit {0}) (λ cond. tt) conds)
     (conds_new sysmod.id conds (subst (AllByRecursion IsCond) (sym is) fit.conds) (subst CondsAscend (sym is) fit.conds_ascend))))
