@@ -37,6 +37,10 @@ pub(crate) fn push_indices_where(
 }
 
 /// Makes a list that of the indices of what is needed in a zone, given those of what is always needed.
+///
+/// # Errors
+///
+/// `NoMemory` where memory ran out.
 pub fn put_needs_where(
     indices: &mut Vec<usize>,
     always: &[usize],

@@ -9,6 +9,10 @@ use std::alloc::Global;
 use std::collections::BTreeMap;
 
 /// The ids of which something was read, ascending.
+///
+/// # Errors
+///
+/// `NoMemory` where memory ran out.
 pub fn ids_found<T>(alloc: Global, found: &BTreeMap<Id, T>) -> Result<Vec<Id>, NoMemory>
     ensures ids { IfOk result (λ ids. ids.items ≡ keys found.now) }
     ensures ascend { IfOk result (λ ids. Ascend ids.items) }

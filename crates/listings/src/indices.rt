@@ -89,6 +89,10 @@ pub(crate) fn index_near(members: &[Id], first: usize, id: &Id) -> Option<usize>
 
 /// Makes a list that of the indices of the ids that stand somewhere. The first is looked for at an index first, and
 /// each other one after the one before: what is listed together often stands together.
+///
+/// # Errors
+///
+/// `NoMemory` where memory ran out.
 pub fn put_indices(
     indices: &mut Vec<usize>,
     members: &[Id],
@@ -110,6 +114,10 @@ pub fn put_indices(
 }
 
 /// The ids that stand at indices.
+///
+/// # Errors
+///
+/// `NoMemory` where memory ran out.
 pub fn ids_at(alloc: Global, members: &[Id], indices: &[usize]) -> Result<Vec<Id>, NoMemory>
     requires { (q : ℕ) → Contains indices.now q → q < length members.now }
     ensures { IfOk result (λ ids. ids.items ≡ map (cuts.id_at members.now) indices.now) }

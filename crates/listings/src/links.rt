@@ -15,17 +15,23 @@ use requisites::Rows;
 use std::alloc::Global;
 use std::collections::BTreeSet;
 
-/// For each of some ids the indices of those that it may need, that it supersedes directly, and that supersede it
-/// directly.
+/// What some ids need, supersede and are superseded by, by their indices.
 #[derive(Debug, Drop)]
 pub struct Links {
+    /// What each may need in every zone.
     pub needs: Rows,
+    /// What each supersedes directly.
     pub supersedes: Rows,
+    /// What supersedes each directly.
     pub above: Rows,
 }
 
 impl Links {
     /// By what was gathered of each of the ids, in their order.
+    ///
+    /// # Errors
+    ///
+    /// `NoMemory` where memory ran out.
     pub fn of(alloc: Global, ids: &[Id], all: &[Gathered]) -> Result<Links, NoMemory>
         requires ascend { Ascend ids.now }
         requires len { length all.now ≡ length ids.now }
@@ -56,6 +62,10 @@ impl Links {
 }
 
 /// The ids that give the one at an index, ascending.
+///
+/// # Errors
+///
+/// `NoMemory` where memory ran out.
 pub fn givers_at(
     alloc: Global,
     ids: &[Id],

@@ -164,6 +164,10 @@ impl Listing {
     }
 
     /// The SYSMODs whose SUP names an id, ascending.
+    ///
+    /// # Errors
+    ///
+    /// `NoMemory` where memory ran out.
     pub fn superseders(&self, alloc: Global, id: &Id) -> Result<Ids, NoMemory>
         ensures superseders { IfOk result (λ found. (content : Content) → SaysOf content id.now self.now
             → found ≡ superseders content id.now) }

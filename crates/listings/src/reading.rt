@@ -24,6 +24,10 @@ const RUN: usize = 512;
 
 /// All that is catalogued, and all that it needs, whatever the zone, as nodes. The source is gone through twice: for
 /// the members, and for what each of them has.
+///
+/// # Errors
+///
+/// `Memory` where memory ran out, `Device` where the source failed.
 pub fn zone_nodes_of<P: Published>(
     alloc: Global,
     source: &mut P,

@@ -26,13 +26,19 @@ use supersede::Zone;
 /// Ids in ascending order, and what a zone and the catalogue say of each, by index.
 #[derive(Debug, Drop)]
 pub struct ZoneNodes {
+    /// The ids.
     pub members: Vec<Id>,
+    /// What is said of each.
     pub nodes: Nodes,
 }
 
 impl ZoneNodes {
     /// All that is catalogued, and all that it needs, whatever the zone, by a listing, which keeps what needs no
     /// zone.
+    ///
+    /// # Errors
+    ///
+    /// `NoMemory` where memory ran out.
     pub fn of_listing(alloc: Global, zone: &Zone, listing: &Listing) -> Result<ZoneNodes, NoMemory>
         ensures ascend { IfOk result (λ cut. Ascend cut.members.items) }
         ensures cut { IfOk result (λ cut. (content : Content) → IsListing content listing.now
@@ -131,6 +137,10 @@ fn marks_and_needs(
 
 /// Which members are there: those that the zone lists, and what the installed ones supersede, themselves
 /// or through others.
+///
+/// # Errors
+///
+/// `NoMemory` where memory ran out.
 pub fn there_marks(
     alloc: Global,
     zone: &Zone,
