@@ -67,51 +67,15 @@ pub record Known : Type 1 where
   pub Keeps : Row → Type 0
 
 abbrev pub known : StoreTable → Known
-known Caller = record {
-  table = made.caller;
-  rows = λ stored. stored.callers;
-  Keeps = IsCallerRow;
-}
-known LastChange = record {
-  table = made.last_change;
-  rows = λ stored. stored.changes;
-  Keeps = IsChangeRow;
-}
-known Sysmod = record {
-  table = made.sysmod;
-  rows = λ stored. stored.sysmods;
-  Keeps = IsSysmodRow;
-}
-known SysmodSup = record {
-  table = made.sysmod_sup;
-  rows = λ stored. stored.sups;
-  Keeps = λ row. IsIdColumn row 0 × IsIdColumn row 1;
-}
-known SysmodCond = record {
-  table = made.sysmod_cond;
-  rows = λ stored. stored.conds;
-  Keeps = λ row. IsIdColumn row 0 × IsIdColumn row 1 × IsIdColumn row 2;
-}
-known HoldRow = record {
-  table = made.hold_row;
-  rows = λ stored. stored.holds;
-  Keeps = IsHoldRow;
-}
-known ZoneHead = record {
-  table = made.zone_head;
-  rows = λ stored. stored.heads;
-  Keeps = IsHeadRow;
-}
-known ZoneRow = record {
-  table = made.zone_row;
-  rows = λ stored. stored.rows;
-  Keeps = IsZoneRow;
-}
-known ReceivedList = record {
-  table = made.received_list;
-  rows = λ stored. stored.received;
-  Keeps = λ row. IsIdColumn row 0 × AreIdsColumn row 1;
-}
+known Caller = record { table = made.caller; rows = λ stored. stored.callers; Keeps = IsCallerRow }
+known LastChange = record { table = made.last_change; rows = λ stored. stored.changes; Keeps = IsChangeRow }
+known Sysmod = record { table = made.sysmod; rows = λ stored. stored.sysmods; Keeps = IsSysmodRow }
+known SysmodSup = record { table = made.sysmod_sup; rows = λ stored. stored.sups; Keeps = λ row. IsIdColumn row 0 × IsIdColumn row 1 }
+known SysmodCond = record { table = made.sysmod_cond; rows = λ stored. stored.conds; Keeps = λ row. IsIdColumn row 0 × IsIdColumn row 1 × IsIdColumn row 2 }
+known HoldRow = record { table = made.hold_row; rows = λ stored. stored.holds; Keeps = IsHoldRow }
+known ZoneHead = record { table = made.zone_head; rows = λ stored. stored.heads; Keeps = IsHeadRow }
+known ZoneRow = record { table = made.zone_row; rows = λ stored. stored.rows; Keeps = IsZoneRow }
+known ReceivedList = record { table = made.received_list; rows = λ stored. stored.received; Keeps = λ row. IsIdColumn row 0 × AreIdsColumn row 1 }
 
 abbrev pub table_of : StoreTable → Table
 table_of table = (known table).table

@@ -9,8 +9,8 @@
 //! - [`ids`], [`sysmod`], [`superseders`], [`holds_on`], [`counts`]: what is published
 //! - [`seen`], [`is_run`]: the records and holds of many SYSMODs at once
 //! - [`each_zone`], [`names_ascend`]: what the rows of a client's zones say
-//! - [`rows_of`]: what any text that reads the tables finds; [`each`], [`entries`]: what its rows say, each an [`Entry`];
-//!   [`are_ascending`]: whether what is [`Ordered`] ascends
+//! - [`rows_of`]: what any text that reads the tables finds
+//! - [`each`], [`entries`]: what its rows say, each an [`Entry`]; [`are_ascending`]: whether these are in order
 //! - [`ReadFault`]: why a read is refused
 //!
 //! A contract says by `Finds` of `sql_state` what a read tells and what it leaves.
