@@ -22,7 +22,6 @@ mod entry;
 mod fault;
 mod id_entry;
 mod joins;
-mod key;
 mod listed;
 mod many;
 mod one;
@@ -31,7 +30,6 @@ mod scan;
 mod selection;
 mod table;
 mod tables_version;
-mod values;
 mod zone_counts;
 
 pub use counted::{counts, zone_count};

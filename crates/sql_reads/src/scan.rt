@@ -13,8 +13,8 @@ use crate::ReadFault;
 use crate::cut::keys_rise;
 use crate::rows::rows_of;
 use crate::selection::Selection;
-use crate::values::id_of;
 use mcs_reader::Id;
+use sql_rows::id_of;
 use sqlite::{Alter, Connection, Row};
 
 /// A table each of whose rows says something of a SYSMOD, and the text that reads the rows of many SYSMODs at once, in

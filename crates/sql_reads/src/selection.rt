@@ -12,7 +12,8 @@ ghost use Rattle.sql_texts.specs.Reads.{from_table};
 ghost use Rattle.sql_texts.specs.Schema.{bureau};
 
 use crate::ReadFault;
-use crate::key::Key;
+use crate::rows::rows_of;
+use sql_rows::Key;
 use sqlite::{Alter, Connection, Row};
 
 /// A text that reads rows of one table by a key, and what it means.
@@ -58,5 +59,6 @@ pub(crate) fn select<T: Selection, S: Alter>(
     ensures finds { Finds (state S.Store conn.old) (state S.Store conn.new) result (λ stored rows.
         IsPermutation (map (show T.shown) (filter (T.Of.has key.now) (T.rows stored))) rows.items) }
 {
-    key.read(conn, T::text())
+    let params = key.params();
+    rows_of(conn, T::text(), &params[..T::Of::count()])
 }

@@ -12,13 +12,13 @@ ghost use Rattle.sql_tables.specs.Values as value;
 
 use crate::ReadFault;
 use crate::entry::{Entry, Ordered, ascending};
-use crate::key::All;
 use crate::listed::{Listed, read_list};
 use crate::one::only;
 use crate::rows::rows_of;
 use crate::selection::Selection;
 use bureau_store::{Caller, CallerRow};
 use mcs_reader::Id;
+use sql_rows::All;
 use sql_tables::{NoMemory, caller_in, id_row_in};
 use sql_texts::read;
 use sqlite::types::ValueRef;

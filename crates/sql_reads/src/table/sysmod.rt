@@ -10,7 +10,6 @@ ghost use Rattle.sql_tables.specs.Stored.{beside_of, tables_of};
 
 use crate::ReadFault;
 use crate::entry::entries;
-use crate::key::All;
 use crate::listed::read_list;
 use crate::one::{any, only};
 use crate::scan::Scanned;
@@ -19,6 +18,7 @@ use crate::table::sysmod_cond::Conds;
 use crate::table::sysmod_sup::Sups;
 use catalogue::{CondNeeds, Ids, Sysmod};
 use mcs_reader::Id;
+use sql_rows::All;
 use sql_tables::sysmod_in;
 use sql_texts::read;
 use sqlite::{Alter, Connection, Row};

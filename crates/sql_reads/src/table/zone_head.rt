@@ -10,10 +10,10 @@ ghost use Rattle.sql_tables.specs.Values.{patterns_in};
 
 use crate::ReadFault;
 use crate::entry::{Ordered, ascending};
-use crate::key::Zone;
 use crate::one::{One, any, read_one};
 use crate::selection::{Selection, select};
 use mcs_reader::Id;
+use sql_rows::Zone;
 use sql_tables::patterns_row_in;
 use sql_texts::read;
 use sqlite::{Alter, Connection, Row};

@@ -7,10 +7,10 @@ ghost use Rattle.zone_lists.specs.ZoneList.{RowsAscend};
 
 use crate::ReadFault;
 use crate::entry::{Entry, Ordered, ascending};
-use crate::key::Zone;
 use crate::listed::{Listed, read_list};
 use crate::selection::Selection;
 use mcs_reader::Id;
+use sql_rows::Zone;
 use sql_tables::{NoMemory, zone_row_in};
 use sql_texts::read;
 use sqlite::{Alter, Connection, Row};
