@@ -14,4 +14,4 @@ mod tables;
 
 pub use key::{All, Key, Zone, id_of};
 pub use table::Table;
-pub use tables::{Conds, Heads, LastChanges, Received, Sups, Sysmods, ZoneRows};
+pub use tables::{Callers, Conds, Heads, Holds, LastChanges, Received, Sups, Sysmods, ZoneRows};

@@ -1,8 +1,36 @@
-//! The tables that have a key: where each stands in the schema and in the store.
+//! The tables: where each stands in the schema and in the store.
 ghost use Rattle.std.specs.Prelude.{refl};
 ghost use Rattle.sql_texts.specs.Schema as schema;
 
 use crate::Table;
+
+/// The callers with their tokens: the columns `name` and `token`.
+pub enum Callers {}
+
+impl Table for Callers {
+    ghost use Rattle.std.specs.Prelude.{refl};
+    ghost use Rattle.sql_texts.specs.Schema as schema;
+    ghost use Rattle.sql_rows.specs.Standing.{Stands};
+
+    ghost index = { 1 };
+
+    ghost table = { schema.caller };
+
+    ghost rows = { λ stored. stored.callers };
+
+    ghost with_rows = { λ rows stored. record stored { callers = rows } };
+
+    ghost stands = { record {
+      placed = refl;
+      uncounted = refl;
+      apart = refl;
+      here = λ trees. refl;
+      set = λ trees news. refl;
+      got = λ news stored. refl;
+      again = λ news others stored. refl;
+      kept = λ stored. refl;
+    } };
+}
 
 /// The last changes of callers: the columns `caller`, `number` and `body`.
 pub enum LastChanges {}
@@ -75,6 +103,34 @@ impl Table for Sups {
     ghost rows = { λ stored. stored.sups };
 
     ghost with_rows = { λ rows stored. record stored { sups = rows } };
+
+    ghost stands = { record {
+      placed = refl;
+      uncounted = refl;
+      apart = refl;
+      here = λ trees. refl;
+      set = λ trees news. refl;
+      got = λ news stored. refl;
+      again = λ news others stored. refl;
+      kept = λ stored. refl;
+    } };
+}
+
+/// The holds: the columns `sysmod`, `kind`, `reason`, `fmid`, `class`, `dated`, `resolver` and `categories`.
+pub enum Holds {}
+
+impl Table for Holds {
+    ghost use Rattle.std.specs.Prelude.{refl};
+    ghost use Rattle.sql_texts.specs.Schema as schema;
+    ghost use Rattle.sql_rows.specs.Standing.{Stands};
+
+    ghost index = { 5 };
+
+    ghost table = { schema.hold_row };
+
+    ghost rows = { λ stored. stored.holds };
+
+    ghost with_rows = { λ rows stored. record stored { holds = rows } };
 
     ghost stands = { record {
       placed = refl;
