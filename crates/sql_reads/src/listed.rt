@@ -10,11 +10,12 @@ ghost use Rattle.sql_tables.specs.Whole.{IsWhole};
 use crate::ReadFault;
 use crate::entry::{Entry, each};
 use crate::selection::{Selection, select};
+use sql_rows::Key;
 use sqlite::{Alter, Connection, Row};
 use std::alloc::Global;
 
 /// A selection each of whose rows says one thing.
-pub(crate) trait Listed: Selection {
+pub(crate) trait Listed<K: Key>: Selection<K> {
     /// What a row says.
     type Item: Entry + Drop;
 
@@ -25,7 +26,7 @@ pub(crate) trait Listed: Selection {
     ghost items: { Self.List → List Self.Item };
 
     /// What the store says of a key.
-    ghost tells: { Self.Of → Stored → List Self.Item → Type 0 };
+    ghost tells: { K → Stored → List Self.Item → Type 0 };
 
     /// The list of what rows say, if that ascends, each once.
     fn in_order(all: Vec<Self::Item>) -> Option<Self::List>
@@ -33,20 +34,23 @@ pub(crate) trait Listed: Selection {
         ensures ascend { IfSome result (λ list. Self.Item.ascend (Self.items list)) };
 
     /// What the rows of a key say, in ascending order, is what the store says of it.
-    ghost told: { (key : Self.Of) (stored : Stored) → IsWhole stored
+    ghost told: { (key : K) (stored : Stored) → IsWhole stored
         → (items : List Self.Item) → Self.Item.ascend items
         → IsPermutation (filter_map (λ row. Self.Item.found (show Self.shown row))
-        (filter (Self.Of.has key) (Self.rows stored))) items
+        (filter (K.has key) (Self.rows stored))) items
         → tells key stored items };
 }
 
 /// The list of what rows say.
-pub(crate) fn list_of<T: Listed>(alloc: Global, rows: &[Row]) -> Result<T::List, ReadFault>
+pub(crate) fn list_of<K: Key, T: Listed<K>>(
+    alloc: Global,
+    rows: &[Row],
+) -> Result<T::List, ReadFault>
     ensures items { IfOk result (λ list. map Some (T.items list) ≡ map T.Item.found rows.now) }
     ensures ascend { IfOk result (λ list. T.Item.ascend (T.items list)) }
 {
     let items = each::<T::Item>(alloc, rows)?;
-    T::in_order(items).ok_or(ReadFault::Device)
+    <T as Listed<K>>::in_order(items).ok_or(ReadFault::Device)
 }
 
 /// The list of what the rows of a key say.
@@ -54,10 +58,10 @@ pub(crate) fn list_of<T: Listed>(alloc: Global, rows: &[Row]) -> Result<T::List,
 /// # Errors
 ///
 /// Those of [`ReadFault`].
-pub(crate) fn read_list<T: Listed, S: Alter>(
+pub(crate) fn read_list<K: Key, T: Listed<K>, S: Alter>(
     alloc: Global,
     conn: &mut Connection<S>,
-    key: &T::Of,
+    key: &K,
 ) -> Result<T::List, ReadFault>
     requires rest { conn.old.in_transaction ≡ false }
     ensures mode { conn.new.in_transaction ≡ false }
@@ -65,6 +69,6 @@ pub(crate) fn read_list<T: Listed, S: Alter>(
         (λ stored list. T.tells key.now stored (T.items list)) }
     ensures ascend { IfOk result (λ list. T.Item.ascend (T.items list)) }
 {
-    let rows = select::<T, S>(conn, key)?;
-    list_of::<T>(alloc, rows.as_slice())
+    let rows = select::<K, T, S>(conn, key)?;
+    list_of::<K, T>(alloc, rows.as_slice())
 }

@@ -15,12 +15,10 @@ use crate::cut::cut;
 use crate::entry::entries;
 use crate::listed::list_of;
 use crate::scan::{Scanned, scan};
-use crate::table::hold_row::HoldsOn;
-use crate::table::sysmod::{Records, record_in};
-use crate::table::sysmod_cond::Conds;
-use crate::table::sysmod_sup::Sups;
+use crate::table::sysmod::record_in;
 use catalogue::Seen;
 use mcs_reader::Id;
+use sql_rows::{Conds, Holds, Sups, Sysmods};
 use sqlite::{Alter, Connection, Row};
 use std::alloc::Global;
 
@@ -91,8 +89,8 @@ fn rows_between<S: Alter>(
     ensures rise { IfOk result (λ rows.
         RowsRise rows.records.items rows.sups.items rows.conds.items rows.holds.items) }
 {
-    let (records, sups) = two::<Records, Sups, S>(conn, first, last)?;
-    match two::<Conds, HoldsOn, S>(conn, first, last) {
+    let (records, sups) = two::<Sysmods, Sups, S>(conn, first, last)?;
+    match two::<Conds, Holds, S>(conn, first, last) {
         Ok((conds, holds)) => Ok(Rows {
             records,
             sups,
@@ -179,8 +177,8 @@ fn cut_all<'a>(rows: &Part<'a>, text: &[u8]) -> (Part<'a>, Part<'a>)
 fn said(alloc: Global, rows: &Part<'_>) -> Result<Seen, ReadFault>
     ensures { IfOk result (Say rows.now.records.now rows.now.sups.now rows.now.conds.now rows.now.holds.now) }
 {
-    let conds = list_of::<Conds>(alloc, rows.conds)?;
-    let sup = list_of::<Sups>(alloc, rows.sups)?;
+    let conds = list_of::<Id, Conds>(alloc, rows.conds)?;
+    let sup = list_of::<Id, Sups>(alloc, rows.sups)?;
     let sysmod = record_in(alloc, rows.records, conds, sup)?;
     let holds = entries(alloc, rows.holds)?;
     Ok(Seen { sysmod, holds })

@@ -9,11 +9,12 @@ ghost use Rattle.sql_tables.specs.Whole.{IsWhole};
 
 use crate::ReadFault;
 use crate::selection::{Selection, select};
+use sql_rows::Key;
 use sqlite::{Alter, Connection, Row};
 use std::alloc::Global;
 
 /// A selection that finds one row of a key at most.
-pub(crate) trait One: Selection {
+pub(crate) trait One<K: Key>: Selection<K> {
     /// What is said of a key.
     type Item: Drop;
 
@@ -24,7 +25,7 @@ pub(crate) trait One: Selection {
     ghost is_proper: { Self.Item → Type 0 };
 
     /// What the store says of a key.
-    ghost tells: { Self.Of → Stored → Self.Item → Type 0 };
+    ghost tells: { K → Stored → Self.Item → Type 0 };
 
     /// What the row says, if there is one.
     fn item(alloc: Global, row: Option<&Row>) -> Result<Self::Item, ReadFault>
@@ -32,8 +33,8 @@ pub(crate) trait One: Selection {
         ensures proper { IfOk result is_proper };
 
     /// What the row of a key says is what the store says of it.
-    ghost told: { (key : Self.Of) (stored : Stored) → IsWhole stored → (item : Self.Item)
-        → says (option_map (show Self.shown) (first (filter (Self.Of.has key) (Self.rows stored)))) item
+    ghost told: { (key : K) (stored : Stored) → IsWhole stored → (item : Self.Item)
+        → says (option_map (show Self.shown) (first (filter (K.has key) (Self.rows stored)))) item
         → tells key stored item };
 }
 
@@ -56,13 +57,13 @@ pub(crate) fn any(rows: &[Row]) -> bool
 }
 
 // What the one row says, or what is said where there is none.
-fn item_of<T: One>(alloc: Global, rows: &[Row]) -> Result<T::Item, ReadFault>
+fn item_of<K: Key, T: One<K>>(alloc: Global, rows: &[Row]) -> Result<T::Item, ReadFault>
     ensures said { IfOk result (λ item.
         (row : Option Values) × (one_of Some rows.now ≡ Some row) × T.says row item) }
     ensures proper { IfOk result T.is_proper }
 {
     let row = only(rows)?;
-    T::item(alloc, row)
+    <T as One<K>>::item(alloc, row)
 }
 
 /// What the one row of a key says, or what is said where there is none.
@@ -70,10 +71,10 @@ fn item_of<T: One>(alloc: Global, rows: &[Row]) -> Result<T::Item, ReadFault>
 /// # Errors
 ///
 /// Those of [`ReadFault`].
-pub(crate) fn read_one<T: One, S: Alter>(
+pub(crate) fn read_one<K: Key, T: One<K>, S: Alter>(
     alloc: Global,
     conn: &mut Connection<S>,
-    key: &T::Of,
+    key: &K,
 ) -> Result<T::Item, ReadFault>
     requires rest { conn.old.in_transaction ≡ false }
     ensures mode { conn.new.in_transaction ≡ false }
@@ -81,6 +82,6 @@ pub(crate) fn read_one<T: One, S: Alter>(
         (λ stored item. T.tells key.now stored item) }
     ensures proper { IfOk result T.is_proper }
 {
-    let rows = select::<T, S>(conn, key)?;
-    item_of::<T>(alloc, rows.as_slice())
+    let rows = select::<K, T, S>(conn, key)?;
+    item_of::<K, T>(alloc, rows.as_slice())
 }

@@ -12,14 +12,13 @@ ghost use Rattle.sql_reads.specs.Scans.{FindsBetween, KeysRise, scan_of};
 use crate::ReadFault;
 use crate::cut::keys_rise;
 use crate::rows::rows_of;
-use crate::selection::Selection;
 use mcs_reader::Id;
-use sql_rows::id_of;
+use sql_rows::{Table, id_of};
 use sqlite::{Alter, Connection, Row};
 
 /// A table each of whose rows says something of a SYSMOD, and the text that reads the rows of many SYSMODs at once, in
 /// the order of these. It begins with the columns that a read of one SYSMOD shows.
-pub(crate) trait Scanned: Selection {
+pub(crate) trait Scanned: Table {
     /// The columns that it shows, from 0 on.
     ghost scan_shown: { List ℕ };
 
@@ -34,7 +33,7 @@ pub(crate) trait Scanned: Selection {
 
     /// The text that reads the rows of the SYSMODs from ?1 to ?2.
     fn scan_text() -> &'static str
-        ensures { Reads bureau result.now (scan_of Self.tree scan_shown scan_order) scan_names 2 };
+        ensures { Reads bureau result.now (scan_of Self.table.tree scan_shown scan_order) scan_names 2 };
 
     /// Where the SYSMOD stands.
     fn place() -> usize

@@ -2,28 +2,19 @@
 ghost use Rattle.std.specs.Prelude.{◌≡◌, ℕ, List, false, filter, map, suc};
 ghost use Rattle.std.specs.List.Sorted.{IsPermutation};
 ghost use Rattle.sqlite.specs.Held.{state};
-ghost use Rattle.sqlite.specs.Tree.{Trees};
-ghost use Rattle.sqlite_value.specs.Order.{Row as Values};
 ghost use Rattle.sql_state.specs.Reading.{Finds};
-ghost use Rattle.sql_tables.specs.InTrees.{columns_of, stored_in};
-ghost use Rattle.sql_tables.specs.Stored.{Stored, shown as show};
+ghost use Rattle.sql_tables.specs.Stored.{shown as show};
 ghost use Rattle.sql_texts.specs.Meaning.{Reads};
 ghost use Rattle.sql_texts.specs.Reads.{from_table};
 ghost use Rattle.sql_texts.specs.Schema.{bureau};
 
 use crate::ReadFault;
 use crate::rows::rows_of;
-use sql_rows::Key;
+use sql_rows::{Key, Table};
 use sqlite::{Alter, Connection, Row};
 
-/// A text that reads rows of one table by a key, and what it means.
-pub(crate) trait Selection {
-    /// What the rows belong to.
-    type Of: Key;
-
-    /// The tree of the table.
-    ghost tree: { ℕ };
-
+/// A table whose rows of a key are read, by which text, and what that shows.
+pub(crate) trait Selection<K: Key>: Table {
     /// The columns that it shows, from 0 on.
     ghost shown: { List ℕ };
 
@@ -33,16 +24,10 @@ pub(crate) trait Selection {
     /// The columns by which it is ordered, from 1 on.
     ghost order: { List ℕ };
 
-    /// The rows of the table among those of the store.
-    ghost rows: { Stored → List Values };
-
     /// The text.
     fn text() -> &'static str
         ensures { Reads bureau result.now
-            (from_table tree Self.Of.tests (map suc shown) order) names Self.Of.parameters };
-
-    /// The rows are those of the tree.
-    ghost here: { (trees : Trees) → rows (stored_in trees) ≡ columns_of (trees tree) };
+            (from_table Self.table.tree K.tests (map suc shown) order) names K.parameters };
 }
 
 /// The rows of a key, with the columns that are shown.
@@ -50,15 +35,15 @@ pub(crate) trait Selection {
 /// # Errors
 ///
 /// Those of [`ReadFault`].
-pub(crate) fn select<T: Selection, S: Alter>(
+pub(crate) fn select<K: Key, T: Selection<K>, S: Alter>(
     conn: &mut Connection<S>,
-    key: &T::Of,
+    key: &K,
 ) -> Result<Vec<Row>, ReadFault>
     requires rest { conn.old.in_transaction ≡ false }
     ensures mode { conn.new.in_transaction ≡ false }
     ensures finds { Finds (state S.Store conn.old) (state S.Store conn.new) result (λ stored rows.
-        IsPermutation (map (show T.shown) (filter (T.Of.has key.now) (T.rows stored))) rows.items) }
+        IsPermutation (map (show T.shown) (filter (K.has key.now) (T.rows stored))) rows.items) }
 {
     let params = key.params();
-    rows_of(conn, T::text(), &params[..T::Of::count()])
+    rows_of(conn, <T as Selection<K>>::text(), &params[..K::count()])
 }

@@ -1,8 +1,32 @@
-//! The tables that have a key: where each stands in the schema and in the store.
-ghost use Rattle.std.specs.Prelude.{refl};
-ghost use Rattle.sql_texts.specs.Schema as schema;
-
+//! The tables: where each stands in the schema and in the store.
 use crate::Table;
+
+/// The callers with their tokens: the columns `name` and `token`.
+pub enum Callers {}
+
+impl Table for Callers {
+    ghost use Rattle.std.specs.Prelude.{refl};
+    ghost use Rattle.sql_texts.specs.Schema as schema;
+
+    ghost index = { 1 };
+
+    ghost table = { schema.caller };
+
+    ghost rows = { λ stored. stored.callers };
+
+    ghost with_rows = { λ rows stored. record stored { callers = rows } };
+
+    ghost stands = { record {
+      placed = refl;
+      uncounted = refl;
+      apart = refl;
+      here = λ trees. refl;
+      set = λ trees news. refl;
+      got = λ news stored. refl;
+      again = λ news others stored. refl;
+      kept = λ stored. refl;
+    } };
+}
 
 /// The last changes of callers: the columns `caller`, `number` and `body`.
 pub enum LastChanges {}
@@ -10,7 +34,6 @@ pub enum LastChanges {}
 impl Table for LastChanges {
     ghost use Rattle.std.specs.Prelude.{refl};
     ghost use Rattle.sql_texts.specs.Schema as schema;
-    ghost use Rattle.sql_rows.specs.Standing.{Stands};
 
     ghost index = { 2 };
 
@@ -32,13 +55,13 @@ impl Table for LastChanges {
     } };
 }
 
-/// Records without what they supersede and require under a condition: the columns `id`, `kind`, `fmids`, `pre` and `req`.
+/// Records, without what they supersede and require under a condition: the columns `id`, `kind`, `fmids`, `pre`
+/// and `req`.
 pub enum Sysmods {}
 
 impl Table for Sysmods {
     ghost use Rattle.std.specs.Prelude.{refl};
     ghost use Rattle.sql_texts.specs.Schema as schema;
-    ghost use Rattle.sql_rows.specs.Standing.{Stands};
 
     ghost index = { 3 };
 
@@ -66,7 +89,6 @@ pub enum Sups {}
 impl Table for Sups {
     ghost use Rattle.std.specs.Prelude.{refl};
     ghost use Rattle.sql_texts.specs.Schema as schema;
-    ghost use Rattle.sql_rows.specs.Standing.{Stands};
 
     ghost index = { 4 };
 
@@ -88,13 +110,39 @@ impl Table for Sups {
     } };
 }
 
+/// The holds: the columns `sysmod`, `kind`, `reason`, `fmid`, `class`, `dated`, `resolver` and `categories`.
+pub enum Holds {}
+
+impl Table for Holds {
+    ghost use Rattle.std.specs.Prelude.{refl};
+    ghost use Rattle.sql_texts.specs.Schema as schema;
+
+    ghost index = { 5 };
+
+    ghost table = { schema.hold_row };
+
+    ghost rows = { λ stored. stored.holds };
+
+    ghost with_rows = { λ rows stored. record stored { holds = rows } };
+
+    ghost stands = { record {
+      placed = refl;
+      uncounted = refl;
+      apart = refl;
+      here = λ trees. refl;
+      set = λ trees news. refl;
+      got = λ news stored. refl;
+      again = λ news others stored. refl;
+      kept = λ stored. refl;
+    } };
+}
+
 /// The zones of clients, with the patterns that are asked for: the columns `client`, `zone` and `patterns`.
 pub enum Heads {}
 
 impl Table for Heads {
     ghost use Rattle.std.specs.Prelude.{refl};
     ghost use Rattle.sql_texts.specs.Schema as schema;
-    ghost use Rattle.sql_rows.specs.Standing.{Stands};
 
     ghost index = { 6 };
 
@@ -122,7 +170,6 @@ pub enum ZoneRows {}
 impl Table for ZoneRows {
     ghost use Rattle.std.specs.Prelude.{refl};
     ghost use Rattle.sql_texts.specs.Schema as schema;
-    ghost use Rattle.sql_rows.specs.Standing.{Stands};
 
     ghost index = { 7 };
 
@@ -150,7 +197,6 @@ pub enum Received {}
 impl Table for Received {
     ghost use Rattle.std.specs.Prelude.{refl};
     ghost use Rattle.sql_texts.specs.Schema as schema;
-    ghost use Rattle.sql_rows.specs.Standing.{Stands};
 
     ghost index = { 8 };
 
@@ -178,7 +224,6 @@ pub enum Conds {}
 impl Table for Conds {
     ghost use Rattle.std.specs.Prelude.{refl};
     ghost use Rattle.sql_texts.specs.Schema as schema;
-    ghost use Rattle.sql_rows.specs.Standing.{Stands};
 
     ghost index = { 9 };
 

@@ -13,7 +13,7 @@ ghost use Rattle.sql_writes.specs.Room.{HasRoom, IsRoomy, is_short_effect, rows_
 use crate::publication::put_changes;
 use crate::zone::keep_head;
 use crate::{delete, insert, load};
-use bureau_store::Effect;
+use bureau_store::{Caller, Effect};
 use mcs_reader::Id;
 use sql_rows::{Heads, LastChanges, Received, Zone, ZoneRows};
 use sqlite::{Alter, Error, Transaction};
@@ -73,7 +73,7 @@ fn change<S: Alter>(
 fn publisher() -> Id
     ensures { result ≡ publisher_name }
 {
-    match Id::new(b"PUBLISH") {
+    match Id::new(Caller::Publisher.name()) {
         Some(name) => name,
         None => unreachable!(),
     }

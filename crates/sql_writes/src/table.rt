@@ -22,12 +22,12 @@ ghost use Rattle.sql_writes.specs.Altering.{Alters, TakesRoom};
 ghost use Rattle.sql_writes.specs.Asking.{first_in};
 ghost use Rattle.sql_writes.specs.Many.{AreGiven, MeansBy, insert_alike, parameters_to, with_next};
 
-mod cond;
-mod head;
 mod last_change;
-mod received;
-mod sup;
+mod received_list;
 mod sysmod;
+mod sysmod_cond;
+mod sysmod_sup;
+mod zone_head;
 mod zone_row;
 
 use sql_rows::{Key, Table};

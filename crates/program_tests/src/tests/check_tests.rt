@@ -1,42 +1,21 @@
 //! Stores in files in memory that are looked through: whole ones, and those that something else has written into.
-ghost use Rattle.std.specs.Prelude.{◌≡◌, IfOk, false};
+ghost use Rattle.std.specs.Prelude.{◌≡◌, false};
 
-use super::desk_tests::CALLERS;
-use super::store_tests::{Ran, earlier, fresh, init, told};
+use super::store_tests::{EARLIER, fresh, told, write};
 use sqlite::{Alter, Connection};
 use std::alloc::Global;
 use std::test::Fail;
 use store_runs::run_check;
 use testing::{assert_equal, assert_equal_at};
 
-// What `check` tells, and the connection.
-fn check<S: Alter + Drop>(alloc: Global, conn: Connection<S>) -> Ran<S>
-    requires { conn.in_transaction ≡ false }
-    ensures { IfOk result (λ both. both.1.in_transaction ≡ false) }
+// What `check` tells.
+fn check<S: Alter>(alloc: Global, conn: &mut Connection<S>) -> Result<String, Fail>
+    requires { conn.old.in_transaction ≡ false }
+    ensures { conn.new.in_transaction ≡ false }
 {
     let (mut output, mut errors) = (Vec::new(alloc), Vec::new(alloc));
-    let mut conn = conn;
-    let status = run_check(alloc, &mut conn, &mut output, &mut errors);
-    Ok((told(alloc, status, &output, &errors)?, conn))
-}
-
-// A store in a new file, with what these texts write into it.
-fn written<S: Alter + Drop>(
-    alloc: Global,
-    conn: Connection<S>,
-    texts: &[&str],
-) -> Result<Connection<S>, Fail>
-    requires { conn.in_transaction ≡ false }
-    ensures { IfOk result (λ conn. conn.in_transaction ≡ false) }
-{
-    let (_, mut conn) = init(alloc, conn, CALLERS)?;
-    for text in texts {
-        conn.execute(text, &[])?;
-    }
-    if !conn.is_autocommit() {
-        return Err("a connection at rest".into());
-    }
-    Ok(conn)
+    let status = run_check(alloc, conn, &mut output, &mut errors);
+    told(alloc, status, &output, &errors)
 }
 
 // Rows that the bureau writes, and how much that is.
@@ -60,25 +39,26 @@ PUBLISH  0      0           0\n\
 ROWS 3\n";
 
 // What a store tells that has this beside its callers. It tells the same again.
-fn assert_told<S: Alter + Drop>(
+fn assert_told<S: Alter>(
     alloc: Global,
-    conn: Connection<S>,
+    conn: &mut Connection<S>,
     texts: &[&str],
     wanted: &str,
 ) -> Result<(), Fail>
-    requires { conn.in_transaction ≡ false }
+    requires { conn.old.in_transaction ≡ false }
 {
-    let conn = written(alloc, conn, texts)?;
-    let (told, conn) = check(alloc, conn)?;
-    assert_equal_at(texts, told.as_str(), wanted)?;
-    let (told, _) = check(alloc, conn)?;
-    assert_equal_at(texts, told.as_str(), wanted)
+    write(alloc, conn, texts)?;
+    for _ in 0..2 {
+        let told = check(alloc, conn)?;
+        assert_equal_at(texts, told.as_str(), wanted)?;
+    }
+    Ok(())
 }
 
 #[test]
 fn a_store_tells_how_much_each_caller_has(rt: HostRuntime) -> Result<(), Fail> {
     let alloc = rt.alloc();
-    assert_told(alloc, fresh(alloc)?, &ROWS, HAS_ROWS)
+    assert_told(alloc, &mut fresh(alloc)?, &ROWS, HAS_ROWS)
 }
 
 // What something else wrote into a store, and what is told of it.
@@ -130,7 +110,7 @@ static WRONG: [(&str, &str); 14] = [
 fn a_store_that_something_else_wrote_into_is_told(rt: HostRuntime) -> Result<(), Fail> {
     let alloc = rt.alloc();
     for (text, wanted) in &WRONG {
-        assert_told(alloc, fresh(alloc)?, &[*text], wanted)?;
+        assert_told(alloc, &mut fresh(alloc)?, &[*text], wanted)?;
     }
     Ok(())
 }
@@ -138,8 +118,8 @@ fn a_store_that_something_else_wrote_into_is_told(rt: HostRuntime) -> Result<(),
 #[test]
 fn a_file_that_is_no_store_is_told(rt: HostRuntime) -> Result<(), Fail> {
     let alloc = rt.alloc();
-    let (told, _) = check(alloc, fresh(alloc)?)?;
-    assert_equal(told.as_str(), "1 FAULT 44\n")?;
-    let (told, _) = check(alloc, earlier(alloc, fresh(alloc)?)?)?;
-    assert_equal(told.as_str(), "1 FAULT 45\n")
+    let mut conn = fresh(alloc)?;
+    assert_equal(check(alloc, &mut conn)?.as_str(), "1 FAULT 44\n")?;
+    write(alloc, &mut conn, &EARLIER)?;
+    assert_equal(check(alloc, &mut conn)?.as_str(), "1 FAULT 45\n")
 }

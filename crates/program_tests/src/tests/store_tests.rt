@@ -37,9 +37,6 @@ pub(super) fn fresh(alloc: Global) -> Result<Connection<FileStore<Memory>>, Fail
     connected(alloc, Memory::new(alloc))
 }
 
-// What a run tells, and the connection that it gives back.
-pub(super) type Ran<S> = Result<(String, Connection<S>), Fail>;
-
 // A status, and what was written to standard output and standard error.
 pub(super) fn told(
     alloc: Global,
@@ -52,19 +49,25 @@ pub(super) fn told(
     Ok(format!(in alloc; "{status} {output}{errors}")?)
 }
 
-// What `init` tells, and the connection.
-pub(super) fn init<S: Alter + Drop>(alloc: Global, conn: Connection<S>, callers: &[u8]) -> Ran<S>
-    requires { conn.in_transaction ≡ false }
-    ensures { IfOk result (λ both. both.1.in_transaction ≡ false) }
+// What `init` tells.
+pub(super) fn init<S: Alter>(
+    alloc: Global,
+    conn: &mut Connection<S>,
+    callers: &[u8],
+) -> Result<String, Fail>
+    requires { conn.old.in_transaction ≡ false }
+    ensures { conn.new.in_transaction ≡ false }
 {
     let (mut output, mut errors) = (Vec::new(alloc), Vec::new(alloc));
-    let mut conn = conn;
-    let status = run_init(alloc, &mut conn, callers, &mut output, &mut errors);
-    Ok((told(alloc, status, &output, &errors)?, conn))
+    let status = run_init(alloc, conn, callers, &mut output, &mut errors);
+    told(alloc, status, &output, &errors)
 }
 
 // What is told of an opening that is refused, and the connection.
-fn refused<S: Alter + Drop>(alloc: Global, conn: Connection<S>) -> Ran<S>
+fn refused<S: Alter + Drop>(
+    alloc: Global,
+    conn: Connection<S>,
+) -> Result<(String, Connection<S>), Fail>
     requires { conn.in_transaction ≡ false }
     ensures { IfOk result (λ both. both.1.in_transaction ≡ false) }
 {
@@ -94,11 +97,11 @@ fn assert_no_tables<S: Alter + Drop>(
 ) -> Result<(), Fail>
     requires { conn.in_transaction ≡ false }
 {
-    let (told, conn) = init(alloc, conn, callers)?;
-    assert_equal(told.as_str(), wanted)?;
-    let (told, conn) = refused(alloc, conn)?;
+    let mut conn = conn;
+    assert_equal(init(alloc, &mut conn, callers)?.as_str(), wanted)?;
+    let (told, mut conn) = refused(alloc, conn)?;
     assert_equal_at(wanted, told.as_str(), "1 FAULT 44\n")?;
-    let (told, _) = init(alloc, conn, CALLERS)?;
+    let told = init(alloc, &mut conn, CALLERS)?;
     assert_equal_at(wanted, told.as_str(), "0 CALLERS 3\n")
 }
 
@@ -110,47 +113,50 @@ fn a_fault_of_the_callers_leaves_no_tables(rt: HostRuntime) -> Result<(), Fail> 
     Ok(())
 }
 
-// What `migrate` tells, and the connection.
-fn migrate<S: Alter + Drop>(alloc: Global, conn: Connection<S>) -> Ran<S>
-    requires { conn.in_transaction ≡ false }
-    ensures { IfOk result (λ both. both.1.in_transaction ≡ false) }
+// What `migrate` tells.
+fn migrate<S: Alter>(alloc: Global, conn: &mut Connection<S>) -> Result<String, Fail>
+    requires { conn.old.in_transaction ≡ false }
+    ensures { conn.new.in_transaction ≡ false }
 {
     let (mut output, mut errors) = (Vec::new(alloc), Vec::new(alloc));
-    let mut conn = conn;
-    let status = run_migrate(&mut conn, &mut output, &mut errors);
-    Ok((told(alloc, status, &output, &errors)?, conn))
+    let status = run_migrate(conn, &mut output, &mut errors);
+    told(alloc, status, &output, &errors)
 }
 
-// A store in a new file that has what version 1 had.
-pub(super) fn earlier<S: Alter + Drop>(
+// What makes of a store what version 1 had.
+pub(super) static EARLIER: [&str; 2] = [
+    "DROP TABLE sysmod_cond",
+    "UPDATE bureau_version SET version = 1",
+];
+
+// Makes a store in a new file, and writes this into it.
+pub(super) fn write<S: Alter>(
     alloc: Global,
-    conn: Connection<S>,
-) -> Result<Connection<S>, Fail>
-    requires { conn.in_transaction ≡ false }
-    ensures { IfOk result (λ conn. conn.in_transaction ≡ false) }
+    conn: &mut Connection<S>,
+    texts: &[&str],
+) -> Result<(), Fail>
+    requires { conn.old.in_transaction ≡ false }
+    ensures { IfOk result (λ _. conn.new.in_transaction ≡ false) }
 {
-    let (_, mut conn) = init(alloc, conn, CALLERS)?;
-    for text in [
-        "DROP TABLE sysmod_cond",
-        "UPDATE bureau_version SET version = 1",
-    ] {
+    init(alloc, conn, CALLERS)?;
+    for text in texts {
         conn.execute(text, &[])?;
     }
     if !conn.is_autocommit() {
         return Err("a connection at rest".into());
     }
-    Ok(conn)
+    Ok(())
 }
 
 // A store of version 1 is refused, migrated, and then opened. It is not migrated again.
 fn assert_migrated_once<S: Alter + Drop>(alloc: Global, conn: Connection<S>) -> Result<(), Fail>
     requires { conn.in_transaction ≡ false }
 {
-    let (told, conn) = refused(alloc, conn)?;
+    let (told, mut conn) = refused(alloc, conn)?;
     assert_equal(told.as_str(), "1 FAULT 45\n")?;
-    let (told, conn) = migrate(alloc, conn)?;
+    let told = migrate(alloc, &mut conn)?;
     assert_equal(told.as_str(), "0 MIGRATED VERSION 2\n")?;
-    let (told, conn) = migrate(alloc, conn)?;
+    let told = migrate(alloc, &mut conn)?;
     assert_equal(told.as_str(), "1 FAULT 45\n")?;
     let mut errors = Vec::new(alloc);
     match run_open(alloc, conn, &mut errors) {
@@ -162,13 +168,19 @@ fn assert_migrated_once<S: Alter + Drop>(alloc: Global, conn: Connection<S>) -> 
 #[test]
 fn a_store_of_version_1_is_migrated_once(rt: HostRuntime) -> Result<(), Fail> {
     let alloc = rt.alloc();
-    assert_migrated_once(alloc, earlier(alloc, fresh(alloc)?)?)?;
-    let (told, _) = migrate(alloc, fresh(alloc)?)?;
+    let mut conn = fresh(alloc)?;
+    write(alloc, &mut conn, &EARLIER)?;
+    assert_migrated_once(alloc, conn)?;
+    let told = migrate(alloc, &mut fresh(alloc)?)?;
     assert_equal(told.as_str(), "1 FAULT 44\n")
 }
 
 // What `callers` tells of these callers, and the connection.
-fn set<S: Alter + Drop>(alloc: Global, conn: Connection<S>, callers: &[u8]) -> Ran<S>
+fn set<S: Alter + Drop>(
+    alloc: Global,
+    conn: Connection<S>,
+    callers: &[u8],
+) -> Result<(String, Connection<S>), Fail>
     requires { conn.in_transaction ≡ false }
     ensures { IfOk result (λ both. both.1.in_transaction ≡ false) }
 {
@@ -190,8 +202,8 @@ fn assert_set<S: Alter + Drop>(alloc: Global, conn: Connection<S>) -> Result<(),
 {
     let first = b"NAME,TOKEN\nPUBLISH,publisher-token\nALPHA,alpha-token\nBRAVO,bravo-token\n";
     let then = b"NAME,TOKEN\nPUBLISH,another-token\nALPHA,bravo-token\nGAMMA,alpha-token\n";
-    let (told, conn) = init(alloc, conn, first)?;
-    assert_equal(told.as_str(), "0 CALLERS 3\n")?;
+    let mut conn = conn;
+    assert_equal(init(alloc, &mut conn, first)?.as_str(), "0 CALLERS 3\n")?;
     let (told, conn) = set(alloc, conn, first)?;
     assert_equal(told.as_str(), "0 CALLERS 3 ADDED 0 REMOVED 0 TOKENS 0\n")?;
     let (told, conn) = set(alloc, conn, then)?;
@@ -217,7 +229,8 @@ fn served<S: Alter + Drop>(
 ) -> Result<(String, Vec<u8>), Fail>
     requires { conn.in_transaction ≡ false }
 {
-    let (_, conn) = init(alloc, conn, CALLERS)?;
+    let mut conn = conn;
+    init(alloc, &mut conn, CALLERS)?;
     let service = Service {
         port: 4_711,
         cache: 1,

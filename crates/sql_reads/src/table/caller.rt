@@ -18,7 +18,7 @@ use crate::rows::rows_of;
 use crate::selection::Selection;
 use bureau_store::{Caller, CallerRow};
 use mcs_reader::Id;
-use sql_rows::All;
+use sql_rows::{All, Callers};
 use sql_tables::{NoMemory, caller_in, id_row_in};
 use sql_texts::read;
 use sqlite::types::ValueRef;
@@ -54,15 +54,8 @@ impl Entry for CallerRow {
     }
 }
 
-/// All callers, ascending by name.
-enum Callers {}
-
-impl Selection for Callers {
-    ghost use Rattle.std.specs.Prelude.{◌∷◌, [], codes, refl};
-
-    type Of = All;
-
-    ghost tree = { 1 };
+impl Selection<All> for Callers {
+    ghost use Rattle.std.specs.Prelude.{◌∷◌, [], codes};
 
     ghost shown = { 0 ∷ 1 ∷ [] };
 
@@ -70,16 +63,12 @@ impl Selection for Callers {
 
     ghost order = { 1 ∷ [] };
 
-    ghost rows = { λ stored. stored.callers };
-
     fn text() -> &'static str {
         read::callers()
     }
-
-    ghost here = { λ trees. refl };
 }
 
-impl Listed for Callers {
+impl Listed<All> for Callers {
     ghost use Rattle.sql_tables.specs.Rows.{caller_found};
     ghost use Rattle.sql_reads.specs.Rows.{said_of_all};
 
@@ -116,7 +105,7 @@ pub fn all_callers<S: Alter>(
         (λ stored callers. IsPermutation (tables_of stored).callers callers.items) }
     ensures ascend { IfOk result (λ callers. NamesAscend (map (λ row. row.name) callers.items)) }
 {
-    read_list::<Callers, S>(alloc, conn, &All)
+    read_list::<All, Callers, S>(alloc, conn, &All)
 }
 
 /// The caller whose token this is, or `None` where no caller has it.

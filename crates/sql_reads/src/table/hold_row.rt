@@ -12,6 +12,7 @@ use crate::scan::Scanned;
 use crate::selection::{Selection, select};
 use holddata::{Hold, key_cmp};
 use mcs_reader::Id;
+use sql_rows::Holds;
 use sql_tables::{NoMemory, hold_in};
 use sql_texts::read;
 use sqlite::{Alter, Connection, Row};
@@ -46,16 +47,9 @@ impl Entry for Hold {
     }
 }
 
-/// The holds on a SYSMOD, in the order of their keys.
-pub(crate) enum HoldsOn {}
-
-impl Selection for HoldsOn {
-    ghost use Rattle.std.specs.Prelude.{◌∷◌, [], refl};
+impl Selection<Id> for Holds {
+    ghost use Rattle.std.specs.Prelude.{◌∷◌, []};
     ghost use Rattle.sql_texts.specs.Schema.{hold_columns};
-
-    type Of = Id;
-
-    ghost tree = { 11 };
 
     ghost shown = { 0 ∷ 1 ∷ 2 ∷ 3 ∷ 4 ∷ 5 ∷ 6 ∷ 7 ∷ [] };
 
@@ -63,16 +57,12 @@ impl Selection for HoldsOn {
 
     ghost order = { 1 ∷ 2 ∷ 3 ∷ [] };
 
-    ghost rows = { λ stored. stored.holds };
-
     fn text() -> &'static str {
         read::holds_on()
     }
-
-    ghost here = { λ trees. refl };
 }
 
-impl Scanned for HoldsOn {
+impl Scanned for Holds {
     ghost use Rattle.std.specs.Prelude.{◌∷◌, [], refl};
     ghost use Rattle.sql_texts.specs.Schema.{hold_columns};
 
@@ -113,6 +103,6 @@ pub fn holds_on<S: Alter>(
         (λ stored holds. holds.items ≡ holds_on (tables_of stored).content id.now) }
     ensures in_key_order { IfOk result (λ holds. IsInKeyOrder holds.items) }
 {
-    let rows = select::<HoldsOn, S>(conn, id)?;
+    let rows = select::<Id, Holds, S>(conn, id)?;
     entries(alloc, rows.as_slice())
 }

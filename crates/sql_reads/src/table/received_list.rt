@@ -12,20 +12,14 @@ use crate::entry::ascending;
 use crate::one::{One, read_one};
 use crate::selection::Selection;
 use mcs_reader::Id;
+use sql_rows::Received;
 use sql_tables::ids_row_in;
 use sql_texts::read;
 use sqlite::{Alter, Connection, Row};
 use std::alloc::Global;
 
-/// What a client has received, in one row.
-enum ReceivedLists {}
-
-impl Selection for ReceivedLists {
-    ghost use Rattle.std.specs.Prelude.{◌∷◌, codes, refl};
-
-    type Of = Id;
-
-    ghost tree = { 17 };
+impl Selection<Id> for Received {
+    ghost use Rattle.std.specs.Prelude.{◌∷◌, codes};
 
     ghost shown = { 1 ∷ [] };
 
@@ -33,16 +27,12 @@ impl Selection for ReceivedLists {
 
     ghost order = { 1 ∷ [] };
 
-    ghost rows = { λ stored. stored.received };
-
     fn text() -> &'static str {
         read::received()
     }
-
-    ghost here = { λ trees. refl };
 }
 
-impl One for ReceivedLists {
+impl One<Id> for Received {
     ghost use Rattle.std.specs.Prelude.{◌∷◌, filter};
     ghost use Rattle.sql_tables.specs.Stored.{first, is_of, shown};
     ghost use Rattle.sql_reads.specs.Rows.{said_of_shown};
@@ -93,5 +83,5 @@ pub fn received<S: Alter>(
         (λ stored ids. ids.items ≡ (tables_of stored).received client.now) }
     ensures ascend { IfOk result (λ ids. Ascend ids.items) }
 {
-    read_one::<ReceivedLists, S>(alloc, conn, client)
+    read_one::<Id, Received, S>(alloc, conn, client)
 }

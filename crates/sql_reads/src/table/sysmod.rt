@@ -14,25 +14,16 @@ use crate::listed::read_list;
 use crate::one::{any, only};
 use crate::scan::Scanned;
 use crate::selection::{Selection, select};
-use crate::table::sysmod_cond::Conds;
-use crate::table::sysmod_sup::Sups;
 use catalogue::{CondNeeds, Ids, Sysmod};
 use mcs_reader::Id;
-use sql_rows::All;
+use sql_rows::{All, Conds, Sups, Sysmods};
 use sql_tables::sysmod_in;
 use sql_texts::read;
 use sqlite::{Alter, Connection, Row};
 use std::alloc::Global;
 
-/// The ids of all records, ascending.
-enum SysmodIds {}
-
-impl Selection for SysmodIds {
-    ghost use Rattle.std.specs.Prelude.{◌∷◌, [], codes, refl};
-
-    type Of = All;
-
-    ghost tree = { 6 };
+impl Selection<All> for Sysmods {
+    ghost use Rattle.std.specs.Prelude.{◌∷◌, [], codes};
 
     ghost shown = { 0 ∷ [] };
 
@@ -40,25 +31,14 @@ impl Selection for SysmodIds {
 
     ghost order = { 1 ∷ [] };
 
-    ghost rows = { λ stored. stored.sysmods };
-
     fn text() -> &'static str {
         read::sysmod_ids()
     }
-
-    ghost here = { λ trees. refl };
 }
 
-/// The record of a SYSMOD, in one row, without what stands beside.
-pub(crate) enum Records {}
-
-impl Selection for Records {
-    ghost use Rattle.std.specs.Prelude.{◌∷◌, [], refl};
+impl Selection<Id> for Sysmods {
+    ghost use Rattle.std.specs.Prelude.{◌∷◌, []};
     ghost use Rattle.sql_texts.specs.Schema.{sysmod_columns};
-
-    type Of = Id;
-
-    ghost tree = { 6 };
 
     ghost shown = { 0 ∷ 1 ∷ 2 ∷ 3 ∷ 4 ∷ [] };
 
@@ -66,16 +46,12 @@ impl Selection for Records {
 
     ghost order = { 1 ∷ [] };
 
-    ghost rows = { λ stored. stored.sysmods };
-
     fn text() -> &'static str {
         read::sysmod()
     }
-
-    ghost here = { λ trees. refl };
 }
 
-impl Scanned for Records {
+impl Scanned for Sysmods {
     ghost use Rattle.std.specs.Prelude.{◌∷◌, [], refl};
     ghost use Rattle.sql_texts.specs.Schema.{sysmod_columns};
 
@@ -111,7 +87,7 @@ pub fn ids<S: Alter>(alloc: Global, conn: &mut Connection<S>) -> Result<Vec<Id>,
         (λ stored ids. ids.items ≡ ids_of (tables_of stored).content) }
     ensures ascend { IfOk result (λ ids. Ascend ids.items) }
 {
-    let rows = select::<SysmodIds, S>(conn, &All)?;
+    let rows = select::<All, Sysmods, S>(conn, &All)?;
     entries(alloc, rows.as_slice())
 }
 
@@ -130,7 +106,7 @@ pub fn sysmod<S: Alter>(
     ensures finds { Finds (state S.Store conn.old) (state S.Store conn.new) result
         (λ stored found. found ≡ record_of (tables_of stored).content id.now) }
 {
-    let rows = select::<Records, S>(conn, id)?;
+    let rows = select::<Id, Sysmods, S>(conn, id)?;
     if !any(rows.as_slice()) {
         return Ok(None);
     }
@@ -149,8 +125,8 @@ fn beside<S: Alter>(
     ensures finds { Finds (state S.Store conn.old) (state S.Store conn.new) result (λ stored lists.
         beside_of stored id.now ≡ record { conds = lists.0; sup = lists.1 }) }
 {
-    let conds = read_list::<Conds, S>(alloc, conn, id)?;
-    match read_list::<Sups, S>(alloc, conn, id) {
+    let conds = read_list::<Id, Conds, S>(alloc, conn, id)?;
+    match read_list::<Id, Sups, S>(alloc, conn, id) {
         Ok(sup) => Ok((conds, sup)),
         Err(fault) => Err(fault),
     }

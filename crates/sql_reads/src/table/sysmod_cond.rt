@@ -6,6 +6,7 @@ use crate::scan::Scanned;
 use crate::selection::Selection;
 use catalogue::{CondNeed, CondNeeds};
 use mcs_reader::Id;
+use sql_rows::Conds;
 use sql_tables::{NoMemory, cond_in};
 use sql_texts::read;
 use sqlite::Row;
@@ -38,15 +39,8 @@ impl Entry for CondNeed {
     }
 }
 
-/// What a SYSMOD requires where a function is installed, ascending.
-pub(crate) enum Conds {}
-
-impl Selection for Conds {
-    ghost use Rattle.std.specs.Prelude.{◌∷◌, [], codes, refl};
-
-    type Of = Id;
-
-    ghost tree = { 19 };
+impl Selection<Id> for Conds {
+    ghost use Rattle.std.specs.Prelude.{◌∷◌, [], codes};
 
     ghost shown = { 1 ∷ 2 ∷ [] };
 
@@ -54,16 +48,12 @@ impl Selection for Conds {
 
     ghost order = { 2 ∷ 3 ∷ [] };
 
-    ghost rows = { λ stored. stored.conds };
-
     fn text() -> &'static str {
         read::conditional()
     }
-
-    ghost here = { λ trees. refl };
 }
 
-impl Listed for Conds {
+impl Listed<Id> for Conds {
     ghost use Rattle.std.specs.Prelude.{◌≡◌, IfSome};
     ghost use Rattle.catalogue.specs.Conditional.{CondsAscend};
     ghost use Rattle.sql_tables.specs.Stored.{conds_of};

@@ -5,17 +5,11 @@ use crate::scan::Scanned;
 use crate::selection::Selection;
 use catalogue::Ids;
 use mcs_reader::Id;
+use sql_rows::Sups;
 use sql_texts::read;
 
-/// What a SYSMOD supersedes, ascending.
-pub(crate) enum Sups {}
-
-impl Selection for Sups {
-    ghost use Rattle.std.specs.Prelude.{◌∷◌, [], codes, refl};
-
-    type Of = Id;
-
-    ghost tree = { 8 };
+impl Selection<Id> for Sups {
+    ghost use Rattle.std.specs.Prelude.{◌∷◌, [], codes};
 
     ghost shown = { 1 ∷ [] };
 
@@ -23,16 +17,12 @@ impl Selection for Sups {
 
     ghost order = { 2 ∷ [] };
 
-    ghost rows = { λ stored. stored.sups };
-
     fn text() -> &'static str {
         read::superseded()
     }
-
-    ghost here = { λ trees. refl };
 }
 
-impl Listed for Sups {
+impl Listed<Id> for Sups {
     ghost use Rattle.std.specs.Prelude.{◌≡◌, IfSome};
     ghost use Rattle.catalogue.specs.Ids.{Ascend};
     ghost use Rattle.sql_tables.specs.Stored.{sup_of};

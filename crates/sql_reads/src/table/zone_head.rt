@@ -13,7 +13,7 @@ use crate::entry::{Ordered, ascending};
 use crate::one::{One, any, read_one};
 use crate::selection::{Selection, select};
 use mcs_reader::Id;
-use sql_rows::Zone;
+use sql_rows::{Heads, Zone};
 use sql_tables::patterns_row_in;
 use sql_texts::read;
 use sqlite::{Alter, Connection, Row};
@@ -37,15 +37,8 @@ impl Ordered for Pattern {
     ghost ascends = { λ items. (λ ascend. ascend, λ ascend. ascend) };
 }
 
-/// A zone's patterns, in the one row that it has.
-enum ZoneHeads {}
-
-impl Selection for ZoneHeads {
-    ghost use Rattle.std.specs.Prelude.{◌∷◌, codes, refl};
-
-    type Of = Zone;
-
-    ghost tree = { 13 };
+impl Selection<Zone> for Heads {
+    ghost use Rattle.std.specs.Prelude.{◌∷◌, codes};
 
     ghost shown = { 2 ∷ [] };
 
@@ -53,16 +46,12 @@ impl Selection for ZoneHeads {
 
     ghost order = { 2 ∷ [] };
 
-    ghost rows = { λ stored. stored.heads };
-
     fn text() -> &'static str {
         read::patterns()
     }
-
-    ghost here = { λ trees. refl };
 }
 
-impl One for ZoneHeads {
+impl One<Zone> for Heads {
     ghost use Rattle.std.specs.Prelude.{◌∷◌, filter};
     ghost use Rattle.sql_tables.specs.Stored.{first, is_of_both, shown};
     ghost use Rattle.sql_reads.specs.Rows.{patterns_said, said_of_shown};
@@ -121,7 +110,7 @@ pub fn patterns<S: Alter>(
         client: *client,
         zone: *zone,
     };
-    read_one::<ZoneHeads, S>(alloc, conn, &key)
+    read_one::<Zone, Heads, S>(alloc, conn, &key)
 }
 
 /// Whether a client has a zone of this name.
@@ -143,6 +132,6 @@ pub fn has_zone<S: Alter>(
         client: *client,
         zone: *zone,
     };
-    let rows = select::<ZoneHeads, S>(conn, &key)?;
+    let rows = select::<Zone, Heads, S>(conn, &key)?;
     Ok(any(rows.as_slice()))
 }

@@ -10,7 +10,7 @@ use crate::entry::{Entry, Ordered, ascending};
 use crate::listed::{Listed, read_list};
 use crate::selection::Selection;
 use mcs_reader::Id;
-use sql_rows::Zone;
+use sql_rows::{Zone, ZoneRows};
 use sql_tables::{NoMemory, zone_row_in};
 use sql_texts::read;
 use sqlite::{Alter, Connection, Row};
@@ -46,15 +46,8 @@ impl Entry for ZoneRow {
     }
 }
 
-/// The SYSMODs of a zone with their states, ascending.
-enum ZoneRows {}
-
-impl Selection for ZoneRows {
-    ghost use Rattle.std.specs.Prelude.{◌∷◌, [], codes, refl};
-
-    type Of = Zone;
-
-    ghost tree = { 15 };
+impl Selection<Zone> for ZoneRows {
+    ghost use Rattle.std.specs.Prelude.{◌∷◌, [], codes};
 
     ghost shown = { 2 ∷ 3 ∷ [] };
 
@@ -62,16 +55,12 @@ impl Selection for ZoneRows {
 
     ghost order = { 3 ∷ [] };
 
-    ghost rows = { λ stored. stored.rows };
-
     fn text() -> &'static str {
         read::zone_rows()
     }
-
-    ghost here = { λ trees. refl };
 }
 
-impl Listed for ZoneRows {
+impl Listed<Zone> for ZoneRows {
     ghost use Rattle.sql_tables.proofs.ReadFacts.{zone_rows_read};
 
     type Item = ZoneRow;
@@ -113,5 +102,5 @@ pub fn zone_rows<S: Alter>(
         client: *client,
         zone: *zone,
     };
-    read_list::<ZoneRows, S>(alloc, conn, &key)
+    read_list::<Zone, ZoneRows, S>(alloc, conn, &key)
 }

@@ -2,7 +2,7 @@ use Rattle.std.proofs.Common.{List, Ok, ℕ, refl, subst, sym, string_bytes, ap,
 use Rattle.std.proofs.KnownBytes.{Keeps-refl}
 use Rattle.sqlite_wal.specs.Files.{image_at}
 use Rattle.bureau_program.specs.Program.{Found, IsAnswered, IsServe, found_in}
-use Rattle.run_parts.specs.Outputs.{Outputs}
+use Rattle.run_parts.specs.Outputs.{Outputs, outputs_of}
 use Rattle.bureau_program.specs.declared.serving.Service.{Service}
 use Rattle.store_runs.specs.Checking.{IsCheck}
 use Rattle.store_runs.proofs.CallersFacts.{same_callers_run}
@@ -15,12 +15,8 @@ returns-in-Ok-Init g c =
     let at = c.args.surroundings.now in
     let of : Found = found_in (g.S.Files.known_file at) (g.S.Stores.known_store at) (g.S.Surroundings.known_port at) (g.S.Rounds.is_over at) (g.S.Rounds.log at) (g.S.Rounds.log at) in
     let input = g.I.Read.remaining c.args.input.now in
-    let outputs : Outputs = record {
-      output = g.O.Write.contents c.args.output.now;
-      written = g.O.Write.contents c.do_init.new.output;
-      errors = g.E.Write.contents c.args.errors.now;
-      told = g.E.Write.contents c.do_init.new.errors;
-    } in
+    let outputs : Outputs =
+    outputs_of g.O.Write.contents g.E.Write.contents c.args.output.now c.do_init.new.output c.args.errors.now c.do_init.new.errors in
     subst (λ line. IsAnswered of (image_at g.D.Start) line input input outputs c.do_init.result.0 c.do_init.result.1) (sym (c.in-Ok-Init.is ∙ ap Ok c.in-Ok-Init.field-0-is)) (
       Keeps-refl input,
       refl,
@@ -34,12 +30,8 @@ returns-in-Ok-Serve g c =
     let of : Found = found_in (g.S.Files.known_file at) (g.S.Stores.known_store at) (g.S.Surroundings.known_port at) (g.S.Rounds.is_over c.run_serve.new.surroundings) (g.S.Rounds.log at) (g.S.Rounds.log c.run_serve.new.surroundings) in
     let input = g.I.Read.remaining c.args.input.now in
     let service : Service = record { port = c.in-Ok-Serve.port; cache = c.in-Ok-Serve.cache; connections = c.in-Ok-Serve.connections; most_open = c.in-Ok-Serve.most_open; log = c.in-Ok-Serve.log } in
-    let outputs : Outputs = record {
-      output = g.O.Write.contents c.args.output.now;
-      written = g.O.Write.contents c.run_serve.new.writer;
-      errors = g.E.Write.contents c.args.errors.now;
-      told = g.E.Write.contents c.run_serve.new.errors;
-    } in
+    let outputs : Outputs =
+    outputs_of g.O.Write.contents g.E.Write.contents c.args.output.now c.run_serve.new.writer c.args.errors.now c.run_serve.new.errors in
     subst (λ line. IsAnswered of (image_at g.D.Start) line input input outputs c.run_serve.result.0 c.run_serve.result.1) (sym (c.in-Ok-Serve.is ∙ ap Ok c.in-Ok-Serve.field-0-is)) (
       Keeps-refl input,
       subst (λ (name : List ℕ). IsServe of (image_at g.D.Start) service name outputs c.run_serve.result.0 c.run_serve.result.1) c.as_str-store-in-Ok-Serve.ensures.value c.run_serve.ensures,
@@ -50,12 +42,8 @@ returns-in-Ok-Migrate g c =
     let at = c.args.surroundings.now in
     let of : Found = found_in (g.S.Files.known_file at) (g.S.Stores.known_store at) (g.S.Surroundings.known_port at) (g.S.Rounds.is_over at) (g.S.Rounds.log at) (g.S.Rounds.log at) in
     let input = g.I.Read.remaining c.args.input.now in
-    let outputs : Outputs = record {
-      output = g.O.Write.contents c.args.output.now;
-      written = g.O.Write.contents c.migrate_file.new.writer;
-      errors = g.E.Write.contents c.args.errors.now;
-      told = g.E.Write.contents c.migrate_file.new.errors;
-    } in
+    let outputs : Outputs =
+    outputs_of g.O.Write.contents g.E.Write.contents c.args.output.now c.migrate_file.new.writer c.args.errors.now c.migrate_file.new.errors in
     subst (λ line. IsAnswered of (image_at g.D.Start) line input input outputs c.migrate_file.result.0 c.migrate_file.result.1) (sym (c.in-Ok-Migrate.is ∙ ap Ok c.in-Ok-Migrate.field-0-is)) (
       Keeps-refl input,
       refl,
@@ -71,12 +59,8 @@ returns-in-Ok-Check g c =
     let at = c.args.surroundings.now in
     let of : Found = found_in (g.S.Files.known_file at) (g.S.Stores.known_store at) (g.S.Surroundings.known_port at) (g.S.Rounds.is_over at) (g.S.Rounds.log at) (g.S.Rounds.log at) in
     let input = g.I.Read.remaining c.args.input.now in
-    let outputs : Outputs = record {
-      output = g.O.Write.contents c.args.output.now;
-      written = g.O.Write.contents c.check_file.new.writer;
-      errors = g.E.Write.contents c.args.errors.now;
-      told = g.E.Write.contents c.check_file.new.errors;
-    } in
+    let outputs : Outputs =
+    outputs_of g.O.Write.contents g.E.Write.contents c.args.output.now c.check_file.new.writer c.args.errors.now c.check_file.new.errors in
     subst (λ line. IsAnswered of (image_at g.D.Start) line input input outputs c.check_file.result.0 c.check_file.result.1) (sym (c.in-Ok-Check.is ∙ ap Ok c.in-Ok-Check.field-0-is)) (
       Keeps-refl input,
       refl,
@@ -88,12 +72,8 @@ returns-in-Ok-Callers g c =
     let at = c.args.surroundings.now in
     let of : Found = found_in (g.S.Files.known_file at) (g.S.Stores.known_store at) (g.S.Surroundings.known_port at) (g.S.Rounds.is_over at) (g.S.Rounds.log at) (g.S.Rounds.log at) in
     let input = g.I.Read.remaining c.args.input.now in
-    let outputs : Outputs = record {
-      output = g.O.Write.contents c.args.output.now;
-      written = g.O.Write.contents c.callers_file.new.output;
-      errors = g.E.Write.contents c.args.errors.now;
-      told = g.E.Write.contents c.callers_file.new.errors;
-    } in
+    let outputs : Outputs =
+    outputs_of g.O.Write.contents g.E.Write.contents c.args.output.now c.callers_file.new.output c.args.errors.now c.callers_file.new.errors in
     subst (λ line. IsAnswered of (image_at g.D.Start) line input input outputs c.callers_file.result.0 c.callers_file.result.1) (sym (c.in-Ok-Callers.is ∙ ap Ok c.in-Ok-Callers.field-0-is)) (
       Keeps-refl input,
       refl,

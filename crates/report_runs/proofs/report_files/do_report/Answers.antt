@@ -1,6 +1,6 @@
 use Rattle.std.proofs.KnownBytes.{Keeps-refl}
 use Rattle.report_runs.specs.Contents.{inputs_in}
-use Rattle.run_parts.specs.Outputs.{Outputs}
+use Rattle.run_parts.specs.Outputs.{Outputs, outputs_of}
 use Rattle.report_runs.proofs.ReportFilesFacts.{are_named, not_read}
 use Rattle.report_runs.proofs.report_files.do_report.Goals as goal
 
@@ -12,12 +12,8 @@ print-requires g c =
 
 pub returns-in-Err-read_files : goal.returns-in-Err-read_files
 returns-in-Err-read_files g c =
-    let outputs : Outputs = record {
-      output = g.O.Write.contents c.args.output.now;
-      written = g.O.Write.contents c.args.output.now;
-      errors = g.E.Write.contents c.args.errors.now;
-      told = g.E.Write.contents c.refuse-in-Err-read_files.new.errors;
-    } in
+    let outputs : Outputs =
+    outputs_of g.O.Write.contents g.E.Write.contents c.args.output.now c.args.output.now c.args.errors.now c.refuse-in-Err-read_files.new.errors in
     not_read (g.S.Files.known_file c.args.surroundings.now) c.args.report c.args.files.now (g.I.Read.remaining c.args.input.now) (g.I.Read.remaining c.read_files.new.input)
     outputs c.refuse-in-Err-read_files.result c.in-Err-read_files.fault c.in-Err-read_files.ensures.fault (Keeps-refl outputs.output)
     c.refuse-in-Err-read_files.ensures.told c.refuse-in-Err-read_files.ensures.status

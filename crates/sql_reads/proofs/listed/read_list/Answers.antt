@@ -16,4 +16,4 @@ returns-clause-finds g c =
     (λ stored list. l.tells key stored (l.items list)) c.in_ok-rows.ensures.finds
     (λ list. map Some (l.items list) ≡ map e.found c.as_slice.result.now) (λ list. g.T.Item.Ordered.ascend (l.items list)) c.list_of.ensures.items c.list_of.ensures.ascend
     (λ stored whole list shows said ascends. g.met.T.Listed.told key stored whole (l.items list) ascends
-    (table_said e.found (shown t.shown) (filter (g.T.Of.Key.has key) (t.rows stored)) c.in_ok-rows.rows.items (l.items list) shows (said ∙ ap (map e.found) c.as_slice.ensures.value)))
+    (table_said e.found (shown t.shown) (filter (g.K.Key.has key) (g.T.Table.rows stored)) c.in_ok-rows.rows.items (l.items list) shows (said ∙ ap (map e.found) c.as_slice.ensures.value)))

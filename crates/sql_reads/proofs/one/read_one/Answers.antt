@@ -17,4 +17,4 @@ returns-clause-finds g c =
     (λ stored item. o.tells key stored item) c.in_ok-rows.ensures.finds
     (λ item. (row : Option Row) × (one_of Some c.as_slice.result.now ≡ Some row) × o.says row item) o.is_proper c.item_of.ensures.said c.item_of.ensures.proper
     (λ stored whole item shows said proper. g.met.T.One.told key stored whole item
-    (subst (λ row. o.says row item) (sym (one_shown (shown t.shown) (filter (g.T.Of.Key.has key) (t.rows stored)) rows.items said.0 shows (ap (one_of Some) (sym c.as_slice.ensures.value) ∙ said.1))) said.2))
+    (subst (λ row. o.says row item) (sym (one_shown (shown t.shown) (filter (g.K.Key.has key) (g.T.Table.rows stored)) rows.items said.0 shows (ap (one_of Some) (sym c.as_slice.ensures.value) ∙ said.1))) said.2))

@@ -13,8 +13,8 @@ use Rattle.sql_reads.proofs.scan.scan.Goals as goal
 pub returns-clause-finds : goal.returns-clause-finds
 returns-clause-finds g c =
     let t = g.T.Scanned in
-    let tree = g.T.Selection.tree in
-    let rows_in = g.T.Selection.rows in
+    let tree = g.T.Table.table.tree in
+    let rows_in = g.T.Table.rows in
     let old = state g.S.Store c.args.conn.now in
     let first = text_of c.args.first.now in
     let last = text_of c.args.last.now in
@@ -25,4 +25,4 @@ returns-clause-finds g c =
     c.in_ok-rows.rows found refl c.in_ok-rows.ensures.answers c.in_order.result (λ same. same.items ≡ found) c.in_order.ensures.rows
     (λ stored rows. FindsBetween t.scan_shown t.at first last (rows_in stored) rows.items)
     (λ ours answer rows same. subst (FindsBetween t.scan_shown t.at first last (rows_in (held_by old.committed))) (sym same)
-    (found_between tree t.scan_shown t.scan_order t.at rows_in g.met.T.Selection.here g.met.T.Scanned.placed first last old.committed.trees found answer))
+    (found_between tree t.scan_shown t.scan_order t.at rows_in g.T.Table.stands.here g.met.T.Scanned.placed first last old.committed.trees found answer))
