@@ -1,11 +1,11 @@
-//! What a table of a store's file is, whichever it is: where its rows stand, the key by which they are found, and what a
-//! statement makes of them.
+//! What a table of a store's file is, whichever it is: where its rows stand, the key by which they are found, and
+//! what a statement makes of them.
 //!
 //! - [`Key`]: the first columns of rows, by which they are found: an id or [`Zone`]
 //! - [`Table`]: a table of the schema, whose rows are some of those of the store
 //!
-//! `specs/Parts` says what becomes of a table's rows, and `proofs/` proves once for every table what a statement makes of
-//! the trees, of the rows of its table, and of the others.
+//! `specs/Parts` says what becomes of a table's rows, and `proofs/` proves once for every table what a statement makes
+//! of the trees, of the rows of its table, and of the others.
 #![tactic(auto)]
 
 mod key;

@@ -33,7 +33,8 @@ fn put_hold<S: Alter>(tx: &mut Transaction<'_, S>, hold: &Hold) -> Result<(), Er
     insert::hold(tx, hold)
 }
 
-/// What a change publishes beside the row of a record and those of what it supersedes. `conds` inserts into `sysmod_cond`.
+/// What a change publishes beside the row of a record and those of what it supersedes. `conds` inserts into
+/// `sysmod_cond`.
 fn put_rest<S: Alter>(
     tx: &mut Transaction<'_, S>,
     conds: &Statement,

@@ -95,7 +95,8 @@ impl Several<Id> for Conds {
     ghost room = { λ count is. room_of_one 1 2 count is refl };
 
     ghost given = { λ id conds is. one_only
-        (AreGiven schema.sysmod_cond 1 2 (id_value id ∷ []) (λ cond. id_value cond.fmid ∷ id_value cond.need ∷ []) (spec.cond_row id))
+        (AreGiven schema.sysmod_cond 1 2 (id_value id ∷ []) (λ cond. id_value cond.fmid ∷ id_value cond.need ∷ [])
+        (spec.cond_row id))
         (λ a. refl) conds is };
 
     ghost cast = { λ id cond i. cast_null i ∷ spec.cond_row id cond };
@@ -103,7 +104,8 @@ impl Several<Id> for Conds {
     ghost fits = { λ id cond is here short. fits_cond (text_of id) (text_of cond.fmid) (text_of cond.need) (few id is)
         (few cond.fmid here.0) (few cond.need here.1) };
 
-    ghost unique = { λ db others id cond is here none. unique_cond db others id cond.fmid cond.need [] is here.0 here.1 none };
+    ghost unique = { λ db others id cond is here none. unique_cond db others id cond.fmid cond.need [] is here.0 here.1
+        none };
 
     ghost referred = { elim [ true ↦ refl | false ↦ refl ] };
 }

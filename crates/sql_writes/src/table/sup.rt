@@ -46,7 +46,6 @@ impl Several<All> for Sups {
     ghost use Rattle.std.specs.Prelude.{◌<◌, ◌≤◌, ◌∷◌, [], false, refl, true};
     ghost use Rattle.mcs_reader.specs.Id.{IsId, text_of};
     ghost use Rattle.sql_tables.specs.Stored.{is_of_both};
-    ghost use Rattle.sql_tables.specs.Values.{id_value};
     ghost use Rattle.sql_writes.specs.Records.{member_values};
     ghost use Rattle.sql_texts.specs.Schema as schema;
     ghost use Rattle.sql_writes.specs.Many.{AreGiven};
