@@ -1,7 +1,4 @@
 //! The tables: where each stands in the schema and in the store.
-ghost use Rattle.std.specs.Prelude.{refl};
-ghost use Rattle.sql_texts.specs.Schema as schema;
-
 use crate::Table;
 
 /// The callers with their tokens: the columns `name` and `token`.
@@ -10,7 +7,6 @@ pub enum Callers {}
 impl Table for Callers {
     ghost use Rattle.std.specs.Prelude.{refl};
     ghost use Rattle.sql_texts.specs.Schema as schema;
-    ghost use Rattle.sql_rows.specs.Standing.{Stands};
 
     ghost index = { 1 };
 
@@ -38,7 +34,6 @@ pub enum LastChanges {}
 impl Table for LastChanges {
     ghost use Rattle.std.specs.Prelude.{refl};
     ghost use Rattle.sql_texts.specs.Schema as schema;
-    ghost use Rattle.sql_rows.specs.Standing.{Stands};
 
     ghost index = { 2 };
 
@@ -60,13 +55,13 @@ impl Table for LastChanges {
     } };
 }
 
-/// Records without what they supersede and require under a condition: the columns `id`, `kind`, `fmids`, `pre` and `req`.
+/// Records without what they supersede and require under a condition: the columns `id`, `kind`, `fmids`, `pre` and
+/// `req`.
 pub enum Sysmods {}
 
 impl Table for Sysmods {
     ghost use Rattle.std.specs.Prelude.{refl};
     ghost use Rattle.sql_texts.specs.Schema as schema;
-    ghost use Rattle.sql_rows.specs.Standing.{Stands};
 
     ghost index = { 3 };
 
@@ -94,7 +89,6 @@ pub enum Sups {}
 impl Table for Sups {
     ghost use Rattle.std.specs.Prelude.{refl};
     ghost use Rattle.sql_texts.specs.Schema as schema;
-    ghost use Rattle.sql_rows.specs.Standing.{Stands};
 
     ghost index = { 4 };
 
@@ -122,7 +116,6 @@ pub enum Holds {}
 impl Table for Holds {
     ghost use Rattle.std.specs.Prelude.{refl};
     ghost use Rattle.sql_texts.specs.Schema as schema;
-    ghost use Rattle.sql_rows.specs.Standing.{Stands};
 
     ghost index = { 5 };
 
@@ -150,7 +143,6 @@ pub enum Heads {}
 impl Table for Heads {
     ghost use Rattle.std.specs.Prelude.{refl};
     ghost use Rattle.sql_texts.specs.Schema as schema;
-    ghost use Rattle.sql_rows.specs.Standing.{Stands};
 
     ghost index = { 6 };
 
@@ -178,7 +170,6 @@ pub enum ZoneRows {}
 impl Table for ZoneRows {
     ghost use Rattle.std.specs.Prelude.{refl};
     ghost use Rattle.sql_texts.specs.Schema as schema;
-    ghost use Rattle.sql_rows.specs.Standing.{Stands};
 
     ghost index = { 7 };
 
@@ -206,7 +197,6 @@ pub enum Received {}
 impl Table for Received {
     ghost use Rattle.std.specs.Prelude.{refl};
     ghost use Rattle.sql_texts.specs.Schema as schema;
-    ghost use Rattle.sql_rows.specs.Standing.{Stands};
 
     ghost index = { 8 };
 
@@ -234,7 +224,6 @@ pub enum Conds {}
 impl Table for Conds {
     ghost use Rattle.std.specs.Prelude.{refl};
     ghost use Rattle.sql_texts.specs.Schema as schema;
-    ghost use Rattle.sql_rows.specs.Standing.{Stands};
 
     ghost index = { 9 };
 
