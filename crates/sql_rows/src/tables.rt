@@ -1,4 +1,5 @@
 //! The tables: where each stands in the schema and in the store.
+
 use crate::Table;
 
 /// The callers with their tokens: the columns `name` and `token`.

@@ -22,6 +22,7 @@ use sql_texts::read;
 use sqlite::{Alter, Connection, Row};
 use std::alloc::Global;
 
+// The ids of all records, ascending.
 impl Selection<All> for Sysmods {
     ghost use Rattle.std.specs.Prelude.{◌∷◌, [], codes};
 
@@ -36,6 +37,7 @@ impl Selection<All> for Sysmods {
     }
 }
 
+// The record of a SYSMOD, in one row, without what stands beside.
 impl Selection<Id> for Sysmods {
     ghost use Rattle.std.specs.Prelude.{◌∷◌, []};
     ghost use Rattle.sql_texts.specs.Schema.{sysmod_columns};
