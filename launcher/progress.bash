@@ -76,8 +76,15 @@ measure_part() { # CRATE
     fi
 }
 
-# How much is done of all, and how many minutes are left, once that can be told. It goes by what the time so far has brought:
-# of all the work, and of the longest way to the program, along which no two crates are proved side by side.
+# What five minutes do on four processors, in the tenths of a minute of docs/GATE.md: of all the work, and of the longest way to
+# the program, along which no two crates are proved side by side.
+usual_seconds=300
+usual_work=180
+usual_way=90
+
+# How much is done of all, and how many minutes are left, once that can be told. It goes by what the time so far has brought, with
+# five usual minutes before it: definitions are proved first, of which rt counts nothing, so that the first minutes would tell
+# of hours.
 how_much() {
     local name part all=0 made=0 longest=0 open=0 left by_way seconds=$((SECONDS - began))
     for name in "${!libraries[@]}"; do
@@ -89,9 +96,10 @@ how_much() {
     done
     [ "$all" -gt 0 ] || all=1
     echo -n "$((made * 100 / all)) % done"
-    [ "$seconds" -ge 60 ] && [ "$made" -gt 0 ] && [ "$longest" -gt "$open" ] || return 0
-    left=$((seconds * (all - made) / made))
-    by_way=$((seconds * open / (longest - open)))
+    [ "$seconds" -ge 60 ] || return 0
+    seconds=$((seconds + usual_seconds))
+    left=$((seconds * (all - made) / (made + usual_work)))
+    by_way=$((seconds * open / (longest - open + usual_way)))
     [ "$by_way" -le "$left" ] || left=$by_way
     left=$(((left + 59) / 60))
     echo -n ", some $left minute$([ "$left" -eq 1 ] || echo s) left"
