@@ -129,15 +129,18 @@ ready() {
     done | sort -k1,1nr -k2 | sed 's/.* //'
 }
 
-# Begins as many crates as there are processors for; a crate gets those that no other one waits for, up to four.
+# Begins as many crates as there are processors for. The first of them, with the longest way to the program, gets two where they
+# are there; beyond that a crate gets those that no other one waits for, up to four.
 begin_ready() {
     local -a names
     local at jobs
     mapfile -t names < <(ready)
     for ((at = 0; at < ${#names[@]} && idle > 0; at++)); do
         jobs=$((idle / (${#names[@]} - at)))
+        [ "$at" -gt 0 ] || [ "$jobs" -ge 2 ] || jobs=2
         [ "$jobs" -gt 0 ] || jobs=1
         [ "$jobs" -le 4 ] || jobs=4
+        [ "$jobs" -le "$idle" ] || jobs=$idle
         make_room "${names[at]}" || give_up "there is no room for the build in ${TMPDIR:-/var/tmp}" || return 1
         number_crate "${names[at]}"
         since[${names[at]}]=$SECONDS
