@@ -1,41 +1,45 @@
 -- Where no row has a key: as the database compares keys, and after rows with it went.
-use Rattle.std.proofs.Common.{◌≡◌, ◌<◌, ◌&&◌, ◌||◌, ◌++◌, ℕ, zero, suc, ℤ, Bool, true, false, List, [], ◌∷◌, length, take, get_or, map, Less, Ordering, refl, sym, ◌∙◌, ap, ap₂, subst, inl, inr, arith}
-use Rattle.std.specs.Prelude.{None, Some, drop, filter, not}
-use Rattle.std.specs.List.{AllByRecursion, list_any}
+use Rattle.std.proofs.Common.{◌≡◌, ◌<◌, ◌&&◌, ◌||◌, ◌==◌, ◌++◌, ℕ, zero, suc, ℤ, Bool, true, false, List, [], ◌∷◌, length, take, get_or, map, Less, Ordering, refl, sym, ◌∙◌, ap, ap₂, subst, inl, inr, arith}
+use Rattle.std.specs.Prelude.{None, Some, bytes_eq, cond, drop, filter, not}
+use Rattle.std.specs.List.{AllByRecursion, list_all, list_any}
 use Rattle.std.specs.List.Sorted.{IsStrictlySortedBy}
 use Rattle.std.specs.Ordering.{is_eq, is_ne}
 use Rattle.std.proofs.Math.Bool.{and-true}
-use Rattle.std.proofs.lemmas.Bool.{and_parts, both_ways, false_from_ne_true, false≢true, not-true}
+use Rattle.std.proofs.lemmas.Bool.{and_parts, both_ways, eq-eqb, eqb-true, false_from_ne_true, false≢true, not-true}
 use Rattle.std.proofs.lemmas.Cmp.{tied_itself}
 use Rattle.std.proofs.lemmas.List.{append-nil}
+use Rattle.catalogue.proofs.IdFacts.{one_id}
 use Rattle.holddata.specs.declared.key.HoldKey.{HoldKey}
 use Rattle.mcs_reader.specs.Id.{IsId, text_of}
+use Rattle.sqlite.specs.Collation.TheVariants.{Binary}
 use Rattle.sqlite.specs.Effect.{Database}
 use Rattle.sqlite.specs.Order.{Row, column}
 use Rattle.sqlite.specs.Edit.{next_rowid}
 use Rattle.sqlite.specs.Ops.{binary, from_truth, is_true}
+use Rattle.sqlite.specs.Table.{Table}
 use Rattle.sqlite.specs.Tree.{Trees, put_row, rowid}
 use Rattle.sqlite.specs.declared.types.Value.TheVariants.{Int}
 use Rattle.sqlite_rules.specs.Keys.{are_unique}
 use Rattle.sqlite_rules.specs.Lists.{Has}
-use Rattle.sqlite_rules.proofs.ListLemmas.{all_has, has_either, has_filtered, some_from, some_has}
+use Rattle.sqlite_rules.proofs.ListLemmas.{all_has, has_either, has_filtered, some_from, some_has, test_from, test_has}
 use Rattle.sqlite_rules.proofs.TableLemmas.{put_has}
 use Rattle.sqlite_value.proofs.OrderLemmas.{value_cmp_total}
-use Rattle.sqlite_schema.specs.Rules.{Keeps, agree, are_typed, clashes, differ}
+use Rattle.sqlite_schema.specs.Rules.{Keeps, agree, are_typed, clashes, differ, equal, guards}
 use Rattle.sqlite_schema.specs.declared.schema.Constraint.TheVariants.{Datatype}
+use Rattle.sqlite_schema.specs.declared.schema.Index.{Index}
 use Rattle.sqlite_trees.proofs.ListLemmas.{all_weaker}
 use Rattle.sqlite_trees.specs.Tree.{with_tree}
 use Rattle.sqlite_value.specs.Keys.{first_key, plain}
+use Rattle.sqlite_value.specs.declared.keys.Order.{Order}
 use Rattle.sql_texts.specs.Found.{is_text, passes}
 use Rattle.sql_texts.specs.Schema as schema
 use Rattle.sql_texts.specs.Schema.{bureau}
 use Rattle.sql_tables.specs.Changes.{is_under, replaced}
 use Rattle.sql_tables.specs.InTrees.{columns_of}
-use Rattle.sql_tables.specs.Stored.{is_of, is_of_both}
+use Rattle.sql_tables.specs.Stored.{is_named, is_of}
 use Rattle.sql_tables.specs.Values.{hold_kind_value, id_value}
 use Rattle.sql_state.specs.Writing.{IsKnown}
 use Rattle.sql_state.proofs.TextFacts.{text_given, text_named}
-use Rattle.sql_rows.specs.Parts.{is_of_three}
 use Rattle.sql_rows.proofs.KindFacts.{key_given}
 use Rattle.sql_rows.proofs.RowidFacts.{any_mapped}
 
@@ -59,24 +63,39 @@ unclashed places rows n values none = false_from_ne_true _ (λ any.
 
 -- ---- how the database compares keys
 
-module _ (n : ℤ) (other : Row) where
-  agree_one : (id : List ℕ) (rest : Row) → IsId id → agree plain (1 ∷ []) other (1 ∷ []) (Int n ∷ id_value id ∷ rest) ≡ is_of id (drop 1 other)
-  unfolding first_key
-  agree_one id rest is = and-true _ ∙ text_given id is other 0
+-- whether a row's columns from one on are these names, one of them at least
+abbrev pub and_names : Bool → ℕ → List (List ℕ) → Row → Bool
+and_names so_far at [] row = so_far
+and_names so_far at (name ∷ names) row = so_far && and_names (is_named name (column row at)) (suc at) names row
 
-  agree_two : (a b : List ℕ) (rest : Row) → IsId a → IsId b → agree plain (1 ∷ 2 ∷ []) other (1 ∷ 2 ∷ []) (Int n ∷ id_value a ∷ id_value b ∷ rest) ≡ is_of_both a b (drop 1 other)
-  unfolding first_key
-  agree_two a b rest is_a is_b = ap₂ ◌&&◌ (text_given a is_a other 0) (and-true _ ∙ text_given b is_b other 1)
+abbrev pub has_names : List ℕ → List (List ℕ) → Row → Bool
+has_names name names row = and_names (is_named name (column row 0)) 1 names row
 
-  agree_three : (a b c : List ℕ) (rest : Row) → IsId a → IsId b → IsId c
-      → agree plain (1 ∷ 2 ∷ 3 ∷ []) other (1 ∷ 2 ∷ 3 ∷ []) (Int n ∷ id_value a ∷ id_value b ∷ id_value c ∷ rest) ≡ is_of_three a b c (drop 1 other)
-  unfolding first_key
-  agree_three a b c rest is_a is_b is_c = ap₂ ◌&&◌ (text_given a is_a other 0) (ap₂ ◌&&◌ (text_given b is_b other 1) (and-true _ ∙ text_given c is_c other 2))
+-- a row has ids in these columns
+abbrev pub AreIds : ℕ → List (List ℕ) → Row → Type 0
+AreIds at [] row = Unit {0}
+AreIds at (name ∷ names) row = (IsId name × (column row at ≡ id_value name)) × AreIds (suc at) names row
 
-  agree_hold : (key : HoldKey) (rest : Row) → IsId key.sysmod → IsId key.reason → are_typed None 0 schema.hold_row.columns (drop 1 other) ≡ true
-      → agree plain (1 ∷ 2 ∷ 3 ∷ []) other (1 ∷ 2 ∷ 3 ∷ []) (Int n ∷ id_value key.sysmod ∷ hold_kind_value key.kind ∷ id_value key.reason ∷ rest) ≡ is_under key (drop 1 other)
+-- the places of so many columns, after the rowid
+abbrev pub places_from : ℕ → List (List ℕ) → List ℕ
+places_from at [] = []
+places_from at (name ∷ names) = suc at ∷ places_from (suc at) names
+
+module _ (n : ℤ) (values other : Row) where
+  agree_at : (at : ℕ) (name : List ℕ) → IsId name → column values at ≡ id_value name
+      → equal Binary (column other (suc at)) (column (Int n ∷ values) (suc at)) ≡ is_named name (column (drop 1 other) at)
+  agree_at at name is here = ap (λ value. equal Binary (column other (suc at)) value) here ∙ text_given name is other at
+
+  agree_names : (at : ℕ) (name : List ℕ) (names : List (List ℕ)) → AreIds at (name ∷ names) values
+      → agree plain (places_from at (name ∷ names)) other (places_from at (name ∷ names)) (Int n ∷ values) ≡ and_names (is_named name (column (drop 1 other) at)) (suc at) names (drop 1 other)
   unfolding first_key
-  agree_hold key rest is_sysmod is_reason typed = key_given key is_sysmod is_reason other typed
+  agree_names at name [] are = and-true _ ∙ agree_at at name are.0.0 are.0.1
+  agree_names at name (next ∷ names) are = ap₂ ◌&&◌ (agree_at at name are.0.0 are.0.1) (agree_names (suc at) next names are.1)
+
+agree_hold : (n : ℤ) (other : Row) (key : HoldKey) (rest : Row) → IsId key.sysmod → IsId key.reason → are_typed None 0 schema.hold_row.columns (drop 1 other) ≡ true
+    → agree plain (1 ∷ 2 ∷ 3 ∷ []) other (1 ∷ 2 ∷ 3 ∷ []) (Int n ∷ id_value key.sysmod ∷ hold_kind_value key.kind ∷ id_value key.reason ∷ rest) ≡ is_under key (drop 1 other)
+unfolding first_key
+agree_hold n other key rest is_sysmod is_reason typed = key_given key is_sysmod is_reason other typed
 
 any_known : {X : Type 0} (f g : X → Bool) (xs : List X) → AllByRecursion (λ x. f x ≡ g x) xs → list_any f xs ≡ list_any g xs
 any_known f g [] same = refl
@@ -103,61 +122,48 @@ none_of_text id is rows none = ap (λ test. list_any test rows) (λ i other. sym
 
 -- ---- a new row keeps the keys of its table apart, among any rows of it
 
--- a caller's last change
-pub unique_last : (db : Trees) (rows : List Row) (name : List ℕ) (rest : Row) → IsId name → list_any (is_of name) (columns_of rows) ≡ false
-    → are_unique bureau.indexes (with_tree db 4 (put_row (Int (next_rowid rows) ∷ id_value name ∷ rest) rows)) schema.last_change ((Int (next_rowid rows) ∷ id_value name ∷ rest) ∷ []) ≡ true
-unique_last db rows name rest is_name none =
-    ap (λ b. not (b || false) && true)
-    (unclashed (1 ∷ []) rows (next_rowid rows) (id_value name ∷ rest)
-    (none_agree_so (1 ∷ []) (is_of name) (next_rowid rows) (id_value name ∷ rest) rows (λ other. agree_one (next_rowid rows) other name rest is_name) none))
+-- each key of a table is of these columns
+abbrev pub is_keyed_by : List ℕ → Table → Bool
+is_keyed_by places table =
+    list_all (λ (index : Index). not (guards index table) || (bytes_eq index.columns places && (index.order.digits == 0))) bureau.indexes
 
--- the record of a SYSMOD
-pub unique_sysmod : (db : Trees) (rows : List Row) (id : List ℕ) (rest : Row) → IsId id → list_any (is_of id) (columns_of rows) ≡ false
-    → are_unique bureau.indexes (with_tree db 6 (put_row (Int (next_rowid rows) ∷ id_value id ∷ rest) rows)) schema.sysmod ((Int (next_rowid rows) ∷ id_value id ∷ rest) ∷ []) ≡ true
-unique_sysmod db rows id rest is_id none =
-    ap (λ b. not (b || false) && true)
-    (unclashed (1 ∷ []) rows (next_rowid rows) (id_value id ∷ rest)
-    (none_agree_so (1 ∷ []) (is_of id) (next_rowid rows) (id_value id ∷ rest) rows (λ other. agree_one (next_rowid rows) other id rest is_id) none))
+-- where no row has its key
+module _ (table : Table) (places : List ℕ) (keyed : is_keyed_by places table ≡ true) (db : Trees) (others : List Row) (values : Row) where
+  abbrev new : Row
+  new = Int (next_rowid others) ∷ values
 
--- what a client has received
-pub unique_received : (db : Trees) (rows : List Row) (client : List ℕ) (rest : Row) → IsId client → list_any (is_of client) (columns_of rows) ≡ false
-    → are_unique bureau.indexes (with_tree db 17 (put_row (Int (next_rowid rows) ∷ id_value client ∷ rest) rows)) schema.received_list ((Int (next_rowid rows) ∷ id_value client ∷ rest) ∷ []) ≡ true
-unique_received db rows client rest is_client none =
-    ap (λ b. not (b || false) && true)
-    (unclashed (1 ∷ []) rows (next_rowid rows) (id_value client ∷ rest)
-    (none_agree_so (1 ∷ []) (is_of client) (next_rowid rows) (id_value client ∷ rest) rows (λ other. agree_one (next_rowid rows) other client rest is_client) none))
+  abbrev after : Trees
+  after = with_tree db table.tree (put_row new others)
 
--- what a record supersedes
-pub unique_sup : (db : Trees) (rows : List Row) (id member : List ℕ) (rest : Row) → IsId id → IsId member → list_any (is_of_both id member) (columns_of rows) ≡ false
-    → are_unique bureau.indexes (with_tree db 8 (put_row (Int (next_rowid rows) ∷ id_value id ∷ id_value member ∷ rest) rows)) schema.sysmod_sup ((Int (next_rowid rows) ∷ id_value id ∷ id_value member ∷ rest) ∷ []) ≡ true
-unique_sup db rows id member rest is_id is_member none =
-    ap (λ b. not (b || false) && true)
-    (unclashed (1 ∷ 2 ∷ []) rows (next_rowid rows) (id_value id ∷ id_value member ∷ rest)
-    (none_agree_so (1 ∷ 2 ∷ []) (is_of_both id member) (next_rowid rows) (id_value id ∷ id_value member ∷ rest) rows (λ other. agree_two (next_rowid rows) other id member rest is_id is_member) none))
+  here : after table.tree ≡ put_row new others
+  here = ap (λ b. cond b (put_row new others) (db table.tree)) (eq-eqb table.tree table.tree refl)
 
--- the head of a zone
-pub unique_head : (db : Trees) (rows : List Row) (client zone : List ℕ) (rest : Row) → IsId client → IsId zone → list_any (is_of_both client zone) (columns_of rows) ≡ false
-    → are_unique bureau.indexes (with_tree db 13 (put_row (Int (next_rowid rows) ∷ id_value client ∷ id_value zone ∷ rest) rows)) schema.zone_head ((Int (next_rowid rows) ∷ id_value client ∷ id_value zone ∷ rest) ∷ []) ≡ true
-unique_head db rows client zone rest is_client is_zone none =
-    ap (λ b. not (b || false) && true)
-    (unclashed (1 ∷ 2 ∷ []) rows (next_rowid rows) (id_value client ∷ id_value zone ∷ rest)
-    (none_agree_so (1 ∷ 2 ∷ []) (is_of_both client zone) (next_rowid rows) (id_value client ∷ id_value zone ∷ rest) rows (λ other. agree_two (next_rowid rows) other client zone rest is_client is_zone) none))
+  apart : list_any (λ other. agree plain places other places new) others ≡ false → are_unique bureau.indexes after table (new ∷ []) ≡ true
+  apart none = test_from (λ (index : Index). not (guards index table && list_any (clashes index.order index.columns (after table.tree)) (new ∷ []))) bureau.indexes
+      (λ index listed. by index (guards index table) refl
+      (test_has (λ (index : Index). not (guards index table) || (bytes_eq index.columns places && (index.order.digits == 0))) bureau.indexes index keyed listed))
+    where
+      clear : (index : Index) → index.columns ≡ places → index.order ≡ plain → clashes index.order index.columns (after table.tree) new ≡ false
+      clear index columns order =
+          ap₂ (λ (o : Order) ps. clashes o ps (after table.tree) new) order columns ∙ ap (λ rows. clashes plain places rows new) here ∙ unclashed places others (next_rowid others) values none
 
--- a SYSMOD of a zone
-pub unique_zone_row : (db : Trees) (rows : List Row) (client zone sysmod : List ℕ) (rest : Row) → IsId client → IsId zone → IsId sysmod → list_any (is_of_three client zone sysmod) (columns_of rows) ≡ false
-    → are_unique bureau.indexes (with_tree db 15 (put_row (Int (next_rowid rows) ∷ id_value client ∷ id_value zone ∷ id_value sysmod ∷ rest) rows)) schema.zone_row ((Int (next_rowid rows) ∷ id_value client ∷ id_value zone ∷ id_value sysmod ∷ rest) ∷ []) ≡ true
-unique_zone_row db rows client zone sysmod rest is_client is_zone is_sysmod none =
-    ap (λ b. not (b || false) && true)
-    (unclashed (1 ∷ 2 ∷ 3 ∷ []) rows (next_rowid rows) (id_value client ∷ id_value zone ∷ id_value sysmod ∷ rest)
-    (none_agree_so (1 ∷ 2 ∷ 3 ∷ []) (is_of_three client zone sysmod) (next_rowid rows) (id_value client ∷ id_value zone ∷ id_value sysmod ∷ rest) rows (λ other. agree_three (next_rowid rows) other client zone sysmod rest is_client is_zone is_sysmod) none))
+      by : (index : Index) (b : Bool) → guards index table ≡ b → (not (guards index table) || (bytes_eq index.columns places && (index.order.digits == 0))) ≡ true
+          → not (b && list_any (clashes index.order index.columns (after table.tree)) (new ∷ [])) ≡ true
+      by index false guarded keys = refl
+      by index true guarded keys =
+          let parts = and_parts (bytes_eq index.columns places) (index.order.digits == 0) (subst (λ b. (not b || (bytes_eq index.columns places && (index.order.digits == 0))) ≡ true) guarded keys) in
+          let digits = eqb-true index.order.digits 0 parts.1 in
+          let order : index.order ≡ plain = λ i. record { digits = digits i } in
+          ap (λ b. not (b || false)) (clear index (one_id index.columns places parts.0) order)
 
--- what a record requires under a condition
-pub unique_cond : (db : Trees) (rows : List Row) (id fmid need : List ℕ) (rest : Row) → IsId id → IsId fmid → IsId need → list_any (is_of_three id fmid need) (columns_of rows) ≡ false
-    → are_unique bureau.indexes (with_tree db 19 (put_row (Int (next_rowid rows) ∷ id_value id ∷ id_value fmid ∷ id_value need ∷ rest) rows)) schema.sysmod_cond ((Int (next_rowid rows) ∷ id_value id ∷ id_value fmid ∷ id_value need ∷ rest) ∷ []) ≡ true
-unique_cond db rows id fmid need rest is_id is_fmid is_need none =
-    ap (λ b. not (b || false) && true)
-    (unclashed (1 ∷ 2 ∷ 3 ∷ []) rows (next_rowid rows) (id_value id ∷ id_value fmid ∷ id_value need ∷ rest)
-    (none_agree_so (1 ∷ 2 ∷ 3 ∷ []) (is_of_three id fmid need) (next_rowid rows) (id_value id ∷ id_value fmid ∷ id_value need ∷ rest) rows (λ other. agree_three (next_rowid rows) other id fmid need rest is_id is_fmid is_need) none))
+-- a row whose key begins with ids, and has no more columns
+pub unique_by : (table : Table) (db : Trees) (others : List Row) (name : List ℕ) (names : List (List ℕ)) (values : Row) → is_keyed_by (places_from 0 (name ∷ names)) table ≡ true
+    → AreIds 0 (name ∷ names) values → list_any (has_names name names) (columns_of others) ≡ false
+    → are_unique bureau.indexes (with_tree db table.tree (put_row (Int (next_rowid others) ∷ values) others)) table ((Int (next_rowid others) ∷ values) ∷ []) ≡ true
+unique_by table db others name names values keyed are none =
+    let places = places_from 0 (name ∷ names) in
+    apart table places keyed db others values
+    (none_agree_so places (has_names name names) (next_rowid others) values others (λ other. agree_names (next_rowid others) values other 0 name names are) none)
 
 -- a hold, whose kind is a whole number by the rules of its table
 pub unique_hold : (database : Database) → IsKnown database → (key : HoldKey) (rest : Row) → IsId key.sysmod → IsId key.reason → list_any (is_under key) (columns_of (database.trees 11)) ≡ false
@@ -168,8 +174,7 @@ unique_hold database known key rest is_sysmod is_reason none =
     let sound = subst (λ s. Keeps Datatype s database.trees) known.schema (known.sound.obeys.rules Datatype) in
     let alike = all_weaker _ (λ other. agree plain (1 ∷ 2 ∷ 3 ∷ []) other (1 ∷ 2 ∷ 3 ∷ []) (Int (next_rowid (database.trees 11)) ∷ values) ≡ is_under key (drop 1 other))
     (λ other ok. agree_hold (next_rowid (database.trees 11)) other key rest is_sysmod is_reason (and_parts _ _ ok).0) (database.trees 11) sound.1.1.1.1.1.0 in
-    ap (λ b. not (b || false) && true)
-    (unclashed (1 ∷ 2 ∷ 3 ∷ []) (database.trees 11) (next_rowid (database.trees 11)) values (none_agrees (1 ∷ 2 ∷ 3 ∷ []) (is_under key) (next_rowid (database.trees 11)) values (database.trees 11) alike none))
+    apart schema.hold_row (1 ∷ 2 ∷ 3 ∷ []) refl database.trees (database.trees 11) values (none_agrees (1 ∷ 2 ∷ 3 ∷ []) (is_under key) (next_rowid (database.trees 11)) values (database.trees 11) alike none)
 
 -- ---- after rows went
 

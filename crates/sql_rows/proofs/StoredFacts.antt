@@ -37,21 +37,25 @@ known_after tree rows old new before set = record {
 
 -- ---- what is held
 
+-- trees that are alike where the tables have theirs hold the same
+pub held_alike : (one other : Trees) → AllByRecursion (λ table. one table.tree ≡ other table.tree) tables → stored_in one ≡ stored_in other
+held_alike one other same = λ i. record {
+  callers = columns_of (same.1.0 i);
+  changes = columns_of (same.1.1.0 i);
+  sysmods = columns_of (same.1.1.1.0 i);
+  sups = columns_of (same.1.1.1.1.0 i);
+  conds = columns_of (same.1.1.1.1.1.1.1.1.1.0 i);
+  holds = columns_of (same.1.1.1.1.1.0 i);
+  heads = columns_of (same.1.1.1.1.1.1.0 i);
+  rows = columns_of (same.1.1.1.1.1.1.1.0 i);
+  received = columns_of (same.1.1.1.1.1.1.1.1.0 i);
+}
+
 -- one table has these rows, and the others what they had
 pub held_set : (tree : ℕ) (rows : List Row) (old new : Database) → IsSet tree rows old new → held_by new ≡ stored_in (λ t. cond (t == tree) rows (old.trees t))
 held_set tree rows old new set =
-    let o = set.others in
-    λ i. record {
-      callers = columns_of (at 1 o.1.0 i);
-      changes = columns_of (at 4 o.1.1.0 i);
-      sysmods = columns_of (at 6 o.1.1.1.0 i);
-      sups = columns_of (at 8 o.1.1.1.1.0 i);
-      conds = columns_of (at 19 o.1.1.1.1.1.1.1.1.1.0 i);
-      holds = columns_of (at 11 o.1.1.1.1.1.0 i);
-      heads = columns_of (at 13 o.1.1.1.1.1.1.0 i);
-      rows = columns_of (at 15 o.1.1.1.1.1.1.1.0 i);
-      received = columns_of (at 17 o.1.1.1.1.1.1.1.1.0 i);
-    }
+    held_alike new.trees (λ t. cond (t == tree) rows (old.trees t))
+    (all_weaker _ (λ (table : Table). new.trees table.tree ≡ cond (table.tree == tree) rows (old.trees table.tree)) (λ table other. at table.tree other) tables set.others)
   where
     at : (t : ℕ) → (t ≢ tree → new.trees t ≡ old.trees t) → new.trees t ≡ cond (t == tree) rows (old.trees t)
     at t other = by (t == tree) refl

@@ -1,5 +1,6 @@
 -- What holds of a table of the schema: its rows among those of the store are those of its tree.
-use Rattle.std.specs.Prelude.{◌≡◌, ◌==◌, ℕ, List, Some, cond, false, slice_get}
+use Rattle.std.specs.Prelude.{◌≡◌, ◌==◌, ℕ, Bool, List, Option, Some, cond, false, slice_get}
+use Rattle.std.proofs.Common.{ap}
 use Rattle.sqlite.specs.Table.{Table}
 use Rattle.sqlite.specs.Tree.{Trees}
 use Rattle.sqlite_value.specs.Order.{Row}
@@ -20,3 +21,53 @@ pub record Stands (index : ℕ) (table : Table) (rows : Stored → List Row) (wi
   pub got : (news : List Row) (stored : Stored) → rows (with_rows news stored) ≡ news
   pub again : (news others : List Row) (stored : Stored) → with_rows news (with_rows others stored) ≡ with_rows news stored
   pub kept : (stored : Stored) → with_rows (rows stored) stored ≡ stored
+
+-- ---- that it holds is one equation, which computes
+
+-- what is looked at
+pub record Sight : Type 0 where
+  pub placed : Option Table
+  pub is_counted : Bool
+  pub is_first : Bool
+  pub here : Trees → List Row
+  pub set : Trees → List Row → Stored
+  pub got : List Row → Stored → List Row
+  pub again : List Row → List Row → Stored → Stored
+  pub kept : Stored → Stored
+
+module _ (index : ℕ) (table : Table) (rows : Stored → List Row) (with_rows : List Row → Stored → Stored) where
+  abbrev pub seen : Sight
+  seen = record {
+    placed = slice_get tables index;
+    is_counted = table.is_counted;
+    is_first = 0 == table.tree;
+    here = λ trees. rows (stored_in trees);
+    set = λ trees news. stored_in (λ t. cond (t == table.tree) news (trees t));
+    got = λ news stored. rows (with_rows news stored);
+    again = λ news others stored. with_rows news (with_rows others stored);
+    kept = λ stored. with_rows (rows stored) stored;
+  }
+
+  abbrev pub wanted : Sight
+  wanted = record {
+    placed = Some table;
+    is_counted = false;
+    is_first = false;
+    here = λ trees. columns_of (trees table.tree);
+    set = λ trees news. with_rows (columns_of news) (stored_in trees);
+    got = λ news stored. news;
+    again = λ news others stored. with_rows news stored;
+    kept = λ stored. stored;
+  }
+
+  pub stands_by : seen ≡ wanted → Stands index table rows with_rows
+  stands_by same = record {
+    placed = ap (λ (s : Sight). s.placed) same;
+    uncounted = ap (λ (s : Sight). s.is_counted) same;
+    apart = ap (λ (s : Sight). s.is_first) same;
+    here = λ trees. ap (λ (s : Sight). s.here trees) same;
+    set = λ trees news. ap (λ (s : Sight). s.set trees news) same;
+    got = λ news stored. ap (λ (s : Sight). s.got news stored) same;
+    again = λ news others stored. ap (λ (s : Sight). s.again news others stored) same;
+    kept = λ stored. ap (λ (s : Sight). s.kept stored) same;
+  }

@@ -8,6 +8,7 @@ pub enum Callers {}
 impl Table for Callers {
     ghost use Rattle.std.specs.Prelude.{refl};
     ghost use Rattle.sql_texts.specs.Schema as schema;
+    ghost use Rattle.sql_rows.specs.Standing.{stands_by};
 
     ghost index = { 1 };
 
@@ -17,16 +18,7 @@ impl Table for Callers {
 
     ghost with_rows = { λ rows stored. record stored { callers = rows } };
 
-    ghost stands = { record {
-      placed = refl;
-      uncounted = refl;
-      apart = refl;
-      here = λ trees. refl;
-      set = λ trees news. refl;
-      got = λ news stored. refl;
-      again = λ news others stored. refl;
-      kept = λ stored. refl;
-    } };
+    ghost stands = { stands_by _ _ _ _ refl };
 }
 
 /// The last changes of callers: the columns `caller`, `number` and `body`.
@@ -35,6 +27,7 @@ pub enum LastChanges {}
 impl Table for LastChanges {
     ghost use Rattle.std.specs.Prelude.{refl};
     ghost use Rattle.sql_texts.specs.Schema as schema;
+    ghost use Rattle.sql_rows.specs.Standing.{stands_by};
 
     ghost index = { 2 };
 
@@ -44,16 +37,7 @@ impl Table for LastChanges {
 
     ghost with_rows = { λ rows stored. record stored { changes = rows } };
 
-    ghost stands = { record {
-      placed = refl;
-      uncounted = refl;
-      apart = refl;
-      here = λ trees. refl;
-      set = λ trees news. refl;
-      got = λ news stored. refl;
-      again = λ news others stored. refl;
-      kept = λ stored. refl;
-    } };
+    ghost stands = { stands_by _ _ _ _ refl };
 }
 
 /// Records, without what they supersede and require under a condition: the columns `id`, `kind`, `fmids`, `pre`
@@ -63,6 +47,7 @@ pub enum Sysmods {}
 impl Table for Sysmods {
     ghost use Rattle.std.specs.Prelude.{refl};
     ghost use Rattle.sql_texts.specs.Schema as schema;
+    ghost use Rattle.sql_rows.specs.Standing.{stands_by};
 
     ghost index = { 3 };
 
@@ -72,16 +57,7 @@ impl Table for Sysmods {
 
     ghost with_rows = { λ rows stored. record stored { sysmods = rows } };
 
-    ghost stands = { record {
-      placed = refl;
-      uncounted = refl;
-      apart = refl;
-      here = λ trees. refl;
-      set = λ trees news. refl;
-      got = λ news stored. refl;
-      again = λ news others stored. refl;
-      kept = λ stored. refl;
-    } };
+    ghost stands = { stands_by _ _ _ _ refl };
 }
 
 /// What records supersede: the columns `id` and `member`.
@@ -90,6 +66,7 @@ pub enum Sups {}
 impl Table for Sups {
     ghost use Rattle.std.specs.Prelude.{refl};
     ghost use Rattle.sql_texts.specs.Schema as schema;
+    ghost use Rattle.sql_rows.specs.Standing.{stands_by};
 
     ghost index = { 4 };
 
@@ -99,16 +76,7 @@ impl Table for Sups {
 
     ghost with_rows = { λ rows stored. record stored { sups = rows } };
 
-    ghost stands = { record {
-      placed = refl;
-      uncounted = refl;
-      apart = refl;
-      here = λ trees. refl;
-      set = λ trees news. refl;
-      got = λ news stored. refl;
-      again = λ news others stored. refl;
-      kept = λ stored. refl;
-    } };
+    ghost stands = { stands_by _ _ _ _ refl };
 }
 
 /// The holds: the columns `sysmod`, `kind`, `reason`, `fmid`, `class`, `dated`, `resolver` and `categories`.
@@ -117,6 +85,7 @@ pub enum Holds {}
 impl Table for Holds {
     ghost use Rattle.std.specs.Prelude.{refl};
     ghost use Rattle.sql_texts.specs.Schema as schema;
+    ghost use Rattle.sql_rows.specs.Standing.{stands_by};
 
     ghost index = { 5 };
 
@@ -126,16 +95,7 @@ impl Table for Holds {
 
     ghost with_rows = { λ rows stored. record stored { holds = rows } };
 
-    ghost stands = { record {
-      placed = refl;
-      uncounted = refl;
-      apart = refl;
-      here = λ trees. refl;
-      set = λ trees news. refl;
-      got = λ news stored. refl;
-      again = λ news others stored. refl;
-      kept = λ stored. refl;
-    } };
+    ghost stands = { stands_by _ _ _ _ refl };
 }
 
 /// The zones of clients, with the patterns that are asked for: the columns `client`, `zone` and `patterns`.
@@ -144,6 +104,7 @@ pub enum Heads {}
 impl Table for Heads {
     ghost use Rattle.std.specs.Prelude.{refl};
     ghost use Rattle.sql_texts.specs.Schema as schema;
+    ghost use Rattle.sql_rows.specs.Standing.{stands_by};
 
     ghost index = { 6 };
 
@@ -153,16 +114,7 @@ impl Table for Heads {
 
     ghost with_rows = { λ rows stored. record stored { heads = rows } };
 
-    ghost stands = { record {
-      placed = refl;
-      uncounted = refl;
-      apart = refl;
-      here = λ trees. refl;
-      set = λ trees news. refl;
-      got = λ news stored. refl;
-      again = λ news others stored. refl;
-      kept = λ stored. refl;
-    } };
+    ghost stands = { stands_by _ _ _ _ refl };
 }
 
 /// The SYSMODs of zones with their states: the columns `client`, `zone`, `sysmod` and `state`.
@@ -171,6 +123,7 @@ pub enum ZoneRows {}
 impl Table for ZoneRows {
     ghost use Rattle.std.specs.Prelude.{refl};
     ghost use Rattle.sql_texts.specs.Schema as schema;
+    ghost use Rattle.sql_rows.specs.Standing.{stands_by};
 
     ghost index = { 7 };
 
@@ -180,16 +133,7 @@ impl Table for ZoneRows {
 
     ghost with_rows = { λ rows stored. record stored { rows = rows } };
 
-    ghost stands = { record {
-      placed = refl;
-      uncounted = refl;
-      apart = refl;
-      here = λ trees. refl;
-      set = λ trees news. refl;
-      got = λ news stored. refl;
-      again = λ news others stored. refl;
-      kept = λ stored. refl;
-    } };
+    ghost stands = { stands_by _ _ _ _ refl };
 }
 
 /// What clients have received: the columns `client` and `ids`.
@@ -198,6 +142,7 @@ pub enum Received {}
 impl Table for Received {
     ghost use Rattle.std.specs.Prelude.{refl};
     ghost use Rattle.sql_texts.specs.Schema as schema;
+    ghost use Rattle.sql_rows.specs.Standing.{stands_by};
 
     ghost index = { 8 };
 
@@ -207,16 +152,7 @@ impl Table for Received {
 
     ghost with_rows = { λ rows stored. record stored { received = rows } };
 
-    ghost stands = { record {
-      placed = refl;
-      uncounted = refl;
-      apart = refl;
-      here = λ trees. refl;
-      set = λ trees news. refl;
-      got = λ news stored. refl;
-      again = λ news others stored. refl;
-      kept = λ stored. refl;
-    } };
+    ghost stands = { stands_by _ _ _ _ refl };
 }
 
 /// What records require where a function is installed: the columns `id`, `fmid` and `member`.
@@ -225,6 +161,7 @@ pub enum Conds {}
 impl Table for Conds {
     ghost use Rattle.std.specs.Prelude.{refl};
     ghost use Rattle.sql_texts.specs.Schema as schema;
+    ghost use Rattle.sql_rows.specs.Standing.{stands_by};
 
     ghost index = { 9 };
 
@@ -234,14 +171,5 @@ impl Table for Conds {
 
     ghost with_rows = { λ rows stored. record stored { conds = rows } };
 
-    ghost stands = { record {
-      placed = refl;
-      uncounted = refl;
-      apart = refl;
-      here = λ trees. refl;
-      set = λ trees news. refl;
-      got = λ news stored. refl;
-      again = λ news others stored. refl;
-      kept = λ stored. refl;
-    } };
+    ghost stands = { stands_by _ _ _ _ refl };
 }

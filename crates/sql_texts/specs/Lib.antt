@@ -1,3 +1,4 @@
+pub mod Creation
 pub mod Found
 pub mod Meaning
 pub mod Reads

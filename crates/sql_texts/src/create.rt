@@ -1,6 +1,7 @@
 //! The texts that make the tables of version 2, each over what those before it made.
 #![tactic(auto, unfolding(sqlite::specs::Listing::understood, sqlite_tied::specs::Compute::everything, sqlite_trees::specs::Sound::fits_kind, sqlite_trees::specs::Sound::begins, sqlite_trees::specs::Sound::same_name, sqlite_trees::specs::Sound::is_free_name, sqlite_value::specs::Order::value_cmp))]
 
+ghost use Rattle.sql_texts.specs.Creation.{CreateAll, creations};
 ghost use Rattle.sql_texts.specs.Meaning.{MakesIndex, MakesTable};
 ghost use Rattle.sql_texts.specs.Schema as schema;
 ghost use Rattle.sql_texts.specs.Schema.{bureau, bureau_1, made};
@@ -91,4 +92,24 @@ pub fn sysmod_cond() -> &'static str
 {
     "CREATE TABLE sysmod_cond (id TEXT NOT NULL, fmid TEXT NOT NULL, member TEXT NOT NULL, \
      PRIMARY KEY (id, fmid, member)) STRICT"
+}
+
+/// The texts that run after that of the version's table, in their order: each makes its table or the index over what those
+/// before it made.
+#[tactic(auto)]
+pub fn others() -> [&'static str; 10]
+    ensures { CreateAll 1 0 creations result }
+{
+    [
+        caller(),
+        last_change(),
+        sysmod(),
+        sysmod_sup(),
+        by_member(),
+        hold_row(),
+        zone_head(),
+        zone_row(),
+        received_list(),
+        sysmod_cond(),
+    ]
 }

@@ -1,9 +1,9 @@
 -- No rule of a database speaks against a text that makes a table or an index whose names are new.
 use Rattle.std.proofs.Common.{◌≡◌, ◌≤◌, ◌<◌, ◌+◌, ◌^◌, ℕ, true, false, List, [], ◌∷◌, Option, Some, None, Ok, Err, length, sym, ◌∙◌, ap, subst, inl, inr, arith, zero, suc}
-use Rattle.std.specs.Prelude.{IsSome, IsUtf8, ◌*◌, codes, nat_lt, slice_index, not, slice_get}
+use Rattle.std.specs.Prelude.{◌&&◌, Bool, IsSome, IsUtf8, ◌*◌, codes, nat_lt, slice_index, not, slice_get}
 use Rattle.std.specs.Char.{is_ascii}
 use Rattle.std.specs.List.{AllByRecursion, list_all}
-use Rattle.std.proofs.lemmas.Bool.{and_parts, ltb-true}
+use Rattle.std.proofs.lemmas.Bool.{and_parts, ltb-true, not-true}
 use Rattle.std.proofs.lemmas.Str.{IsUtf8-from_ascii}
 use Rattle.sqlite.specs.Change.{created, indexed, next_tree}
 use Rattle.sqlite.specs.Compile.{index_defined_by, table_defined_by}
@@ -52,6 +52,40 @@ pub record IsNew (before : Schema) (table : Table) : Type 0 where
   pub reals : nat_lt (table_reals table) (2 ^ 64) ≡ true
   pub keys_reals : list_all (λ key. nat_lt (index_reals (table_reals table) key) (2 ^ 64)) table.uniques ≡ true
   pub formed : is_formed table ≡ true
+
+-- the same as a test, with which no sequence is wanted after the table came
+abbrev pub is_new : Schema → Schema → Table → Bool
+is_new before after table =
+    not (is_used before table.name)
+    && (list_all (λ (index : Index). not (is_used before index.name)) (automatics (record table { tree = 0 }) 0 0 table.uniques)
+    && (list_all is_ascii table.name && (not (is_reserved table.name) && (nat_lt (length table.name) 1000
+    && (nat_lt (next_tree before + length table.uniques) 65536 && (nat_lt (table_reals table) (2 ^ 64)
+    && (list_all (λ key. nat_lt (index_reals (table_reals table) key) (2 ^ 64)) table.uniques && (is_formed table && not (lacks_sequence after)))))))))
+
+pub tested_new : (before after : Schema) (table : Table) → is_new before after table ≡ true → IsNew before table × (lacks_sequence after ≡ false)
+tested_new before after table is =
+    let a = and_parts _ _ is in
+    let b = and_parts _ _ a.1 in
+    let c = and_parts _ _ b.1 in
+    let d = and_parts _ _ c.1 in
+    let e = and_parts _ _ d.1 in
+    let f = and_parts _ _ e.1 in
+    let g = and_parts _ _ f.1 in
+    let h = and_parts _ _ g.1 in
+    let k = and_parts _ _ h.1 in (
+      record {
+        free = not-true _ a.0;
+        keys_free = b.0;
+        ascii = c.0;
+        own = not-true _ d.0;
+        short = e.0;
+        few = f.0;
+        reals = g.0;
+        keys_reals = h.0;
+        formed = k.0;
+      },
+      not-true _ k.1,
+    )
 
 below : {a b : ℕ} → nat_lt a b ≡ true → b ≤ a → ⊥
 below {a} {b} low high = let it = ltb-true a b low in omega (arith, it, high)
@@ -120,6 +154,36 @@ pub record IsNewIndex (before : Schema) (table : Table) (index : Index) : Type 0
   pub few : nat_lt (next_tree before) 65536 ≡ true
   pub reals : nat_lt (table_reals table) (2 ^ 64) ≡ true
   pub key_reals : nat_lt (index_reals (table_reals table) index.columns) (2 ^ 64) ≡ true
+
+-- the same as a test
+abbrev pub is_new_index : Schema → Table → Index → Bool
+is_new_index before table index =
+    not (is_used before index.name)
+    && (list_all is_ascii index.name && (list_all is_ascii table.name && (not (is_reserved index.name) && (nat_lt (length index.name) 1000
+    && (nat_lt (length table.name) 1000 && (nat_lt (next_tree before) 65536 && (nat_lt (table_reals table) (2 ^ 64)
+    && nat_lt (index_reals (table_reals table) index.columns) (2 ^ 64))))))))
+
+pub tested_new_index : (before : Schema) (table : Table) (index : Index) → is_new_index before table index ≡ true → IsNewIndex before table index
+tested_new_index before table index is =
+    let a = and_parts _ _ is in
+    let b = and_parts _ _ a.1 in
+    let c = and_parts _ _ b.1 in
+    let d = and_parts _ _ c.1 in
+    let e = and_parts _ _ d.1 in
+    let f = and_parts _ _ e.1 in
+    let g = and_parts _ _ f.1 in
+    let h = and_parts _ _ g.1 in
+    record {
+      free = not-true _ a.0;
+      ascii = b.0;
+      table_ascii = c.0;
+      own = not-true _ d.0;
+      short = e.0;
+      table_short = f.0;
+      few = g.0;
+      reals = h.0;
+      key_reals = h.1;
+    }
 
 -- no row breaks a rule where there are no rows
 keeps_empty : (schema : Schema) (db : Trees) (all : List Table) → AllByRecursion (λ t. db t.tree ≡ []) all

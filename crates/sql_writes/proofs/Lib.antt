@@ -3,6 +3,7 @@ pub mod AskFacts
 pub mod BoundFacts
 pub mod CallerFacts
 pub mod ComeFacts
+pub mod CreateFacts
 pub mod DefineFacts
 pub mod FindFacts
 pub mod FirstFacts

@@ -1,6 +1,6 @@
 -- What a statement that makes a table or the index leaves, and what the statements leave together.
 use Rattle.std.proofs.Common.{◌≡◌, ℕ, false, List, [], ◌∷◌, ◌++◌, Some, None, Result, Ok, Err, IsTrue, OnOk, take, refl, sym, ◌∙◌, ap, subst, arith}
-use Rattle.std.specs.Prelude.{slice_get}
+use Rattle.std.specs.Prelude.{◌==◌, cond, length, slice_get}
 use Rattle.std.specs.List.{AllByRecursion}
 use Rattle.std.specs.Result.{IsErr}
 use Rattle.std.proofs.lemmas.Bool.{false≢true}
@@ -14,11 +14,11 @@ use Rattle.sqlite.specs.State.{Executes, HasCleanDisk, State, Writes, mode_of}
 use Rattle.sqlite.specs.Table.{Table}
 use Rattle.sqlite.specs.Tree.{Trees}
 use Rattle.sqlite_schema.specs.declared.schema.Index.{Index}
+use Rattle.sqlite_trees.proofs.ListLemmas.{all_weaker}
 use Rattle.sqlite.specs.Schema.{Schema}
 use Rattle.sql_texts.specs.Meaning.{MakesIndex, MakesTable, Means}
-use Rattle.sql_texts.specs.Schema.{bureau, made, tables}
+use Rattle.sql_texts.specs.Schema.{bureau, indexes, made, tables}
 use Rattle.sql_texts.specs.Writes.{this_version}
-use Rattle.sql_tables.specs.InTrees.{columns_of}
 use Rattle.sql_state.specs.Numbered.{IsNumbered}
 use Rattle.sql_state.specs.Ours.{version_rows}
 use Rattle.sql_writes.specs.Making.{IsMade, IsOpened, Leads}
@@ -27,18 +27,18 @@ use Rattle.sql_state.proofs.StopFacts.{survives_both, was_clean}
 use Rattle.sql_rows.proofs.ChangeFacts.{keeps_both}
 use Rattle.sql_writes.proofs.RefusalFacts.{whole_text}
 use Rattle.sql_rows.proofs.StatementFacts.{inserts_version, on_table, same_value, went}
-use Rattle.sql_rows.proofs.StoredFacts.{known_after}
+use Rattle.sql_rows.proofs.StoredFacts.{held_alike, held_set, known_after}
 
 -- what CREATE TABLE leaves
-pub record HasTable (table : Table) (before after : Schema) (old new : Database) : Type 0 where
+pub record HasTable (before after : Schema) (old new : Database) : Type 0 where
   pub schema : new.schema ≡ after
   pub sound : IsDatabase new
-  pub empty : new.trees table.tree ≡ []
+  pub empty : new.trees (next_tree before) ≡ []
   pub others : KeepsRows before.tables old.trees new.trees
 
 pub makes_table : (before after : Schema) (text : List ℕ) (table : Table) (old new : State) (count : ℕ) → MakesTable before text table after → lacks_sequence after ≡ false
-    → next_tree before ≡ table.tree → old.now.schema ≡ before → Executes text [] old new (Ok count) → HasTable table before after old.now new.now
-makes_table before after text table old new count makes unlacking next has h =
+    → old.now.schema ≡ before → Executes text [] old new (Ok count) → HasTable before after old.now new.now
+makes_table before after text table old new count makes unlacking has h =
     let plain = subst IsPlain (sym makes.statement) (refl, refl) in
     let ran = runs_as text [] old new before has CreateTable (ap command_of makes.statement) plain count h in
     let w = subst (λ t. Writes old new None CreateTable t [] count) (ap (statement_of text) makes.statement ∙ whole_text text) ran in
@@ -52,7 +52,7 @@ makes_table before after text table old new count makes unlacking next has h =
     record {
       schema = ap (λ (d : Database). d.schema) now ∙ schema;
       sound = w.sound;
-      empty = ap (λ (d : Database). d.trees table.tree) now ∙ subst (λ t. first.0.trees t ≡ []) (ap next_tree has ∙ next) it.empty;
+      empty = ap (λ (d : Database). d.trees (next_tree before)) now ∙ subst (λ t. first.0.trees t ≡ []) (ap next_tree has) it.empty;
       others = subst (λ (d : Database). KeepsRows before.tables old.now.trees d.trees) (sym now) (subst (λ s. KeepsRows s.tables old.now.trees first.0.trees) has it.others);
     }
 
@@ -106,17 +106,16 @@ leads_by {A} {F} text params old new result From To ran led = record { keeps = r
 -- the next table, where so many are there
 pub table_comes : {A F : Type 0} (From : Database → Type 0) (n m n′ m′ : ℕ) (text : List ℕ) (table : Table) (old new : State) (result : Result A F)
     → ((db : Database) → From db → (db.schema ≡ made n m) × AllByRecursion (λ t. db.trees t.tree ≡ []) (take n tables))
-    → MakesTable (made n m) text table (made n′ m′) → lacks_sequence (made n′ m′) ≡ false → next_tree (made n m) ≡ table.tree → take n′ tables ≡ take n tables ++ table ∷ []
-    → Ran text [] old new result → Leads old new result From (IsMade n′ m′)
-table_comes From n m n′ m′ text table old new result begins makes unlacking next more ran =
+    → MakesTable (made n m) text table (made n′ m′) → lacks_sequence (made n′ m′) ≡ false → Ran text [] old new result → Leads old new result From (IsMade n′ m′)
+table_comes From n m n′ m′ text table old new result begins makes unlacking ran =
     leads_by text [] old new result From (IsMade n′ m′) ran (λ count executes from.
     let begun = begins old.now from in
-    let has = makes_table (made n m) (made n′ m′) text table old new count makes unlacking next begun.0 executes in
+    let has = makes_table (made n m) (made n′ m′) text table old new count makes unlacking begun.0 executes in
     record {
       schema = has.schema;
       sound = has.sound;
-      empty = subst (AllByRecursion (λ t. new.now.trees t.tree ≡ [])) (sym more)
-          (one_more (λ t. new.now.trees t.tree ≡ []) (take n tables) table (emptied old.now.trees new.now.trees (take n tables) begun.1 has.others) has.empty);
+      empty = subst (AllByRecursion (λ t. new.now.trees t.tree ≡ [])) (ap (λ (s : Schema). s.tables) makes.made)
+          (one_more (λ t. new.now.trees t.tree ≡ []) (take n tables) (record table { tree = next_tree (made n m) }) (emptied old.now.trees new.now.trees (take n tables) begun.1 has.others) has.empty);
     })
 
 -- the index, where so many tables are there
@@ -156,7 +155,7 @@ all_numbered : (trees : Trees) (all : List Table) → AllByRecursion (λ table. 
 all_numbered trees [] empty = tt
 all_numbered trees (table ∷ all) empty = (subst IsNumbered (sym empty.0) (tt, tt), all_numbered trees all empty.1)
 
-opened_by : (text : List ℕ) (old new : State) (count : ℕ) → Means bureau text this_version 0 → Executes text [] old new (Ok count) → IsMade 10 11 old.now → IsOpened [] new.now
+opened_by : (text : List ℕ) (old new : State) (count : ℕ) → Means bureau text this_version 0 → Executes text [] old new (Ok count) → IsMade (length tables) (length indexes) old.now → IsOpened [] new.now
 opened_by text old new count means executes so_far =
     let set = inserts_version text old new count means so_far.schema so_far.empty.0 executes in
     let o = set.others in
@@ -165,19 +164,11 @@ opened_by text old new count means executes so_far =
       known = known_after 0 (version_rows 2) old.now new.now (all_numbered old.now.trees tables e) set;
       version = set.rows_are;
       callers_are = o.1.0 (λ x. omega (arith, x)) ∙ e.1.0;
-      held = λ i. record {
-        callers = columns_of ((o.1.0 (λ x. omega (arith, x)) ∙ e.1.0) i);
-        changes = columns_of ((o.1.1.0 (λ x. omega (arith, x)) ∙ e.1.1.0) i);
-        sysmods = columns_of ((o.1.1.1.0 (λ x. omega (arith, x)) ∙ e.1.1.1.0) i);
-        sups = columns_of ((o.1.1.1.1.0 (λ x. omega (arith, x)) ∙ e.1.1.1.1.0) i);
-        conds = columns_of ((o.1.1.1.1.1.1.1.1.1.0 (λ x. omega (arith, x)) ∙ e.1.1.1.1.1.1.1.1.1.0) i);
-        holds = columns_of ((o.1.1.1.1.1.0 (λ x. omega (arith, x)) ∙ e.1.1.1.1.1.0) i);
-        heads = columns_of ((o.1.1.1.1.1.1.0 (λ x. omega (arith, x)) ∙ e.1.1.1.1.1.1.0) i);
-        rows = columns_of ((o.1.1.1.1.1.1.1.0 (λ x. omega (arith, x)) ∙ e.1.1.1.1.1.1.1.0) i);
-        received = columns_of ((o.1.1.1.1.1.1.1.1.0 (λ x. omega (arith, x)) ∙ e.1.1.1.1.1.1.1.1.0) i);
-      };
+      held = held_set 0 (version_rows 2) old.now new.now set ∙ held_alike (λ t. cond (t == 0) (version_rows 2) (old.now.trees t)) (λ t. cond (t == 0) (version_rows 2) [])
+          (all_weaker (λ (table : Table). old.now.trees table.tree ≡ []) (λ (table : Table). cond (table.tree == 0) (version_rows 2) (old.now.trees table.tree) ≡ cond (table.tree == 0) (version_rows 2) [])
+          (λ table none. ap (λ rows. cond (table.tree == 0) (version_rows 2) rows) none) tables e);
     }
 
-pub version_comes : {A F : Type 0} (text : List ℕ) (old new : State) (result : Result A F) → Means bureau text this_version 0 → Ran text [] old new result → Leads old new result (IsMade 10 11) (IsOpened [])
+pub version_comes : {A F : Type 0} (text : List ℕ) (old new : State) (result : Result A F) → Means bureau text this_version 0 → Ran text [] old new result → Leads old new result (IsMade (length tables) (length indexes)) (IsOpened [])
 version_comes text old new result means ran =
-    leads_by text [] old new result (IsMade 10 11) (IsOpened []) ran (λ count executes. opened_by text old new count means executes)
+    leads_by text [] old new result (IsMade (length tables) (length indexes)) (IsOpened []) ran (λ count executes. opened_by text old new count means executes)

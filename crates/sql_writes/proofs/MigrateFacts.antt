@@ -1,6 +1,6 @@
 -- What the statements that make a database of version 1 one of version 2 leave of it.
-use Rattle.std.proofs.Common.{◌∙◌, ℕ, List, [], ◌∷◌, Err, IsTrue, Ok, OnOk, Result, ap, refl, subst, sym}
-use Rattle.std.specs.Prelude.{filter, not, take}
+use Rattle.std.proofs.Common.{◌≡◌, ◌∙◌, ℕ, List, [], ◌∷◌, Err, IsTrue, Ok, OnOk, Result, ap, refl, subst, sym}
+use Rattle.std.specs.Prelude.{◌==◌, cond, filter, not, take}
 use Rattle.std.specs.List.{AllByRecursion}
 use Rattle.sqlite.specs.Change.{KeepsRows}
 use Rattle.sqlite.specs.Order.{Row}
@@ -14,7 +14,6 @@ use Rattle.sql_texts.specs.Found.{passes}
 use Rattle.sql_texts.specs.Meaning.{MakesTable, Means}
 use Rattle.sql_texts.specs.Schema.{bureau, bureau_1, bureau_version, sysmod_cond, tables}
 use Rattle.sql_texts.specs.Writes.{delete_of, this_version}
-use Rattle.sql_tables.specs.InTrees.{columns_of}
 use Rattle.sql_tables.specs.Stored.{Stored}
 use Rattle.sql_state.specs.Earlier.{IsOfVersion1, held_by_version_1}
 use Rattle.sql_state.specs.Numbered.{IsNumbered}
@@ -24,7 +23,7 @@ use Rattle.sql_writes.specs.Migrating.{HeldEarlier, HoldsAll}
 use Rattle.sql_rows.specs.Running.{Ran}
 use Rattle.sql_writes.proofs.MakeFacts.{leads_by, makes_table, one_more}
 use Rattle.sql_rows.proofs.StatementFacts.{deletes, inserts_version}
-use Rattle.sql_rows.proofs.StoredFacts.{held_set, known_after}
+use Rattle.sql_rows.proofs.StoredFacts.{held_alike, held_set, known_after}
 
 numbered_still : (old new : Trees) (all : List Table) → AllByRecursion (λ table. IsNumbered (old table.tree)) all → KeepsRows all old new
     → AllByRecursion (λ table. IsNumbered (new table.tree)) all
@@ -35,7 +34,7 @@ module _ {A F : Type 0} (text : List ℕ) (old new : State) (result : Result A F
   -- the table comes, without a row
   pub table_added : MakesTable bureau_1 text sysmod_cond bureau → Ran text [] old new result → (stored : Stored) → Leads old new result (HeldEarlier stored) (HoldsAll (version_rows 1) stored)
   table_added makes ran stored = leads_by text [] old new result (HeldEarlier stored) (HoldsAll (version_rows 1) stored) ran (λ count executes from.
-      let has = makes_table bureau_1 bureau text sysmod_cond old new count makes refl refl from.ours.schema executes in
+      let has = makes_table bureau_1 bureau text sysmod_cond old new count makes refl from.ours.schema executes in
       let k = has.others in
       record {
         known = record {
@@ -45,17 +44,8 @@ module _ {A F : Type 0} (text : List ℕ) (old new : State) (result : Result A F
               (numbered_still old.now.trees new.now.trees (take 9 tables) from.ours.rows.numbered k) (subst IsNumbered (sym has.empty) (tt, tt));
         };
         version = k.0 ∙ from.ours.rows.version;
-        held = (λ i. record {
-          callers = columns_of (k.1.0 i);
-          changes = columns_of (k.1.1.0 i);
-          sysmods = columns_of (k.1.1.1.0 i);
-          sups = columns_of (k.1.1.1.1.0 i);
-          conds = columns_of (has.empty i);
-          holds = columns_of (k.1.1.1.1.1.0 i);
-          heads = columns_of (k.1.1.1.1.1.1.0 i);
-          rows = columns_of (k.1.1.1.1.1.1.1.0 i);
-          received = columns_of (k.1.1.1.1.1.1.1.1.0 i);
-        }) ∙ from.held;
+        held = held_alike new.now.trees (λ t. cond (t == sysmod_cond.tree) [] (old.now.trees t))
+            (one_more (λ table. new.now.trees table.tree ≡ cond (table.tree == sysmod_cond.tree) [] (old.now.trees table.tree)) (take 9 tables) sysmod_cond has.others has.empty) ∙ from.held;
       })
 
   -- the version goes

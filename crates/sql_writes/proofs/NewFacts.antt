@@ -1,50 +1,23 @@
--- No table of the bureau, and no key of one, has a name that is used before it is made.
-use Rattle.std.proofs.Common.{refl}
+-- No table of the bureau, no key of one and no index has a name that is used before it is made.
+use Rattle.std.proofs.Common.{◌≡◌, ◌+◌, ◌&&◌, ℕ, Bool, true, List, [], ◌∷◌, length, refl}
 use Rattle.sqlite_schema.specs.Names.{same_name}
-use Rattle.sql_texts.specs.Schema as schema
-use Rattle.sql_texts.specs.Schema.{bureau_1, by_member, made}
-use Rattle.sql_writes.proofs.DefineFacts.{IsNew, IsNewIndex}
+use Rattle.sql_texts.specs.Creation.{Creation, creations, of_index, of_table}
+use Rattle.sql_texts.specs.Schema.{bureau_version, made}
+use Rattle.sql_writes.proofs.DefineFacts.{is_new, is_new_index}
 
-pub bureau_version_is_new : IsNew (made 0 0) schema.bureau_version
-unfolding same_name
-bureau_version_is_new = record { free = refl; keys_free = refl; ascii = refl; own = refl; short = refl; few = refl; reals = refl; keys_reals = refl; formed = refl }
+-- where so many of the tables and of the indexes are there, what comes next is new, and so is what comes after it
+abbrev pub are_new : ℕ → ℕ → List Creation → Bool
+are_new so_many so_many_indexes [] = true
+are_new so_many so_many_indexes (of_table table ∷ later) =
+    is_new (made so_many so_many_indexes) (made (so_many + 1) (so_many_indexes + length table.uniques)) table
+    && are_new (so_many + 1) (so_many_indexes + length table.uniques) later
+are_new so_many so_many_indexes (of_index place table index ∷ later) =
+    is_new_index (made so_many so_many_indexes) table index && are_new so_many (so_many_indexes + 1) later
 
-pub caller_is_new : IsNew (made 1 0) schema.caller
+pub first_is_new : is_new (made 0 0) (made 1 0) bureau_version ≡ true
 unfolding same_name
-caller_is_new = record { free = refl; keys_free = refl; ascii = refl; own = refl; short = refl; few = refl; reals = refl; keys_reals = refl; formed = refl }
+first_is_new = refl
 
-pub last_change_is_new : IsNew (made 2 2) schema.last_change
+pub others_are_new : are_new 1 0 creations ≡ true
 unfolding same_name
-last_change_is_new = record { free = refl; keys_free = refl; ascii = refl; own = refl; short = refl; few = refl; reals = refl; keys_reals = refl; formed = refl }
-
-pub sysmod_is_new : IsNew (made 3 3) schema.sysmod
-unfolding same_name
-sysmod_is_new = record { free = refl; keys_free = refl; ascii = refl; own = refl; short = refl; few = refl; reals = refl; keys_reals = refl; formed = refl }
-
-pub sysmod_sup_is_new : IsNew (made 4 4) schema.sysmod_sup
-unfolding same_name
-sysmod_sup_is_new = record { free = refl; keys_free = refl; ascii = refl; own = refl; short = refl; few = refl; reals = refl; keys_reals = refl; formed = refl }
-
-pub hold_row_is_new : IsNew (made 5 6) schema.hold_row
-unfolding same_name
-hold_row_is_new = record { free = refl; keys_free = refl; ascii = refl; own = refl; short = refl; few = refl; reals = refl; keys_reals = refl; formed = refl }
-
-pub zone_head_is_new : IsNew (made 6 7) schema.zone_head
-unfolding same_name
-zone_head_is_new = record { free = refl; keys_free = refl; ascii = refl; own = refl; short = refl; few = refl; reals = refl; keys_reals = refl; formed = refl }
-
-pub zone_row_is_new : IsNew (made 7 8) schema.zone_row
-unfolding same_name
-zone_row_is_new = record { free = refl; keys_free = refl; ascii = refl; own = refl; short = refl; few = refl; reals = refl; keys_reals = refl; formed = refl }
-
-pub received_list_is_new : IsNew (made 8 9) schema.received_list
-unfolding same_name
-received_list_is_new = record { free = refl; keys_free = refl; ascii = refl; own = refl; short = refl; few = refl; reals = refl; keys_reals = refl; formed = refl }
-
-pub sysmod_cond_is_new : IsNew bureau_1 schema.sysmod_cond
-unfolding same_name
-sysmod_cond_is_new = record { free = refl; keys_free = refl; ascii = refl; own = refl; short = refl; few = refl; reals = refl; keys_reals = refl; formed = refl }
-
-pub by_member_is_new : IsNewIndex (made 5 5) schema.sysmod_sup by_member
-unfolding same_name
-by_member_is_new = record { free = refl; ascii = refl; table_ascii = refl; own = refl; short = refl; table_short = refl; few = refl; reals = refl; key_reals = refl }
+others_are_new = refl

@@ -27,8 +27,8 @@ use Rattle.sql_tables.specs.Values.{date_value, hold_kind_value, id_value, optio
 use Rattle.sql_writes.specs.Excused.{Takes}
 use Rattle.sql_writes.specs.Room.{are_short, is_short}
 use Rattle.sql_rows.specs.Running.{FailsInside, Ran}
-use Rattle.sql_rows.proofs.AbsentFacts.{unique_hold, unique_last}
-use Rattle.sql_rows.proofs.FittingFacts.{few, kind_low, fits_hold, fits_last_change}
+use Rattle.sql_rows.proofs.AbsentFacts.{unique_by, unique_hold}
+use Rattle.sql_rows.proofs.FittingFacts.{above_passes, few, kind_low, row_fits, up_to_passes}
 use Rattle.sql_writes.proofs.StepFacts.{comes_takes}
 
 -- ---- lengths and numbers
@@ -70,8 +70,9 @@ module _ (old new : State) (text : List ℕ) (result : Result (Unit {0}) Error) 
   last_takes name last a b c is at_a at_b at_c means ran fails some short =
       let given : bound (a ∷ b ∷ c ∷ []) ≡ change_row name last = λ i. bound_value (at_a i) ∷ bound_value (at_b i) ∷ bound_value (at_c i) ∷ [] in
       comes_takes text old new result 2 schema.last_change refl (λ database known. known.numbered.1.1.0) (λ most trees low. low.1.1.0) 3 (change_row name last) (λ stored. list_any (is_of name) stored.changes ≡ false)
-      means refl refl refl refl (fits_last_change (text_of name) last.number last.reply (few name is) (short_enough last.reply short) some)
-      (λ database known none. unique_last database.trees (database.trees 4) name (Int (pos last.number) ∷ Blob last.reply ∷ []) is none)
+      means refl refl refl refl
+      (row_fits schema.last_change (7 ∷ 0 ∷ 300000000 ∷ []) (change_row name last) refl (λ n. refl) (λ n. above_passes last.number some) (few name is, (tt, (short_enough last.reply short, tt))))
+      (λ database known none. unique_by schema.last_change database.trees (database.trees 4) name [] (change_row name last) refl ((is, refl), tt) none)
       (subst (λ row. Ran text row old new result) given ran) (subst (λ row. FailsInside text row old new result) given fails)
 
   pub hold_takes : (hold : Hold) (a b c d e f h k : ValueRef) → owned a ≡ id_value hold.key.sysmod → owned b ≡ hold_kind_value hold.key.kind → owned c ≡ id_value hold.key.reason → owned d ≡ optional_id_value hold.fmid → owned e ≡ optional_id_value hold.class → owned f ≡ date_value hold.dated → owned h ≡ optional_id_value hold.resolver → owned k ≡ texts_value hold.categories
@@ -83,7 +84,7 @@ module _ (old new : State) (text : List ℕ) (result : Result (Unit {0}) Error) 
       let given : bound (a ∷ b ∷ c ∷ d ∷ e ∷ f ∷ h ∷ k ∷ []) ≡ values = λ i. bound_value (at_a i) ∷ bound_value (at_b i) ∷ bound_value (at_c i) ∷ (ap bound_value at_d ∙ bound_optional hold.fmid) i ∷ (ap bound_value at_e ∙ bound_optional hold.class) i ∷ (ap bound_value at_f ∙ bound_date hold.dated) i ∷ (ap bound_value at_h ∙ bound_optional hold.resolver) i ∷ bound_value (at_k i) ∷ [] in
       comes_takes text old new result 5 schema.hold_row refl (λ database known. known.numbered.1.1.1.1.1.0) (λ most trees low. low.1.1.1.1.1.0) 8 values (λ stored. list_any (is_under hold.key) stored.holds ≡ false)
       means refl refl refl refl
-      (fits_hold (text_of hold.key.sysmod) (kind_order hold.key.kind) (text_of hold.key.reason) (optional_text hold.fmid) (optional_text hold.class) (date_number hold.dated) (optional_text hold.resolver) _
-      (few hold.key.sysmod is.sysmod) (kind_low hold.key.kind) (few hold.key.reason is.reason) (optional_few hold.fmid is.fmid) (optional_few hold.class is.class) (optional_few hold.resolver is.resolver) (short_enough _ short))
+      (row_fits schema.hold_row (7 ∷ 0 ∷ 7 ∷ 7 ∷ 7 ∷ 0 ∷ 7 ∷ 300000000 ∷ []) values refl (λ n. refl) (λ n. up_to_passes (kind_order hold.key.kind) 3 (kind_low hold.key.kind))
+      (few hold.key.sysmod is.sysmod, (tt, (few hold.key.reason is.reason, (optional_few hold.fmid is.fmid, (optional_few hold.class is.class, (tt, (optional_few hold.resolver is.resolver, (short_enough _ short, tt)))))))))
       (λ database known none. unique_hold database known hold.key rest is.sysmod is.reason none)
       (subst (λ row. Ran text row old new result) given ran) (subst (λ row. FailsInside text row old new result) given fails)

@@ -1,11 +1,11 @@
 -- No rule of the bureau's tables speaks against a statement that writes sound rows.
 use Rattle.std.proofs.Common.{◌≡◌, ◌≢◌, ℕ, Bool, true, false, List, [], ◌∷◌, Option, Some, None, Err, length, refl, sym, ◌∙◌, ap, subst, inl, inr, arith, zero, suc, ℤ, pos}
-use Rattle.std.specs.Prelude.{IsSome, ◌/◌, nat_lt, not, slice_get}
-use Rattle.std.specs.List.{AllByRecursion}
+use Rattle.std.specs.Prelude.{◌||◌, IsSome, ◌/◌, nat_lt, not, slice_get}
+use Rattle.std.specs.List.{AllByRecursion, list_all}
 use Rattle.std.specs.Float.{NotNan}
 use lib.Ieee.{is_nan}
 use Rattle.std.proofs.lemmas.List.Elements.{All-from_recursion}
-use Rattle.std.proofs.lemmas.Bool.{false≢true}
+use Rattle.std.proofs.lemmas.Bool.{and_parts, false≢true}
 use Rattle.std.proofs.lemmas.List.{length-append}
 use Rattle.sqlite.specs.Command.TheVariants.{Insert}
 use Rattle.sqlite.specs.Does.{Concludes, Does, OnRows}
@@ -29,11 +29,12 @@ use Rattle.sqlite_rules.specs.declared.error.Refusal.TheVariants.{BadReference, 
 use Rattle.sqlite_rules.specs.declared.error.Rowids.{Rowids}
 use Rattle.sqlite_rules.specs.declared.error.Rowids.TheVariants.{Chosen, Given}
 use Rattle.sqlite_rules.proofs.ListLemmas.{all_has}
-use Rattle.sqlite_schema.specs.Rules.{Keeps, Refers, passes, table_reals}
+use Rattle.sqlite_schema.specs.Rules.{Keeps, Refers, has_parent, is_among, passes, table_reals}
 use Rattle.sqlite_schema.specs.declared.schema.Among.TheVariants.{All}
 use Rattle.sqlite_schema.specs.declared.schema.Constraint.TheVariants.{Check, Datatype, ForeignKey, NotNull, PrimaryKey, Unique}
 use Rattle.sqlite_schema.specs.declared.schema.Index.{Index}
 use Rattle.sqlite_schema.specs.declared.schema.Keys.{Keys}
+use Rattle.sqlite_schema.specs.declared.schema.Reference.{Reference}
 use Rattle.sqlite_schema.specs.declared.schema.Keys.TheVariants.{Enforced}
 use Rattle.sqlite_typing.specs.Types.{accepts_terms}
 use Rattle.sqlite_trees.specs.Tree.{with_tree}
@@ -46,7 +47,9 @@ use Rattle.lemmas.proofs.TestFacts.{or_true}
 use Rattle.sql_texts.specs.Reads.{from_table}
 use Rattle.sql_texts.specs.Schema.{bureau, bureau_version, indexes}
 use Rattle.sql_texts.specs.Writes.{delete_of}
-use Rattle.sql_rows.proofs.FittingFacts.{no_value, untyped, whole_number}
+use Rattle.sql_rows.specs.Fitting.{has_none}
+use Rattle.sql_rows.proofs.AbsentFacts.{every}
+use Rattle.sql_rows.proofs.FittingFacts.{no_value, none_listed, untyped, whole_number}
 use Rattle.sql_writes.proofs.RefusalFacts.{both, gave, halts}
 use Rattle.sql_rows.proofs.StatementFacts.{cast_int, cast_null, on_table}
 
@@ -64,12 +67,18 @@ edit_stops schema keys db edit why none sound small (inr (inr went)) = settled w
     settled (suc n) h = absurd (omega (arith, ap length h.2, length-append h.0 (h.1 ∷ [])))
 
 -- no table of the bureau has a foreign key
-all_hold : {X : Type 0} (xs : List X) → AllByRecursion (λ x. ◌≡◌ {A = Bool} true true) xs
-all_hold [] = tt
-all_hold (x ∷ xs) = (refl, all_hold xs)
+abbrev finds_parent : Trees → Row → Reference → Bool
+finds_parent db row reference = not (is_among All reference) || has_parent bureau.tables db row reference
+
+none_refer : (db : Trees) (all : List Table) → list_all (λ (table : Table). has_none table.references) all ≡ true
+    → AllByRecursion (λ (table : Table). AllByRecursion (λ row. list_all (finds_parent db row) table.references ≡ true) (db table.tree)) all
+none_refer db [] none = tt
+none_refer db (table ∷ all) none =
+    let parts = and_parts (has_none table.references) (list_all (λ (other : Table). has_none other.references) all) none in
+    (every (λ row. list_all (finds_parent db row) table.references ≡ true) (λ row. ap (list_all (finds_parent db row)) (none_listed table.references parts.0)) (db table.tree), none_refer db all parts.1)
 
 refers : (db : Trees) → Refers All bureau db
-refers db = (all_hold (db 0), (all_hold (db 1), (all_hold (db 4), (all_hold (db 6), (all_hold (db 8), (all_hold (db 11), (all_hold (db 13), (all_hold (db 15), (all_hold (db 17), (all_hold (db 19), tt))))))))))
+refers db = none_refer db bureau.tables refl
 
 pub concluded : {P : Type 0} (task : Task) (old : State) (written : Written) (stop : Option Error) → task.schema ≡ bureau → Concludes task (mode_of old) None written (Err stop) → P
 concluded task old written stop ours h =

@@ -30,16 +30,14 @@ impl Asked<Id> for Received {
 
 impl Several<Id> for Received {
     ghost use Rattle.std.specs.Prelude.{◌≡◌, ◌≤◌, ◌∷◌, [], false, length, refl, true};
-    ghost use Rattle.mcs_reader.specs.Id.{text_of};
     ghost use Rattle.sqlite_value.specs.declared.value.Value.TheVariants.{Text};
     ghost use Rattle.sql_texts.specs.Schema as schema;
     ghost use Rattle.sql_tables.specs.Stored.{is_of};
     ghost use Rattle.sql_tables.specs.Values.{id_value};
     ghost use Rattle.sql_writes.specs.Many.{AreGiven};
-    ghost use Rattle.sql_rows.proofs.AbsentFacts.{unique_received};
+    ghost use Rattle.sql_rows.proofs.AbsentFacts.{unique_by};
     ghost use Rattle.sql_rows.proofs.CountFacts.{one_only, room_of_one};
-    ghost use Rattle.sql_rows.proofs.FittingFacts.{few, fits_received};
-    ghost use Rattle.sql_rows.proofs.StatementFacts.{cast_null};
+    ghost use Rattle.sql_rows.proofs.FittingFacts.{few, row_fits, stays};
 
     type Item = Vec<u8>;
 
@@ -78,13 +76,13 @@ impl Several<Id> for Received {
         (λ joined. id_value client ∷ Text joined.items ∷ []))
         (λ a. refl) all is };
 
-    ghost cast = { λ client joined i. cast_null i ∷ id_value client ∷ Text joined.items ∷ [] };
+    ghost cast = { λ client joined. stays schema.received_list (id_value client ∷ Text joined.items ∷ []) refl };
 
-    ghost fits = { λ client joined is here short. fits_received (text_of client) joined.items
-        (few client is) short };
+    ghost fits = { λ client joined is here short. row_fits schema.received_list (7 ∷ 300000000 ∷ [])
+        (id_value client ∷ Text joined.items ∷ []) refl (λ n. refl) (λ n. refl) (few client is, (short, tt)) };
 
-    ghost unique = { λ db others client joined is here none. unique_received db others client (Text joined.items ∷ [])
-        is none };
+    ghost unique = { λ db others client joined is here none. unique_by schema.received_list db others
+        client [] (id_value client ∷ Text joined.items ∷ []) refl ((is, refl), tt) none };
 
     ghost referred = { elim [ true ↦ refl | false ↦ refl ] };
 }

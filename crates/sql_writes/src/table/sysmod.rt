@@ -43,18 +43,16 @@ impl Bare for Sysmods {
 }
 
 impl Several<All> for Sysmods {
-    ghost use Rattle.std.specs.Prelude.{◌≡◌, ◌⊎◌, ◌∷◌, [], drop, false, pos, refl, true};
-    ghost use Rattle.mcs_reader.specs.Id.{IsId, text_of};
-    ghost use Rattle.sqlite_value.specs.declared.value.Value.TheVariants.{Text};
+    ghost use Rattle.std.specs.Prelude.{◌≡◌, ◌⊎◌, ◌∷◌, [], false, refl, true};
+    ghost use Rattle.mcs_reader.specs.Id.{IsId};
     ghost use Rattle.sql_texts.specs.Schema as schema;
     ghost use Rattle.sql_tables.specs.InTrees.{columns_of};
-    ghost use Rattle.sql_tables.specs.Values.{id_value, sysmod_kind_order};
+    ghost use Rattle.sql_tables.specs.Values.{sysmod_kind_order};
     ghost use Rattle.sql_writes.specs.Many.{AreGiven};
     ghost use Rattle.sql_writes.specs.Records.{IsShortRow, has_id_of, values_of};
-    ghost use Rattle.sql_rows.proofs.AbsentFacts.{none_of_text, unique_sysmod};
+    ghost use Rattle.sql_rows.proofs.AbsentFacts.{none_of_text, unique_by};
     ghost use Rattle.sql_rows.proofs.CountFacts.{one_or_eight, room_of, up_to_the_eighth};
-    ghost use Rattle.sql_rows.proofs.FittingFacts.{few, fits_sysmod, sysmod_kind_low};
-    ghost use Rattle.sql_rows.proofs.StatementFacts.{cast_int, cast_null};
+    ghost use Rattle.sql_rows.proofs.FittingFacts.{few, row_fits, stays, sysmod_kind_low, up_to_passes};
 
     type Item = SysmodRow;
 
@@ -91,14 +89,15 @@ impl Several<All> for Sysmods {
     ghost given = { λ key rows is. one_or_eight (AreGiven schema.sysmod 0 5 [] values_of values_of)
         (λ a. refl) (λ a b c d e f g h. refl) rows is };
 
-    ghost cast = { λ key row i. cast_null i ∷ id_value row.id ∷ cast_int (pos (sysmod_kind_order row.kind)) i
-        ∷ Text row.fmids.items ∷ Text row.pre.items ∷ Text row.req.items ∷ [] };
+    ghost cast = { λ key row. stays schema.sysmod (values_of row) refl };
 
-    ghost fits = { λ key row is here short. fits_sysmod (text_of row.id) (sysmod_kind_order row.kind) row.fmids.items
-        row.pre.items row.req.items (few row.id here) (sysmod_kind_low row.kind) short.0 short.1.0 short.1.1 };
+    ghost fits = { λ key row is here short. row_fits schema.sysmod
+        (7 ∷ 0 ∷ 300000000 ∷ 300000000 ∷ 300000000 ∷ []) (values_of row) refl (λ n. refl)
+        (λ n. up_to_passes (sysmod_kind_order row.kind) 3 (sysmod_kind_low row.kind))
+        (few row.id here, (tt, (short.0, (short.1.0, (short.1.1, tt))))) };
 
-    ghost unique = { λ db others key row is here none. unique_sysmod db others row.id (drop 1 (values_of row)) here
-        (none_of_text row.id here (columns_of others) none) };
+    ghost unique = { λ db others key row is here none. unique_by schema.sysmod db others
+        row.id [] (values_of row) refl ((here, refl), tt) (none_of_text row.id here (columns_of others) none) };
 
     ghost referred = { elim [ true ↦ refl | false ↦ refl ] };
 }

@@ -51,16 +51,15 @@ impl Leaves<Id> for Conds {
 
 impl Several<Id> for Conds {
     ghost use Rattle.std.specs.Prelude.{◌≡◌, ◌∷◌, [], false, refl, true};
-    ghost use Rattle.mcs_reader.specs.Id.{IsId, text_of};
+    ghost use Rattle.mcs_reader.specs.Id.{IsId};
     ghost use Rattle.sql_tables.specs.Rows as spec;
     ghost use Rattle.sql_tables.specs.Values.{id_value};
     ghost use Rattle.sql_rows.specs.Parts.{is_of_three};
     ghost use Rattle.sql_texts.specs.Schema as schema;
     ghost use Rattle.sql_writes.specs.Many.{AreGiven};
-    ghost use Rattle.sql_rows.proofs.AbsentFacts.{unique_cond};
+    ghost use Rattle.sql_rows.proofs.AbsentFacts.{unique_by};
     ghost use Rattle.sql_rows.proofs.CountFacts.{one_only, room_of_one};
-    ghost use Rattle.sql_rows.proofs.FittingFacts.{few, fits_cond};
-    ghost use Rattle.sql_rows.proofs.StatementFacts.{cast_null};
+    ghost use Rattle.sql_rows.proofs.FittingFacts.{few, row_fits, stays};
 
     type Item = CondNeed;
 
@@ -99,13 +98,14 @@ impl Several<Id> for Conds {
         (spec.cond_row id))
         (λ a. refl) conds is };
 
-    ghost cast = { λ id cond i. cast_null i ∷ spec.cond_row id cond };
+    ghost cast = { λ id cond. stays schema.sysmod_cond (spec.cond_row id cond) refl };
 
-    ghost fits = { λ id cond is here short. fits_cond (text_of id) (text_of cond.fmid) (text_of cond.need) (few id is)
-        (few cond.fmid here.0) (few cond.need here.1) };
+    ghost fits = { λ id cond is here short. row_fits schema.sysmod_cond (7 ∷ 7 ∷ 7 ∷ []) (spec.cond_row id cond) refl
+        (λ n. refl) (λ n. refl) (few id is, (few cond.fmid here.0, (few cond.need here.1, tt))) };
 
-    ghost unique = { λ db others id cond is here none. unique_cond db others id cond.fmid cond.need [] is here.0 here.1
-        none };
+    ghost unique = { λ db others id cond is here none. unique_by schema.sysmod_cond db others
+        id (cond.fmid ∷ cond.need ∷ []) (spec.cond_row id cond) refl
+        ((is, refl), ((here.0, refl), ((here.1, refl), tt))) none };
 
     ghost referred = { elim [ true ↦ refl | false ↦ refl ] };
 }

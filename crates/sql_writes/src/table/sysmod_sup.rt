@@ -44,15 +44,14 @@ impl Bare for Sups {
 
 impl Several<All> for Sups {
     ghost use Rattle.std.specs.Prelude.{◌<◌, ◌≤◌, ◌∷◌, [], false, refl, true};
-    ghost use Rattle.mcs_reader.specs.Id.{IsId, text_of};
+    ghost use Rattle.mcs_reader.specs.Id.{IsId};
     ghost use Rattle.sql_tables.specs.Stored.{is_of_both};
     ghost use Rattle.sql_writes.specs.Records.{member_values};
     ghost use Rattle.sql_texts.specs.Schema as schema;
     ghost use Rattle.sql_writes.specs.Many.{AreGiven};
-    ghost use Rattle.sql_rows.proofs.AbsentFacts.{unique_sup};
+    ghost use Rattle.sql_rows.proofs.AbsentFacts.{unique_by};
     ghost use Rattle.sql_rows.proofs.CountFacts.{room_of, up_to_eight};
-    ghost use Rattle.sql_rows.proofs.FittingFacts.{few, fits_sup};
-    ghost use Rattle.sql_rows.proofs.StatementFacts.{cast_null};
+    ghost use Rattle.sql_rows.proofs.FittingFacts.{few, row_fits, stays};
 
     type Item = SupRow;
 
@@ -90,12 +89,13 @@ impl Several<All> for Sups {
         refl (λ a. refl) (λ a b. refl) (λ a b c. refl) (λ a b c d. refl) (λ a b c d e. refl)
         (λ a b c d e f. refl) (λ a b c d e f g. refl) (λ a b c d e f g h. refl) rows is.1 };
 
-    ghost cast = { λ key row i. cast_null i ∷ member_values row };
+    ghost cast = { λ key row. stays schema.sysmod_sup (member_values row) refl };
 
-    ghost fits = { λ key row is here short. fits_sup (text_of row.id) (text_of row.member) (few row.id here.0)
-        (few row.member here.1) };
+    ghost fits = { λ key row is here short. row_fits schema.sysmod_sup (7 ∷ 7 ∷ []) (member_values row) refl (λ n. refl)
+        (λ n. refl) (few row.id here.0, (few row.member here.1, tt)) };
 
-    ghost unique = { λ db others key row is here none. unique_sup db others row.id row.member [] here.0 here.1 none };
+    ghost unique = { λ db others key row is here none. unique_by schema.sysmod_sup db others
+        row.id (row.member ∷ []) (member_values row) refl ((here.0, refl), ((here.1, refl), tt)) none };
 
     ghost referred = { elim [ true ↦ refl | false ↦ refl ] };
 }

@@ -40,16 +40,14 @@ impl Asked<Zone> for Heads {
 
 impl Several<Zone> for Heads {
     ghost use Rattle.std.specs.Prelude.{◌≡◌, ◌≤◌, ◌∷◌, [], false, length, refl, true};
-    ghost use Rattle.mcs_reader.specs.Id.{text_of};
     ghost use Rattle.sqlite_value.specs.declared.value.Value.TheVariants.{Text};
     ghost use Rattle.sql_texts.specs.Schema as schema;
     ghost use Rattle.sql_tables.specs.Stored.{is_of_both};
     ghost use Rattle.sql_tables.specs.Values.{id_value};
     ghost use Rattle.sql_writes.specs.Many.{AreGiven};
-    ghost use Rattle.sql_rows.proofs.AbsentFacts.{unique_head};
+    ghost use Rattle.sql_rows.proofs.AbsentFacts.{unique_by};
     ghost use Rattle.sql_rows.proofs.CountFacts.{one_only, room_of_one};
-    ghost use Rattle.sql_rows.proofs.FittingFacts.{few, fits_head};
-    ghost use Rattle.sql_rows.proofs.StatementFacts.{cast_null};
+    ghost use Rattle.sql_rows.proofs.FittingFacts.{few, row_fits, stays};
 
     type Item = Vec<u8>;
 
@@ -88,13 +86,16 @@ impl Several<Zone> for Heads {
         (λ joined. id_value key.client ∷ id_value key.zone ∷ Text joined.items ∷ []))
         (λ a. refl) all is };
 
-    ghost cast = { λ key joined i. cast_null i ∷ id_value key.client ∷ id_value key.zone ∷ Text joined.items ∷ [] };
+    ghost cast = { λ key joined. stays schema.zone_head
+        (id_value key.client ∷ id_value key.zone ∷ Text joined.items ∷ []) refl };
 
-    ghost fits = { λ key joined is here short. fits_head (text_of key.client) (text_of key.zone) joined.items
-        (few key.client is.0) (few key.zone is.1) short };
+    ghost fits = { λ key joined is here short. row_fits schema.zone_head (7 ∷ 7 ∷ 300000000 ∷ [])
+        (id_value key.client ∷ id_value key.zone ∷ Text joined.items ∷ []) refl (λ n. refl) (λ n. refl)
+        (few key.client is.0, (few key.zone is.1, (short, tt))) };
 
-    ghost unique = { λ db others key joined is here none. unique_head db others key.client key.zone (Text joined.items ∷ [])
-        is.0 is.1 none };
+    ghost unique = { λ db others key joined is here none. unique_by schema.zone_head db others
+        key.client (key.zone ∷ []) (id_value key.client ∷ id_value key.zone ∷ Text joined.items ∷ []) refl
+        ((is.0, refl), ((is.1, refl), tt)) none };
 
     ghost referred = { elim [ true ↦ refl | false ↦ refl ] };
 }

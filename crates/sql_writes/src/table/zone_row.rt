@@ -37,17 +37,16 @@ impl Leaves<Zone> for ZoneRows {
 }
 
 impl Several<Zone> for ZoneRows {
-    ghost use Rattle.std.specs.Prelude.{◌<◌, ◌≤◌, ◌∷◌, [], false, pos, refl, true};
-    ghost use Rattle.mcs_reader.specs.Id.{IsId, text_of};
+    ghost use Rattle.std.specs.Prelude.{◌<◌, ◌≤◌, ◌∷◌, [], false, refl, true};
+    ghost use Rattle.mcs_reader.specs.Id.{IsId};
     ghost use Rattle.sql_tables.specs.Rows as spec;
     ghost use Rattle.sql_tables.specs.Values.{id_value, state_order, state_value};
     ghost use Rattle.sql_rows.specs.Parts.{is_of_three};
     ghost use Rattle.sql_texts.specs.Schema as schema;
     ghost use Rattle.sql_writes.specs.Many.{AreGiven};
-    ghost use Rattle.sql_rows.proofs.AbsentFacts.{unique_zone_row};
+    ghost use Rattle.sql_rows.proofs.AbsentFacts.{unique_by};
     ghost use Rattle.sql_rows.proofs.CountFacts.{room_of, up_to_eight};
-    ghost use Rattle.sql_rows.proofs.FittingFacts.{few, fits_zone_row, state_low};
-    ghost use Rattle.sql_rows.proofs.StatementFacts.{cast_int, cast_null};
+    ghost use Rattle.sql_rows.proofs.FittingFacts.{few, row_fits, state_low, stays, up_to_passes};
 
     type Item = ZoneRow;
 
@@ -87,14 +86,16 @@ impl Several<Zone> for ZoneRows {
         refl (λ a. refl) (λ a b. refl) (λ a b c. refl) (λ a b c d. refl) (λ a b c d e. refl)
         (λ a b c d e f. refl) (λ a b c d e f g. refl) (λ a b c d e f g h. refl) rows is.1 };
 
-    ghost cast = { λ key row i. cast_null i ∷ id_value key.client ∷ id_value key.zone ∷ id_value row.sysmod
-        ∷ cast_int (pos (state_order row.state)) i ∷ [] };
+    ghost cast = { λ key row. stays schema.zone_row (spec.zone_row key.client key.zone row) refl };
 
-    ghost fits = { λ key row is here short. fits_zone_row (text_of key.client) (text_of key.zone) (text_of row.sysmod)
-        (state_order row.state) (few key.client is.0) (few key.zone is.1) (few row.sysmod here) (state_low row.state) };
+    ghost fits = { λ key row is here short. row_fits schema.zone_row (7 ∷ 7 ∷ 7 ∷ 0 ∷ [])
+        (spec.zone_row key.client key.zone row) refl (λ n. refl)
+        (λ n. up_to_passes (state_order row.state) 2 (state_low row.state))
+        (few key.client is.0, (few key.zone is.1, (few row.sysmod here, (tt, tt)))) };
 
-    ghost unique = { λ db others key row is here none. unique_zone_row db others key.client key.zone row.sysmod
-        (state_value row.state ∷ []) is.0 is.1 here none };
+    ghost unique = { λ db others key row is here none. unique_by schema.zone_row db others
+        key.client (key.zone ∷ row.sysmod ∷ []) (spec.zone_row key.client key.zone row) refl
+        ((is.0, refl), ((is.1, refl), ((here, refl), tt))) none };
 
     ghost referred = { elim [ true ↦ refl | false ↦ refl ] };
 }
