@@ -1,6 +1,6 @@
 -- No two rows of a table have one key, by the rules of the database.
 use Rattle.std.proofs.Common.{◌≡◌, ◌≢◌, ◌<◌, ◌&&◌, ℕ, suc, arith, true, false, List, [], ◌∷◌, drop, take, refl, sym, ◌∙◌, ap, ap₂, subst, IsTrue, Some, pos}
-use Rattle.std.specs.List.{AllByRecursion}
+use Rattle.std.specs.List.{AllByRecursion, range_with_len}
 use Rattle.std.specs.Ordering.{is_eq, is_ne}
 use Rattle.std.specs.declared.cmp.Ordering.TheVariants.{Less}
 use Rattle.std.proofs.lemmas.Bool.{or_parts}
@@ -71,30 +71,36 @@ same_at k a b at within same =
 equal_at : (a b : Value) → IsPlain a → a ≡ b → equal Binary a b ≡ true
 equal_at a b plain same = subst (λ v. equal Binary a v ≡ true) same plain
 
-pub agree_one : (a b : Row) → IsPlain (column a 1) → take 1 (drop 1 a) ≡ take 1 (drop 1 b) → agree plain (1 ∷ []) a (1 ∷ []) b ≡ true
-unfolding first_key
-agree_one a b first same = let e = equal_at (column a 1) (column b 1) first (same_at 1 a b 0 (omega arith) same) in ap (λ x. x && true) e
+-- so many first columns of a row are plain
+abbrev pub HavePlain : ℕ → Row → Type 0
+HavePlain many row = AllByRecursion (λ at. IsPlain (column row at)) (range_with_len 0 many)
 
-pub agree_two : (a b : Row) → IsPlain (column a 1) → IsPlain (column a 2) → take 2 (drop 1 a) ≡ take 2 (drop 1 b) → agree plain (1 ∷ 2 ∷ []) a (1 ∷ 2 ∷ []) b ≡ true
-unfolding first_key
-agree_two a b first second same =
-    let e = equal_at (column a 1) (column b 1) first (same_at 2 a b 0 (omega arith) same) in
-    let f = equal_at (column a 2) (column b 2) second (same_at 2 a b 1 (omega arith) same) in ap₂ (λ x y. x && (y && true)) e f
+-- a column of a row, after the rowid, is plain, and equal to that of another row
+equal_after : (k : ℕ) (a b : Row) (at : ℕ) → at < k → IsPlain (column (drop 1 a) at) → take k (drop 1 a) ≡ take k (drop 1 b) → equal Binary (column a (suc at)) (column b (suc at)) ≡ true
+equal_after k a b at within is same = equal_at (column a (suc at)) (column b (suc at)) (subst IsPlain (column_after a at) is) (same_at k a b at within same)
 
-pub agree_three : (a b : Row) → IsPlain (column a 1) → IsPlain (column a 2) → IsPlain (column a 3) → take 3 (drop 1 a) ≡ take 3 (drop 1 b)
-    → agree plain (1 ∷ 2 ∷ 3 ∷ []) a (1 ∷ 2 ∷ 3 ∷ []) b ≡ true
+pub agree_one : (a b : Row) → HavePlain 1 (drop 1 a) → take 1 (drop 1 a) ≡ take 1 (drop 1 b) → agree plain (1 ∷ []) a (1 ∷ []) b ≡ true
 unfolding first_key
-agree_three a b first second third same =
-    let e = equal_at (column a 1) (column b 1) first (same_at 3 a b 0 (omega arith) same) in
-    let f = equal_at (column a 2) (column b 2) second (same_at 3 a b 1 (omega arith) same) in
-    let g = equal_at (column a 3) (column b 3) third (same_at 3 a b 2 (omega arith) same) in ap₂ (λ x y. x && y) e (ap₂ (λ x y. x && (y && true)) f g)
+agree_one a b is same = let e = equal_after 1 a b 0 (omega arith) is.0 same in ap (λ x. x && true) e
+
+pub agree_two : (a b : Row) → HavePlain 2 (drop 1 a) → take 2 (drop 1 a) ≡ take 2 (drop 1 b) → agree plain (1 ∷ 2 ∷ []) a (1 ∷ 2 ∷ []) b ≡ true
+unfolding first_key
+agree_two a b is same =
+    let e = equal_after 2 a b 0 (omega arith) is.0 same in
+    let f = equal_after 2 a b 1 (omega arith) is.1.0 same in ap₂ (λ x y. x && (y && true)) e f
+
+pub agree_three : (a b : Row) → HavePlain 3 (drop 1 a) → take 3 (drop 1 a) ≡ take 3 (drop 1 b) → agree plain (1 ∷ 2 ∷ 3 ∷ []) a (1 ∷ 2 ∷ 3 ∷ []) b ≡ true
+unfolding first_key
+agree_three a b is same =
+    let e = equal_after 3 a b 0 (omega arith) is.0 same in
+    let f = equal_after 3 a b 1 (omega arith) is.1.0 same in
+    let g = equal_after 3 a b 2 (omega arith) is.1.1.0 same in ap₂ (λ x y. x && y) e (ap₂ (λ x y. x && (y && true)) f g)
 
 -- ---- rows that clash with none
 
-module _ (k : ℕ) (places : List ℕ) (IsKeyed : Row → Type 0)
-    (agrees : (a b : Row) → IsKeyed a → take k (drop 1 a) ≡ take k (drop 1 b) → agree plain places a places b ≡ true) where
+module _ (k : ℕ) (places : List ℕ) (agrees : (a b : Row) → HavePlain k (drop 1 a) → take k (drop 1 a) ≡ take k (drop 1 b) → agree plain places a places b ≡ true) where
   -- a row has another key than each later one
-  apart : (row : Row) (later rows : List Row) → IsKeyed row → IsTrue (is_int (rowid row)) → AllByRecursion (λ b. value_cmp (rowid row) (rowid b) ≡ Less) later
+  apart : (row : Row) (later rows : List Row) → HavePlain k (drop 1 row) → IsTrue (is_int (rowid row)) → AllByRecursion (λ b. value_cmp (rowid row) (rowid b) ≡ Less) later
       → AllByRecursion (λ b. IsTrue (is_int (rowid b))) later → AllByRecursion (λ b. clashes plain places (row ∷ rows) b ≡ false) later
       → AllByRecursion (λ other. take k (drop 1 row) ≢ take k other) (columns_of later)
   apart row [] rows keyed int rising ints free = tt
@@ -112,7 +118,7 @@ module _ (k : ℕ) (places : List ℕ) (IsKeyed : Row → Type 0)
   fewer row rows (b ∷ others) free =
       ((or_parts (agree plain places row places b && differ (rowid row) (rowid b)) (clashes plain places rows b) free.0).1, fewer row rows others free.1)
 
-  pub own_keys : (rows : List Row) → IsNumbered rows → AllByRecursion IsKeyed rows → AllByRecursion (λ b. clashes plain places rows b ≡ false) rows → HaveOwnKeys k (columns_of rows)
+  pub own_keys : (rows : List Row) → IsNumbered rows → AllByRecursion (HavePlain k) (columns_of rows) → AllByRecursion (λ b. clashes plain places rows b ≡ false) rows → HaveOwnKeys k (columns_of rows)
   own_keys [] numbered keyed free = tt
   own_keys (row ∷ rows) numbered keyed free = (
     apart row rows rows keyed.0 numbered.1.0 numbered.0.0 numbered.1.1 free.1,

@@ -7,3 +7,4 @@ pub mod SayFacts
 pub mod ScanFacts
 pub mod TallyFacts
 pub mod TypedFacts
+pub mod VariantFacts

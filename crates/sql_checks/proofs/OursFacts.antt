@@ -1,6 +1,6 @@
 -- A database with the bureau's tables, whose rows keep to them, is the bureau's own.
-use Rattle.std.proofs.Common.{◌≡◌, ◌&&◌, ℕ, suc, Bool, true, false, List, [], ◌∷◌, length, drop, refl, ◌∙◌, ap, subst, IsTrue, None, Some, pos}
-use Rattle.std.specs.Prelude.{codes, map, not}
+use Rattle.std.proofs.Common.{◌≡◌, ◌&&◌, ℕ, Bool, true, false, List, [], ◌∷◌, get_or, length, drop, take, refl, sym, ◌∙◌, ap, subst, IsTrue, None, Some, pos}
+use Rattle.std.specs.Prelude.{codes, map, not, slice_get}
 use Rattle.std.specs.List.{AllByRecursion, list_all}
 use Rattle.std.specs.FinMap.{int_cmp-IsAntisymmetric}
 use Rattle.std.specs.Ordering.{int_cmp, is_eq}
@@ -12,8 +12,9 @@ use Rattle.sqlite.specs.Table.{Table}
 use Rattle.sqlite.specs.Tree.{Trees, rowid}
 use Rattle.sqlite.specs.View.{is_int}
 use Rattle.sqlite_catalog.specs.Listing.{IsSound}
-use Rattle.sqlite_schema.specs.Rules.{are_present, are_typed, clashes, guards, has_computed, passes_checks, suits}
+use Rattle.sqlite_schema.specs.Rules.{agree, are_present, are_typed, clashes, guards, has_computed, passes_checks, suits}
 use Rattle.sqlite_schema.specs.declared.schema.Column.{Column}
+use Rattle.sqlite_schema.specs.declared.schema.Index.{Index}
 use Rattle.sqlite_schema.specs.declared.schema.Constraint.TheVariants.{Check, Datatype, NotNull, Unique}
 use Rattle.sqlite_sql.specs.Ops.{binary, from_truth, is_false, is_null}
 use Rattle.sqlite_sql.specs.declared.ops.BinaryOp.TheVariants.{Compare}
@@ -24,26 +25,31 @@ use Rattle.sqlite_value.specs.Keys.{plain}
 use Rattle.sqlite_value.specs.Order.{Row, column}
 use Rattle.sqlite_value.specs.declared.value.Value.{Value}
 use Rattle.sqlite_value.specs.declared.value.Value.TheVariants.{Null, Int, Real, Text, Blob}
-use Rattle.sql_state.specs.Numbered.{AreNumbered}
+use Rattle.sql_state.specs.Numbered.{AreNumbered, IsNumbered}
 use Rattle.sql_state.specs.Ours.{IsOurs, held_by, version_rows}
-use Rattle.sql_tables.proofs.TreeFacts.{column_after}
 use Rattle.sql_tables.specs.InTrees.{columns_of, stored_in}
-use Rattle.sql_tables.specs.Whole.{HaveOwnKeys, IsWhole}
+use Rattle.sql_tables.specs.Fit.{IsHold, IsRecord}
+use Rattle.sql_tables.specs.Rows.{hold_row, sysmod_row}
+use Rattle.sql_tables.specs.Values.{hold_kind_value, id_value}
+use Rattle.sql_tables.specs.Whole.{AreRowsOf, HaveOwnKeys, IsHead, IsWhole, IsZoneSysmod, row_of_head, row_of_zone_sysmod}
 use Rattle.sql_texts.specs.Found.{shown}
 use Rattle.sql_texts.specs.Schema as made
 use Rattle.sql_texts.specs.Schema.{bureau, tables}
+use Rattle.sql_rows.proofs.TableFacts.{at_index}
 use Rattle.sql_reads.proofs.LengthFacts.{all_two}
-use Rattle.sql_checks.specs.Kept.{AreKept, IsHeadRow, IsHoldRow, IsSysmodRow, IsZoneRow}
+use Rattle.sql_checks.specs.Kept.{AreKept, table_of}
+use Rattle.sql_checks.specs.declared.table.StoreTable.{StoreTable}
 use Rattle.sql_checks.specs.declared.table.StoreTable.TheVariants.{Caller, Sysmod, SysmodSup, SysmodCond, HoldRow, ZoneHead, ZoneRow}
-use Rattle.sql_checks.proofs.KeyFacts.{IsPlain, agree_one, agree_three, agree_two, own_keys, plain_id, plain_kind}
-use Rattle.sql_checks.proofs.RowFacts.{caller_of, condition_of, head_of, hold_of, member_of, record_of, zone_sysmod_of}
+use Rattle.sql_checks.proofs.KeyFacts.{HavePlain, agree_one, agree_three, agree_two, own_keys, plain_id, plain_kind}
+use Rattle.sql_checks.proofs.RowFacts.{IsFull, caller_of, condition_of, head_of, hold_of, member_of, record_of, zone_sysmod_of}
 use Rattle.sql_checks.proofs.TypedFacts.{AreRequired, full}
 
 -- ---- all of some rows
 
-later : (P : Row → Type 0) (rows : List Row) → AllByRecursion P (columns_of rows) → AllByRecursion (λ row. P (drop 1 row)) rows
-later P [] all = tt
-later P (row ∷ rows) all = (all.0, later P rows all.1)
+-- what holds of each row of something fit holds of these rows
+rows_so : {X : Type 0} (row_of : X → Row) (Fits : X → Type 0) (P : Row → Type 0) → ((x : X) → P (row_of x)) → (rows : List Row) → AreRowsOf row_of Fits rows → AllByRecursion P rows
+rows_so row_of Fits P each [] are = tt
+rows_so row_of Fits P each (row ∷ rows) are = (subst P (sym are.0.2) (each are.0.0), rows_so row_of Fits P each rows are.1)
 
 -- ---- what the rules of a table say of its rows
 
@@ -104,6 +110,27 @@ version_is (row ∷ []) ints typed checks h =
     first_of (r ∷ rs) = r
 version_is (row ∷ other ∷ rows) ints typed checks h = cc
 
+-- ---- one of the tables, and one of the indexes
+
+abbrev index_at : ℕ → Index
+index_at place = get_or made.indexes place made.by_member
+
+-- The rows of a table clash with none by an index of it.
+module _ (rows : List Row) (t : Table) (place : ℕ) (at : slice_get made.indexes place ≡ Some (index_at place))
+    (guarded : guards (index_at place) t ≡ true) (ascends : (index_at place).order ≡ plain) where
+  free : (later : List Row) → AllByRecursion (λ row. list_all (λ i. not (guards i t && clashes i.order i.columns rows row)) made.indexes ≡ true) later
+      → AllByRecursion (λ row. clashes plain (index_at place).columns rows row ≡ false) later
+  free [] all = tt
+  free (row ∷ later) all =
+      let passed =
+      at_index (λ (i : Index). not (guards i t && clashes i.order i.columns rows row) ≡ true) made.indexes place (index_at place) at
+      (all_listed (λ (i : Index). not (guards i t && clashes i.order i.columns rows row)) made.indexes all.0) in (
+        not-true (clashes plain (index_at place).columns rows row)
+            (subst (λ order. not (clashes order (index_at place).columns rows row) ≡ true) ascends
+            (subst (λ b. not (b && clashes (index_at place).order (index_at place).columns rows row) ≡ true) guarded passed)),
+        free later all.1,
+      )
+
 module _ (trees : Trees) (sound : IsSound bureau trees) (numbered : AreNumbered trees) (kept : AreKept (stored_in trees)) where
   typed : AllByRecursion (λ (t : Table). AllByRecursion (λ row. (are_typed t.key 0 t.columns (drop 1 row) && has_computed t row) ≡ true) (trees t.tree)) tables
   typed = sound.obeys.rules Datatype
@@ -111,126 +138,79 @@ module _ (trees : Trees) (sound : IsSound bureau trees) (numbered : AreNumbered 
   present : AllByRecursion (λ (t : Table). AllByRecursion (λ row. are_present t.key 0 t.columns row ≡ true) (trees t.tree)) tables
   present = sound.obeys.rules NotNull
 
-  -- each table's rows have all columns
-  full_callers : AllByRecursion (λ row. length row ≡ 2) (columns_of (trees 1))
-  full_callers = full_rows made.caller.columns (refl, (refl, tt)) (has_computed made.caller) (trees 1) typed.1.0 present.1.0
-
-  full_sysmods : AllByRecursion (λ row. length row ≡ 5) (columns_of (trees 6))
-  full_sysmods = full_rows made.sysmod.columns (refl, (refl, (refl, (refl, (refl, tt))))) (has_computed made.sysmod) (trees 6) typed.1.1.1.0 present.1.1.1.0
-
-  full_sups : AllByRecursion (λ row. length row ≡ 2) (columns_of (trees 8))
-  full_sups = full_rows made.sysmod_sup.columns (refl, (refl, tt)) (has_computed made.sysmod_sup) (trees 8) typed.1.1.1.1.0 present.1.1.1.1.0
-
-  full_holds : AllByRecursion (λ row. length row ≡ 8) (columns_of (trees 11))
-  full_holds = full_rows made.hold_row.columns (refl, (refl, (refl, (refl, (refl, (refl, (refl, (refl, tt)))))))) (has_computed made.hold_row) (trees 11) typed.1.1.1.1.1.0 present.1.1.1.1.1.0
-
-  full_heads : AllByRecursion (λ row. length row ≡ 3) (columns_of (trees 13))
-  full_heads = full_rows made.zone_head.columns (refl, (refl, (refl, tt))) (has_computed made.zone_head) (trees 13) typed.1.1.1.1.1.1.0 present.1.1.1.1.1.1.0
-
-  full_zone_rows : AllByRecursion (λ row. length row ≡ 4) (columns_of (trees 15))
-  full_zone_rows = full_rows made.zone_row.columns (refl, (refl, (refl, (refl, tt)))) (has_computed made.zone_row) (trees 15) typed.1.1.1.1.1.1.1.0 present.1.1.1.1.1.1.1.0
-
-  full_conds : AllByRecursion (λ row. length row ≡ 3) (columns_of (trees 19))
-  full_conds = full_rows made.sysmod_cond.columns (refl, (refl, (refl, tt))) (has_computed made.sysmod_cond) (trees 19) typed.1.1.1.1.1.1.1.1.1.0 present.1.1.1.1.1.1.1.1.1.0
-
-  -- ---- keys
-
   unique : AllByRecursion (λ (t : Table). AllByRecursion (λ row. list_all (λ i. not (guards i t && clashes i.order i.columns (trees t.tree) row)) made.indexes ≡ true) (trees t.tree)) tables
   unique = sound.obeys.rules Unique
 
-  free_sysmods : (rows : List Row) → AllByRecursion (λ row. list_all (λ i. not (guards i made.sysmod && clashes i.order i.columns (trees 6) row)) made.indexes ≡ true) rows
-      → AllByRecursion (λ row. clashes plain (1 ∷ []) (trees 6) row ≡ false) rows
-  free_sysmods [] h = tt
-  free_sysmods (row ∷ rows) h = (
-    not-true (clashes plain (1 ∷ []) (trees 6) row) (all_listed (λ i. not (guards i made.sysmod && clashes i.order i.columns (trees 6) row)) made.indexes h.0).1.1.1.0,
-    free_sysmods rows h.1,
-  )
+  -- all rows of a table have all columns, where no column is the rowid, and none may be NULL
+  all_full : (which : StoreTable) (place : ℕ) → slice_get tables place ≡ Some (table_of which) → (table_of which).key ≡ None
+      → list_all (λ (c : Column). c.not_null) (table_of which).columns ≡ true → AllByRecursion (IsFull which) (columns_of (trees (table_of which).tree))
+  all_full which place at keyless required =
+      let t = table_of which in
+      full_rows t.columns (all_listed (λ (c : Column). c.not_null) t.columns required) (has_computed t) (trees t.tree)
+      (subst (λ key. AllByRecursion (λ row. (are_typed key 0 t.columns (drop 1 row) && has_computed t row) ≡ true) (trees t.tree)) keyless
+      (at_index (λ (t : Table). AllByRecursion (λ row. (are_typed t.key 0 t.columns (drop 1 row) && has_computed t row) ≡ true) (trees t.tree)) tables place t at typed))
+      (subst (λ key. AllByRecursion (λ row. are_present key 0 t.columns row ≡ true) (trees t.tree)) keyless
+      (at_index (λ (t : Table). AllByRecursion (λ row. are_present t.key 0 t.columns row ≡ true) (trees t.tree)) tables place t at present))
 
-  free_holds : (rows : List Row) → AllByRecursion (λ row. list_all (λ i. not (guards i made.hold_row && clashes i.order i.columns (trees 11) row)) made.indexes ≡ true) rows
-      → AllByRecursion (λ row. clashes plain (1 ∷ 2 ∷ 3 ∷ []) (trees 11) row ≡ false) rows
-  free_holds [] h = tt
-  free_holds (row ∷ rows) h = (
-    not-true (clashes plain (1 ∷ 2 ∷ 3 ∷ []) (trees 11) row)
-        (all_listed (λ i. not (guards i made.hold_row && clashes i.order i.columns (trees 11) row)) made.indexes h.0).1.1.1.1.1.1.0,
-    free_holds rows h.1,
-  )
+  -- no two rows of a table have one key, where its columns are plain
+  keys : (which : StoreTable) (place : ℕ) → slice_get tables place ≡ Some (table_of which) → (index k : ℕ) → slice_get made.indexes index ≡ Some (index_at index)
+      → guards (index_at index) (table_of which) ≡ true → (index_at index).order ≡ plain
+      → ((a b : Row) → HavePlain k (drop 1 a) → take k (drop 1 a) ≡ take k (drop 1 b) → agree plain (index_at index).columns a (index_at index).columns b ≡ true)
+      → AllByRecursion (HavePlain k) (columns_of (trees (table_of which).tree)) → HaveOwnKeys k (columns_of (trees (table_of which).tree))
+  keys which place at index k found guarded ascends agrees are_plain =
+      let t = table_of which in
+      own_keys k (index_at index).columns agrees (trees t.tree) (at_index (λ (t : Table). IsNumbered (trees t.tree)) tables place t at numbered) are_plain
+      (free (trees t.tree) t index found guarded ascends (trees t.tree)
+      (at_index (λ (t : Table). AllByRecursion (λ row. list_all (λ i. not (guards i t && clashes i.order i.columns (trees t.tree) row)) made.indexes ≡ true) (trees t.tree)) tables place t at unique))
 
-  free_heads : (rows : List Row) → AllByRecursion (λ row. list_all (λ i. not (guards i made.zone_head && clashes i.order i.columns (trees 13) row)) made.indexes ≡ true) rows
-      → AllByRecursion (λ row. clashes plain (1 ∷ 2 ∷ []) (trees 13) row ≡ false) rows
-  free_heads [] h = tt
-  free_heads (row ∷ rows) h = (
-    not-true (clashes plain (1 ∷ 2 ∷ []) (trees 13) row)
-        (all_listed (λ i. not (guards i made.zone_head && clashes i.order i.columns (trees 13) row)) made.indexes h.0).1.1.1.1.1.1.1.0,
-    free_heads rows h.1,
-  )
+  -- ---- the rows of each table that has a key to be told apart by
 
-  free_zone_rows : (rows : List Row) → AllByRecursion (λ row. list_all (λ i. not (guards i made.zone_row && clashes i.order i.columns (trees 15) row)) made.indexes ≡ true) rows
-      → AllByRecursion (λ row. clashes plain (1 ∷ 2 ∷ 3 ∷ []) (trees 15) row ≡ false) rows
-  free_zone_rows [] h = tt
-  free_zone_rows (row ∷ rows) h = (
-    not-true (clashes plain (1 ∷ 2 ∷ 3 ∷ []) (trees 15) row)
-        (all_listed (λ i. not (guards i made.zone_row && clashes i.order i.columns (trees 15) row)) made.indexes h.0).1.1.1.1.1.1.1.1.0,
-    free_zone_rows rows h.1,
-  )
+  sysmods : AreRowsOf sysmod_row IsRecord (columns_of (trees 6))
+  sysmods = all_two _ _ _ record_of (columns_of (trees 6)) (kept Sysmod) (all_full Sysmod 3 refl refl refl)
 
-  -- the columns of a key are plain
-  moved : (row : Row) (at : ℕ) → IsPlain (column (drop 1 row) at) → IsPlain (column row (suc at))
-  moved row at = subst IsPlain (column_after row at)
+  holds : AreRowsOf hold_row IsHold (columns_of (trees 11))
+  holds = all_two _ _ _ hold_of (columns_of (trees 11)) (kept HoldRow) (all_full HoldRow 5 refl refl refl)
+
+  heads : AreRowsOf row_of_head IsHead (columns_of (trees 13))
+  heads = all_two _ _ _ head_of (columns_of (trees 13)) (kept ZoneHead) (all_full ZoneHead 6 refl refl refl)
+
+  zone_rows : AreRowsOf row_of_zone_sysmod IsZoneSysmod (columns_of (trees 15))
+  zone_rows = all_two _ _ _ zone_sysmod_of (columns_of (trees 15)) (kept ZoneRow) (all_full ZoneRow 7 refl refl refl)
 
   sysmod_keys : HaveOwnKeys 1 (columns_of (trees 6))
   sysmod_keys =
-      own_keys 1 (1 ∷ []) (λ row. IsPlain (column (drop 1 row) 0)) (λ a b keyed. agree_one a b (moved a 0 keyed)) (trees 6) numbered.1.1.1.0
-      (later (λ row. IsPlain (column row 0)) (trees 6) (all_two IsSysmodRow (λ row. length row ≡ 5) (λ row. IsPlain (column row 0))
-      (λ row is n. let it = record_of row is n in plain_id (column row 0) it.0.id (ap (λ r. column r 0) it.2)) (columns_of (trees 6)) (kept Sysmod) full_sysmods))
-      (free_sysmods (trees 6) unique.1.1.1.0)
+      keys Sysmod 3 refl 3 1 refl refl refl agree_one
+      (rows_so sysmod_row IsRecord (HavePlain 1) (λ sysmod. (plain_id (id_value sysmod.id) sysmod.id refl, tt)) (columns_of (trees 6)) sysmods)
 
   hold_keys : HaveOwnKeys 3 (columns_of (trees 11))
   hold_keys =
-      own_keys 3 (1 ∷ 2 ∷ 3 ∷ []) (λ row. IsPlain (column (drop 1 row) 0) × IsPlain (column (drop 1 row) 1) × IsPlain (column (drop 1 row) 2)) (λ a b keyed. agree_three a b (moved a 0 keyed.0) (moved a 1 keyed.1) (moved a 2 keyed.2)) (trees 11) numbered.1.1.1.1.1.0
-      (later (λ row. IsPlain (column row 0) × IsPlain (column row 1) × IsPlain (column row 2)) (trees 11)
-      (all_two IsHoldRow (λ row. length row ≡ 8) (λ row. IsPlain (column row 0) × IsPlain (column row 1) × IsPlain (column row 2))
-      (λ row is n. let it = hold_of row is n in (
-        plain_id (column row 0) it.0.key.sysmod (ap (λ r. column r 0) it.2),
-        plain_kind (column row 1) it.0.key.kind (ap (λ r. column r 1) it.2),
-        plain_id (column row 2) it.0.key.reason (ap (λ r. column r 2) it.2),
-      )) (columns_of (trees 11)) (kept HoldRow) full_holds))
-      (free_holds (trees 11) unique.1.1.1.1.1.0)
+      keys HoldRow 5 refl 6 3 refl refl refl agree_three
+      (rows_so hold_row IsHold (HavePlain 3) (λ hold. (plain_id (id_value hold.key.sysmod) hold.key.sysmod refl, (plain_kind (hold_kind_value hold.key.kind) hold.key.kind refl, (plain_id (id_value hold.key.reason) hold.key.reason refl, tt))))
+      (columns_of (trees 11)) holds)
 
   head_keys : HaveOwnKeys 2 (columns_of (trees 13))
   head_keys =
-      own_keys 2 (1 ∷ 2 ∷ []) (λ row. IsPlain (column (drop 1 row) 0) × IsPlain (column (drop 1 row) 1)) (λ a b keyed. agree_two a b (moved a 0 keyed.0) (moved a 1 keyed.1)) (trees 13) numbered.1.1.1.1.1.1.0
-      (later (λ row. IsPlain (column row 0) × IsPlain (column row 1)) (trees 13)
-      (all_two IsHeadRow (λ row. length row ≡ 3) (λ row. IsPlain (column row 0) × IsPlain (column row 1))
-      (λ row is n. let it = head_of row is n in (
-        plain_id (column row 0) it.0.client (ap (λ r. column r 0) it.2),
-        plain_id (column row 1) it.0.zone (ap (λ r. column r 1) it.2),
-      )) (columns_of (trees 13)) (kept ZoneHead) full_heads))
-      (free_heads (trees 13) unique.1.1.1.1.1.1.0)
+      keys ZoneHead 6 refl 7 2 refl refl refl agree_two
+      (rows_so row_of_head IsHead (HavePlain 2) (λ head. (plain_id (id_value head.client) head.client refl, (plain_id (id_value head.zone) head.zone refl, tt))) (columns_of (trees 13)) heads)
 
   row_keys : HaveOwnKeys 3 (columns_of (trees 15))
   row_keys =
-      own_keys 3 (1 ∷ 2 ∷ 3 ∷ []) (λ row. IsPlain (column (drop 1 row) 0) × IsPlain (column (drop 1 row) 1) × IsPlain (column (drop 1 row) 2)) (λ a b keyed. agree_three a b (moved a 0 keyed.0) (moved a 1 keyed.1) (moved a 2 keyed.2)) (trees 15) numbered.1.1.1.1.1.1.1.0
-      (later (λ row. IsPlain (column row 0) × IsPlain (column row 1) × IsPlain (column row 2)) (trees 15)
-      (all_two IsZoneRow (λ row. length row ≡ 4) (λ row. IsPlain (column row 0) × IsPlain (column row 1) × IsPlain (column row 2))
-      (λ row is n. let it = zone_sysmod_of row is n in (
-        plain_id (column row 0) it.0.client (ap (λ r. column r 0) it.2),
-        plain_id (column row 1) it.0.zone (ap (λ r. column r 1) it.2),
-        plain_id (column row 2) it.0.row.sysmod (ap (λ r. column r 2) it.2),
-      )) (columns_of (trees 15)) (kept ZoneRow) full_zone_rows))
-      (free_zone_rows (trees 15) unique.1.1.1.1.1.1.1.0)
+      keys ZoneRow 7 refl 8 3 refl refl refl agree_three
+      (rows_so row_of_zone_sysmod IsZoneSysmod (HavePlain 3) (λ one. (plain_id (id_value one.client) one.client refl, (plain_id (id_value one.zone) one.zone refl, (plain_id (id_value one.row.sysmod) one.row.sysmod refl, tt))))
+      (columns_of (trees 15)) zone_rows)
 
   pub whole : IsWhole (stored_in trees)
   whole = record {
-    callers = all_two _ _ _ caller_of (columns_of (trees 1)) (kept Caller) full_callers;
-    sysmods = all_two _ _ _ record_of (columns_of (trees 6)) (kept Sysmod) full_sysmods;
+    callers = all_two _ _ _ caller_of (columns_of (trees 1)) (kept Caller) (all_full Caller 1 refl refl refl);
+    sysmods = sysmods;
     sysmod_keys = sysmod_keys;
-    sups = all_two _ _ _ member_of (columns_of (trees 8)) (kept SysmodSup) full_sups;
-    conds = all_two _ _ _ condition_of (columns_of (trees 19)) (kept SysmodCond) full_conds;
-    holds = all_two _ _ _ hold_of (columns_of (trees 11)) (kept HoldRow) full_holds;
+    sups = all_two _ _ _ member_of (columns_of (trees 8)) (kept SysmodSup) (all_full SysmodSup 4 refl refl refl);
+    conds = all_two _ _ _ condition_of (columns_of (trees 19)) (kept SysmodCond) (all_full SysmodCond 9 refl refl refl);
+    holds = holds;
     hold_keys = hold_keys;
-    heads = all_two _ _ _ head_of (columns_of (trees 13)) (kept ZoneHead) full_heads;
+    heads = heads;
     head_keys = head_keys;
-    rows = all_two _ _ _ zone_sysmod_of (columns_of (trees 15)) (kept ZoneRow) full_zone_rows;
+    rows = zone_rows;
     row_keys = row_keys;
   }
 

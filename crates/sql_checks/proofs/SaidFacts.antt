@@ -1,7 +1,7 @@
 -- What a value says is what it was written as: each reading of a column, the other way round.
-use Rattle.std.proofs.Common.{◌≡◌, ◌==◌, ◌⊎◌, ℕ, ◌&&◌, Bool, true, false, cond, List, [], ◌∷◌, refl, sym, ◌∙◌, ap, ap₂, subst, inl, inr, pos, negsuc, IsTrue}
+use Rattle.std.proofs.Common.{◌≡◌, ◌==◌, ℕ, ◌&&◌, Bool, true, false, cond, List, [], ◌∷◌, refl, sym, ◌∙◌, ap, ap₂, subst, pos, negsuc, IsTrue}
 use Rattle.std.specs.Prelude.{map, Option, Some, None, IfSome, option_map, option_and_then}
-use Rattle.std.specs.List.{join_with_byte, list_all}
+use Rattle.std.specs.List.{AllByRecursion, join_with_byte, list_all}
 use Rattle.std.proofs.lemmas.Bool.{eqb-true}
 use Rattle.std.proofs.lemmas.List.Splits.{join_with_byte-slice_split}
 use Rattle.holddata.specs.Categories.{are_categories}
@@ -72,18 +72,15 @@ bytes_said (Int n) bytes h = cc
 bytes_said (Real x) bytes h = cc
 bytes_said Null bytes h = cc
 
--- one of the entries bears the number
-abbrev Bears : {X : Type 0} → List (ℕ × X) → ℕ → X → Type 0
-Bears [] n x = ⊥
-Bears (entry ∷ entries) n x = ((n ≡ entry.0) × (x ≡ entry.1)) ⊎ Bears entries n x
-
-borne : {X : Type 0} (entries : List (ℕ × X)) (n : ℕ) (x : X) → with_number entries n ≡ Some x → Bears entries n x
-borne [] n x h = cc
-borne (entry ∷ entries) n x h = by (n == entry.0) refl h (borne entries n x)
+-- where each entry has the number of its value, so has the one that is found by a number
+borne : {X : Type 0} (value_of : X → Value) (entries : List (ℕ × X)) → AllByRecursion (λ entry. Int (pos entry.0) ≡ value_of entry.1) entries → (n : ℕ) (x : X)
+    → with_number entries n ≡ Some x → Int (pos n) ≡ value_of x
+borne value_of [] all n x h = cc
+borne value_of (entry ∷ entries) all n x h = by (n == entry.0) refl h (borne value_of entries all.1 n x)
   where
-    by : (b : Bool) → (n == entry.0) ≡ b → cond b (Some entry.1) (with_number entries n) ≡ Some x → (with_number entries n ≡ Some x → Bears entries n x) → Bears (entry ∷ entries) n x
-    by true is e rest = let same : entry.1 ≡ x = cc in inl (eqb-true n entry.0 is, sym same)
-    by false is e rest = inr (rest e)
+    by : (b : Bool) → (n == entry.0) ≡ b → cond b (Some entry.1) (with_number entries n) ≡ Some x → (with_number entries n ≡ Some x → Int (pos n) ≡ value_of x) → Int (pos n) ≡ value_of x
+    by true is e rest = let same : entry.1 ≡ x = cc in ap (λ m. Int (pos m)) (eqb-true n entry.0 is) ∙ all.0 ∙ ap value_of same
+    by false is e rest = rest e
 
 -- what is told by a number, if the value has one
 numbered : {X : Type 0} (read : ℕ → Option X) (value : Value) (x : X) → option_and_then read (number_in value) ≡ Some x → (n : ℕ) × (value ≡ Int (pos n)) × (read n ≡ Some x)
@@ -94,37 +91,18 @@ numbered read (Blob b) x h = cc
 numbered read (Real r) x h = cc
 numbered read Null x h = cc
 
+kind_said : {X : Type 0} (value_of : X → Value) (entries : List (ℕ × X)) → AllByRecursion (λ entry. Int (pos entry.0) ≡ value_of entry.1) entries → (value : Value) (x : X)
+    → option_and_then (with_number entries) (number_in value) ≡ Some x → value ≡ value_of x
+kind_said value_of entries all value x h = let it = numbered (with_number entries) value x h in it.1 ∙ borne value_of entries all it.0 x it.2
+
 pub sysmod_kind_said : (value : Value) (kind : SysmodKind) → sysmod_kind_in value ≡ Some kind → value ≡ sysmod_kind_value kind
-sysmod_kind_said value kind h =
-    let it = numbered (with_number ((0, Func) ∷ (1, Ptf) ∷ (2, Apar) ∷ (3, Usermod) ∷ [])) value kind h in
-    it.1 ∙ elim (borne ((0, Func) ∷ (1, Ptf) ∷ (2, Apar) ∷ (3, Usermod) ∷ []) it.0 kind it.2) [
-      | inl e ↦ ap (λ n. Int (pos n)) e.0 ∙ ap sysmod_kind_value (sym e.1)
-      | inr (inl e) ↦ ap (λ n. Int (pos n)) e.0 ∙ ap sysmod_kind_value (sym e.1)
-      | inr (inr (inl e)) ↦ ap (λ n. Int (pos n)) e.0 ∙ ap sysmod_kind_value (sym e.1)
-      | inr (inr (inr (inl e))) ↦ ap (λ n. Int (pos n)) e.0 ∙ ap sysmod_kind_value (sym e.1)
-      | inr (inr (inr (inr none))) ↦ absurd none
-    ]
+sysmod_kind_said = kind_said sysmod_kind_value ((0, Func) ∷ (1, Ptf) ∷ (2, Apar) ∷ (3, Usermod) ∷ []) (refl, (refl, (refl, (refl, tt))))
 
 pub hold_kind_said : (value : Value) (kind : Kind) → hold_kind_in value ≡ Some kind → value ≡ hold_kind_value kind
-hold_kind_said value kind h =
-    let it = numbered (with_number ((0, ErrorHold) ∷ (1, SystemHold) ∷ (2, UserHold) ∷ (3, FixcatHold) ∷ [])) value kind h in
-    it.1 ∙ elim (borne ((0, ErrorHold) ∷ (1, SystemHold) ∷ (2, UserHold) ∷ (3, FixcatHold) ∷ []) it.0 kind it.2) [
-      | inl e ↦ ap (λ n. Int (pos n)) e.0 ∙ ap hold_kind_value (sym e.1)
-      | inr (inl e) ↦ ap (λ n. Int (pos n)) e.0 ∙ ap hold_kind_value (sym e.1)
-      | inr (inr (inl e)) ↦ ap (λ n. Int (pos n)) e.0 ∙ ap hold_kind_value (sym e.1)
-      | inr (inr (inr (inl e))) ↦ ap (λ n. Int (pos n)) e.0 ∙ ap hold_kind_value (sym e.1)
-      | inr (inr (inr (inr none))) ↦ absurd none
-    ]
+hold_kind_said = kind_said hold_kind_value ((0, ErrorHold) ∷ (1, SystemHold) ∷ (2, UserHold) ∷ (3, FixcatHold) ∷ []) (refl, (refl, (refl, (refl, tt))))
 
 pub state_said : (value : Value) (state : ZoneState) → state_in value ≡ Some state → value ≡ state_value state
-state_said value state h =
-    let it = numbered (with_number ((0, Applied) ∷ (1, Accepted) ∷ (2, Superseded) ∷ [])) value state h in
-    it.1 ∙ elim (borne ((0, Applied) ∷ (1, Accepted) ∷ (2, Superseded) ∷ []) it.0 state it.2) [
-      | inl e ↦ ap (λ n. Int (pos n)) e.0 ∙ ap state_value (sym e.1)
-      | inr (inl e) ↦ ap (λ n. Int (pos n)) e.0 ∙ ap state_value (sym e.1)
-      | inr (inr (inl e)) ↦ ap (λ n. Int (pos n)) e.0 ∙ ap state_value (sym e.1)
-      | inr (inr (inr none)) ↦ absurd none
-    ]
+state_said = kind_said state_value ((0, Applied) ∷ (1, Accepted) ∷ (2, Superseded) ∷ []) (refl, (refl, (refl, tt)))
 
 pub date_said : (value : Value) (date : Option ℕ) → date_in value ≡ Some date → IfSome date (λ number. IsTrue (is_date number)) × (value ≡ date_value date)
 date_said (Int (pos n)) date h = by (is_date n) refl h

@@ -2,15 +2,12 @@
 ghost use Rattle.std.specs.Prelude.{◌≡◌, ◌↔◌, false, IfErr, IfOk, IsTrue};
 ghost use Rattle.std.specs.List.{AllByRecursion};
 ghost use Rattle.sqlite.specs.Held.{state};
-ghost use Rattle.sqlite.specs.State.{HasCleanDisk};
 ghost use Rattle.sqlite.specs.Tree.{Trees};
 ghost use Rattle.sqlite_value.specs.Order.{Row as Values};
-ghost use Rattle.sql_checks.specs.Checked.{Looks};
-ghost use Rattle.sql_checks.specs.Kept.{KeepTo, KeepsTo, all_of, indices_in, names_in, rows_in, table_of};
-ghost use Rattle.sql_checks.specs.Refused.{IsCausedBy, IsUnshown, of_rows};
+ghost use Rattle.sql_checks.specs.Kept.{KeepsTo, all_of, indices_in, names_in, rows_in, table_of};
+ghost use Rattle.sql_checks.specs.Looked.{IsLooked};
 ghost use Rattle.sql_checks.specs.Shapes.{table_of_shape};
 ghost use Rattle.sql_checks.specs.declared.table.StoreTable.{StoreTable as SomeTable};
-ghost use Rattle.sql_state.specs.Ours.{held_by};
 ghost use Rattle.sql_tables.specs.InTrees.{columns_of, stored_in};
 ghost use Rattle.sql_texts.specs.Found.{shown as show};
 ghost use Rattle.sql_texts.specs.Meaning.{Reads};
@@ -58,10 +55,7 @@ pub(crate) fn rows_keep<T: Checked, S: Alter>(
 ) -> Result<bool, ReadFault>
     requires rest { conn.old.in_transaction ≡ false }
     ensures mode { conn.new.in_transaction ≡ false }
-    ensures looks { Looks (state S.Store conn.old) (state S.Store conn.new) result
-        (λ database keeps. IsTrue keeps ↔ KeepTo T.table (held_by database)) }
-    ensures cause { IfErr result (λ fault. fault ≡ ReadFault.Device → HasCleanDisk (state S.Store conn.new)
-        → IsCausedBy (IsUnshown (of_rows T.table)) (state S.Store conn.old) (state S.Store conn.new)) }
+    ensures looked { IsLooked T.table (state S.Store conn.old) (state S.Store conn.new) result }
 {
     match rows_of(conn, T::text(), &[]) {
         Ok(rows) => all_keep::<T>(alloc, rows.as_slice()),

@@ -1,7 +1,4 @@
 //! What a table and an index are made of.
-ghost use Rattle.std.specs.Prelude.{◌≡◌};
-ghost use Rattle.sql_checks.specs.Shapes.{index_of_shape};
-ghost use Rattle.sql_texts.specs.Schema as made;
 
 use sqlite_schema::schema::Kind;
 use sqlite_sql::ops::CompareOp;
@@ -39,24 +36,4 @@ pub(crate) struct IndexShape {
     pub(crate) table: u32,
     pub(crate) columns: &'static [usize],
     pub(crate) is_unique: bool,
-}
-
-/// The index of a table's key.
-pub(crate) fn index(
-    name: &'static str,
-    tree: u32,
-    table: u32,
-    columns: &'static [usize],
-    is_unique: bool,
-) -> IndexShape
-    ensures { index_of_shape result
-        ≡ record (made.index_of name.now tree table columns.now) { is_unique = is_unique } }
-{
-    IndexShape {
-        name,
-        tree,
-        table,
-        columns,
-        is_unique,
-    }
 }

@@ -1,13 +1,10 @@
 //! The tables of a store, each with all that a check knows of it in a file of its own.
-ghost use Rattle.std.specs.Prelude.{◌≡◌, ◌↔◌, false, map, IfErr, IsTrue};
+ghost use Rattle.std.specs.Prelude.{◌≡◌, false, map};
 ghost use Rattle.std.specs.List.{AllByRecursion};
 ghost use Rattle.sqlite.specs.Held.{state};
-ghost use Rattle.sqlite.specs.State.{HasCleanDisk};
-ghost use Rattle.sql_checks.specs.Checked.{Looks};
 ghost use Rattle.sql_checks.specs.Kept.{AreKept, KeepTo, table_name};
-ghost use Rattle.sql_checks.specs.Refused.{IsCausedBy, IsUnshown, of_rows};
+ghost use Rattle.sql_checks.specs.Looked.{IsLooked};
 ghost use Rattle.sql_checks.specs.Shapes.{index_of_shape, table_of_shape};
-ghost use Rattle.sql_state.specs.Ours.{held_by};
 ghost use Rattle.sql_tables.specs.Stored.{Stored};
 ghost use Rattle.sql_texts.specs.Schema as made;
 
@@ -23,7 +20,7 @@ mod zone_head;
 mod zone_row;
 
 use crate::checked::{Checked, rows_keep};
-use crate::shapes::{IndexShape, TableShape, index};
+use crate::shapes::{IndexShape, TableShape};
 use caller::Callers;
 use hold_row::HoldRows;
 use last_change::LastChanges;
@@ -60,22 +57,25 @@ pub enum StoreTable {
     ReceivedList,
 }
 
+// All of them, in the order in which they are declared, and looked through.
+const TABLES: [StoreTable; 9] = [
+    StoreTable::Caller,
+    StoreTable::LastChange,
+    StoreTable::Sysmod,
+    StoreTable::SysmodSup,
+    StoreTable::SysmodCond,
+    StoreTable::HoldRow,
+    StoreTable::ZoneHead,
+    StoreTable::ZoneRow,
+    StoreTable::ReceivedList,
+];
+
 impl StoreTable {
     /// All of them.
     pub(crate) fn all() -> [StoreTable; 9]
         ensures { (stored : Stored) → AllByRecursion (λ table. KeepTo table stored) result → AreKept stored }
     {
-        [
-            StoreTable::Caller,
-            StoreTable::LastChange,
-            StoreTable::Sysmod,
-            StoreTable::SysmodSup,
-            StoreTable::SysmodCond,
-            StoreTable::HoldRow,
-            StoreTable::ZoneHead,
-            StoreTable::ZoneRow,
-            StoreTable::ReceivedList,
-        ]
+        TABLES
     }
 
     /// The name of the table in the database.
@@ -107,11 +107,7 @@ impl StoreTable {
     ) -> Result<bool, ReadFault>
         requires rest { conn.old.in_transaction ≡ false }
         ensures mode { conn.new.in_transaction ≡ false }
-        ensures looks { Looks (state S.Store conn.old) (state S.Store conn.new) result
-            (λ database keeps. IsTrue keeps ↔ KeepTo self (held_by database)) }
-        ensures cause { IfErr result (λ fault. fault ≡ ReadFault.Device
-            → HasCleanDisk (state S.Store conn.new)
-            → IsCausedBy (IsUnshown (of_rows self)) (state S.Store conn.old) (state S.Store conn.new)) }
+        ensures looked { IsLooked self (state S.Store conn.old) (state S.Store conn.new) result }
     {
         match self {
             StoreTable::Caller => rows_keep::<Callers, S>(alloc, conn),
@@ -150,16 +146,82 @@ pub(crate) fn indexes() -> [IndexShape; 11]
     ensures { map index_of_shape result ≡ made.indexes }
 {
     [
-        index("sqlite_autoindex_caller_1", 2, 1, &[1], true),
-        index("sqlite_autoindex_caller_2", 3, 1, &[2], true),
-        index("sqlite_autoindex_last_change_1", 5, 4, &[1], true),
-        index("sqlite_autoindex_sysmod_1", 7, 6, &[1], true),
-        index("sqlite_autoindex_sysmod_sup_1", 9, 8, &[1, 2], true),
-        index("by_member", 10, 8, &[2, 1], false),
-        index("sqlite_autoindex_hold_row_1", 12, 11, &[1, 2, 3], true),
-        index("sqlite_autoindex_zone_head_1", 14, 13, &[1, 2], true),
-        index("sqlite_autoindex_zone_row_1", 16, 15, &[1, 2, 3], true),
-        index("sqlite_autoindex_received_list_1", 18, 17, &[1], true),
-        index("sqlite_autoindex_sysmod_cond_1", 20, 19, &[1, 2, 3], true),
+        IndexShape {
+            name: "sqlite_autoindex_caller_1",
+            tree: 2,
+            table: 1,
+            columns: &[1],
+            is_unique: true,
+        },
+        IndexShape {
+            name: "sqlite_autoindex_caller_2",
+            tree: 3,
+            table: 1,
+            columns: &[2],
+            is_unique: true,
+        },
+        IndexShape {
+            name: "sqlite_autoindex_last_change_1",
+            tree: 5,
+            table: 4,
+            columns: &[1],
+            is_unique: true,
+        },
+        IndexShape {
+            name: "sqlite_autoindex_sysmod_1",
+            tree: 7,
+            table: 6,
+            columns: &[1],
+            is_unique: true,
+        },
+        IndexShape {
+            name: "sqlite_autoindex_sysmod_sup_1",
+            tree: 9,
+            table: 8,
+            columns: &[1, 2],
+            is_unique: true,
+        },
+        IndexShape {
+            name: "by_member",
+            tree: 10,
+            table: 8,
+            columns: &[2, 1],
+            is_unique: false,
+        },
+        IndexShape {
+            name: "sqlite_autoindex_hold_row_1",
+            tree: 12,
+            table: 11,
+            columns: &[1, 2, 3],
+            is_unique: true,
+        },
+        IndexShape {
+            name: "sqlite_autoindex_zone_head_1",
+            tree: 14,
+            table: 13,
+            columns: &[1, 2],
+            is_unique: true,
+        },
+        IndexShape {
+            name: "sqlite_autoindex_zone_row_1",
+            tree: 16,
+            table: 15,
+            columns: &[1, 2, 3],
+            is_unique: true,
+        },
+        IndexShape {
+            name: "sqlite_autoindex_received_list_1",
+            tree: 18,
+            table: 17,
+            columns: &[1],
+            is_unique: true,
+        },
+        IndexShape {
+            name: "sqlite_autoindex_sysmod_cond_1",
+            tree: 20,
+            table: 19,
+            columns: &[1, 2, 3],
+            is_unique: true,
+        },
     ]
 }
