@@ -34,17 +34,17 @@ use Rattle.sqlite_value.specs.declared.value.Value.TheVariants.{Int, Text}
 use Rattle.sqlite_value.proofs.OrderLemmas.{value_cmp-Int}
 use Rattle.sql_tables.specs.Fit.{IsHold}
 use Rattle.sql_tables.specs.InTrees.{columns_of, stored_in}
-use Rattle.sql_tables.specs.Rows.{hold_found, hold_row, zone_row, zone_row_found}
-use Rattle.sql_tables.specs.Stored.{Stored, is_named, is_of_both, rows_as_stored, shown, tables_of, zone_of, zone_rows_of}
+use Rattle.sql_tables.specs.Rows.{hold_found, hold_row, zone_row}
+use Rattle.sql_tables.specs.Stored.{Stored, is_named, is_of_both, rows_as_stored, tables_of, zone_of, zone_row_said, zone_rows_of}
 use Rattle.sql_tables.specs.Values.{hold_kind_value, id_value, state_value}
 use Rattle.sql_tables.specs.Whole.{AreRowsOf, HaveOwnKeys, IsWhole, IsZoneSysmod, ZoneSysmod, row_of_zone_sysmod}
 use Rattle.sql_tables.proofs.ClientFacts.{made_here, zone_found}
 use Rattle.sql_tables.proofs.MemberFacts.{found_in, none_found}
 use Rattle.sql_tables.proofs.OrderFacts.{by_key_with, with_key}
 use Rattle.sql_tables.proofs.ReadFacts.{holds_read}
-use Rattle.sql_tables.proofs.RowFacts.{hold_again}
+use Rattle.sql_tables.proofs.RowFacts.{hold_again, zone_row_again}
 use Rattle.sql_tables.proofs.TreeFacts.{column_after}
-use Rattle.sql_tables.proofs.ValueFacts.{id_again, named_value, state_again}
+use Rattle.sql_tables.proofs.ValueFacts.{named_value}
 use Rattle.sql_texts.specs.Found.{pairs_shown, passes_with}
 use Rattle.sql_texts.specs.Reads as read
 use Rattle.sql_texts.proofs.AnswerFacts.{join_answer, same_text, truth_again}
@@ -95,9 +95,6 @@ sysmod_there client zone row (p, fit, is) h =
     let second : p.zone ≡ zone = one_id p.zone zone (sym (named_value p.zone zone fit.1) ∙ parts.1) in
     (p.row, fit.2, is ∙ ap (λ n. zone_row n p.zone p.row) first ∙ ap (λ n. zone_row client n p.row) second)
 
-sysmod_said : (client zone : List ℕ) (r : ZoneRow) → IsId r.sysmod → zone_row_found (shown (2 ∷ 3 ∷ []) (zone_row client zone r)) ≡ Some r
-sysmod_said client zone r is = rw (id_again r.sysmod is, state_again r.state) refl
-
 module _ (rows : List Row) (client zone : List ℕ) (is_client : IsId client) (is_zone : IsId zone) (written : AreRowsOf row_of_zone_sysmod IsZoneSysmod rows) (own : HaveOwnKeys 3 rows) where
   abbrev stored_rows : List ZoneRow
   stored_rows = rows_as_stored rows client zone
@@ -105,18 +102,18 @@ module _ (rows : List Row) (client zone : List ℕ) (is_client : IsId client) (i
   -- what is read of the rows of a zone stands there
   row_from : (r : ZoneRow) → Contains stored_rows r → Contains rows (zone_row client zone r) × IsId r.sysmod
   row_from r inside =
-      let it = read_from (λ row. zone_row_found (shown (2 ∷ 3 ∷ []) row)) (filter (is_of_both client zone) rows) r inside in
+      let it = read_from zone_row_said (filter (is_of_both client zone) rows) r inside in
       let row = filtered (is_of_both client zone) rows it.0 it.1 in
       let stands = sysmod_there client zone it.0 (all_of (λ x. (p : ZoneSysmod) × IsZoneSysmod p × (x ≡ row_of_zone_sysmod p)) rows it.0 written row.0) row.1 in
-      let e : Some stands.0 ≡ Some r = sym (sysmod_said client zone stands.0 stands.1) ∙ ap (λ x. zone_row_found (shown (2 ∷ 3 ∷ []) x)) (sym stands.2) ∙ it.2 in
+      let e : Some stands.0 ≡ Some r = sym (zone_row_again client zone stands.0 stands.1) ∙ ap zone_row_said (sym stands.2) ∙ it.2 in
       let same : stands.0 ≡ r = cc in
       (subst (Contains rows) (stands.2 ∙ ap (zone_row client zone) same) row.0, subst (λ (x : ZoneRow). IsId x.sysmod) same stands.1)
 
   row_to : (r : ZoneRow) → IsId r.sysmod → Contains rows (zone_row client zone r) → Contains stored_rows r
   row_to r is inside =
-      map_found (λ row. zone_row_found (shown (2 ∷ 3 ∷ []) row)) (filter (is_of_both client zone) rows) (zone_row client zone r) r
-      (kept_inside (is_of_both client zone) rows (zone_row client zone r) inside (made_here client zone is_client is_zone (id_value r.sysmod ∷ state_value r.state ∷ [])))
-      (sysmod_said client zone r is)
+      map_found zone_row_said (filter (is_of_both client zone) rows) (zone_row client zone r) r
+      (kept_inside (is_of_both client zone) rows (zone_row client zone r) inside (made_here client zone is_client is_zone (drop 2 (zone_row client zone r))))
+      (zone_row_again client zone r is)
 
   -- the first row of a SYSMOD is the one that it has
   one_row : (r other : ZoneRow) → Contains stored_rows r → Contains stored_rows other → other.sysmod ≡ r.sysmod → other ≡ r
@@ -125,7 +122,7 @@ module _ (rows : List Row) (client zone : List ℕ) (is_client : IsId client) (i
       let b = row_from other second in
       let e : zone_row client zone other ≡ zone_row client zone r =
       one_key 3 rows (zone_row client zone other) (zone_row client zone r) own b.0 a.0 (ap (λ s. id_value client ∷ id_value zone ∷ id_value s ∷ []) same) in
-      let f : Some other ≡ Some r = sym (sysmod_said client zone other b.1) ∙ ap (λ x. zone_row_found (shown (2 ∷ 3 ∷ []) x)) e ∙ sysmod_said client zone r a.1 in cc
+      let f : Some other ≡ Some r = sym (zone_row_again client zone other b.1) ∙ ap zone_row_said e ∙ zone_row_again client zone r a.1 in cc
 
   zone_from : (r : ZoneRow) → Contains (zone_rows_of rows client zone) r → Contains stored_rows r
   zone_from r inside =

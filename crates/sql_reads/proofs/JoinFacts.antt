@@ -30,7 +30,8 @@ use Rattle.sql_tables.specs.Rows.{Beside, sysmod_found, with}
 use Rattle.sql_tables.specs.Stored.{beside_of, is_named, is_of, sup_of, sysmod_with, sysmods_of, tables_of}
 use Rattle.sql_tables.specs.Values.{id_in, ids_in, sysmod_kind_in}
 use Rattle.sql_tables.specs.Whole.{IsMember, IsWhole, Listed, member_row}
-use Rattle.sql_tables.proofs.ContentFacts.{content_in_order, sysmod_own}
+use Rattle.sql_tables.proofs.ContentFacts.{content_in_order}
+use Rattle.sql_tables.proofs.RowFacts.{sysmod_own}
 use Rattle.sql_tables.proofs.MemberFacts.{found_in}
 use Rattle.sql_tables.proofs.OrderFacts.{in_order_same}
 use Rattle.sql_tables.proofs.RecordFacts.{catalogue_ids, ids_read}

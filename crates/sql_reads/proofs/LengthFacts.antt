@@ -27,15 +27,15 @@ use Rattle.catalogue.proofs.IdFacts.{exact_ids, itself, one_id}
 use Rattle.zone_lists.specs.declared.zones.ZoneRow.{ZoneRow}
 use Rattle.sqlite_value.specs.Order.{Row, column}
 use Rattle.sql_tables.specs.Fit.{IsHold, IsRecord}
-use Rattle.sql_tables.specs.Rows.{hold_found, hold_row, sysmod_row, zone_row, zone_row_found}
-use Rattle.sql_tables.specs.Stored.{beside_of, Stored, is_named, is_of, is_of_both, names_of, rows_in_order, shown, sysmods_of, tables_of, zone_rows_of}
-use Rattle.sql_tables.specs.Values.{hold_kind_value, id_in, id_value, state_value, texts_value}
+use Rattle.sql_tables.specs.Rows.{hold_found, hold_row, sysmod_row, zone_row}
+use Rattle.sql_tables.specs.Stored.{beside_of, Stored, is_named, is_of, is_of_both, names_of, rows_in_order, sysmods_of, tables_of, zone_row_said, zone_rows_of}
+use Rattle.sql_tables.specs.Values.{hold_kind_value, id_in, id_value, texts_value}
 use Rattle.sql_tables.specs.Whole.{AreRowsOf, HaveOwnKeys, Head, IsHead, IsWhole, IsZoneSysmod, ZoneSysmod, row_of_head, row_of_zone_sysmod}
 use Rattle.sql_tables.proofs.ContentFacts.{key_itself, last_under, left_put}
 use Rattle.sql_tables.proofs.MemberFacts.{none_found}
 use Rattle.sql_tables.proofs.RecordFacts.{catalogue_ids}
-use Rattle.sql_tables.proofs.RowFacts.{hold_again}
-use Rattle.sql_tables.proofs.ValueFacts.{id_again, named_value, state_again}
+use Rattle.sql_tables.proofs.RowFacts.{hold_again, zone_row_again}
+use Rattle.sql_tables.proofs.ValueFacts.{id_again, named_value}
 use Rattle.sql_tables.proofs.WholeFacts.{own_filtered}
 use Rattle.sql_reads.proofs.PublishedFacts.{sysmods_ids}
 
@@ -217,11 +217,8 @@ module _ (stored : Stored) (whole : IsWhole stored) where
     abbrev IsZoneRow : Row → Type 0
     IsZoneRow row = (r : ZoneRow) × IsId r.sysmod × (row ≡ zone_row client zone r)
 
-    abbrev row_in : Row → Option ZoneRow
-    row_in row = zone_row_found (shown (2 ∷ 3 ∷ []) row)
-
     abbrev name_in : Row → Option (List ℕ)
-    name_in row = option_map (λ (r : ZoneRow). r.sysmod) (row_in row)
+    name_in row = option_map (λ (r : ZoneRow). r.sysmod) (zone_row_said row)
 
     rows_here : (rows : List Row) → AreRowsOf row_of_zone_sysmod IsZoneSysmod rows → AllByRecursion IsZoneRow (filter (is_of_both client zone) rows)
     rows_here [] all = tt
@@ -236,11 +233,8 @@ module _ (stored : Stored) (whole : IsWhole stored) where
             ((p.row, fit.2, is ∙ ap₂ (λ c z. zone_row c z p.row) of inside), rest)
         by false at rest it = rest
 
-    row_again : (r : ZoneRow) → IsId r.sysmod → zone_row_found (id_value r.sysmod ∷ state_value r.state ∷ []) ≡ Some r
-    row_again r is = rw (id_again r.sysmod is, state_again r.state) refl
-
     row_name : (row : Row) → IsZoneRow row → (k : List ℕ) × (name_in row ≡ Some k)
-    row_name row (r, fit, is) = (r.sysmod, ap name_in is ∙ ap (option_map (λ (x : ZoneRow). x.sysmod)) (row_again r fit))
+    row_name row (r, fit, is) = (r.sysmod, ap name_in is ∙ ap (option_map (λ (x : ZoneRow). x.sysmod)) (zone_row_again client zone r fit))
 
     row_alike : (a b : Row) → IsZoneRow a → IsZoneRow b → name_in a ≡ name_in b → take 3 a ≡ take 3 b
     unfolding row_name
@@ -254,10 +248,10 @@ module _ (stored : Stored) (whole : IsWhole stored) where
     zone_rows_length =
         let rows = filter (is_of_both client zone) stored.rows in
         let here = rows_here stored.rows whole.rows in
-        let named = part_read row_in (λ (r : ZoneRow). r.sysmod) rows in
-        in_order_rows_length (filter_map row_in rows)
+        let named = part_read zone_row_said (λ (r : ZoneRow). r.sysmod) rows in
+        in_order_rows_length (filter_map zone_row_said rows)
         (subst AreApart named (read_apart 3 name_in IsZoneRow row_name row_alike rows here (own_filtered 3 (is_of_both client zone) stored.rows whole.row_keys)))
-        ∙ sym (length-map (filter_map row_in rows) (λ (r : ZoneRow). r.sysmod))
+        ∙ sym (length-map (filter_map zone_row_said rows) (λ (r : ZoneRow). r.sysmod))
         ∙ ap length (sym named)
         ∙ read_length 3 name_in IsZoneRow row_name row_alike rows here
 

@@ -20,11 +20,10 @@ use Rattle.sql_tables.specs.Rows.{Beside, hold_found, sysmod_found, sysmod_row, 
 use Rattle.sql_tables.specs.Stored.{Stored, beside_of, is_of, sysmods_of, tables_of}
 use Rattle.sql_tables.specs.Values.{hold_kind_in, id_in}
 use Rattle.sql_tables.specs.Whole.{AreRowsOf, IsWhole}
-use Rattle.sql_tables.proofs.ContentFacts.{hold_own}
-use Rattle.sql_tables.proofs.ListValueFacts.{ids_again}
 use Rattle.sql_tables.proofs.ReadFacts.{holds_read}
 use Rattle.sql_tables.proofs.RecordFacts.{all_ids_read, no_record, one_record}
-use Rattle.sql_tables.proofs.ValueFacts.{id_again, sysmod_kind_again}
+use Rattle.sql_tables.proofs.RowFacts.{hold_own, sysmod_again}
+use Rattle.sql_tables.proofs.ValueFacts.{id_again}
 use Rattle.sql_texts.specs.Found.{shown}
 use Rattle.sql_reads.specs.Answering.{one_of}
 use Rattle.sql_reads.proofs.ClientFacts.{table_said}
@@ -32,10 +31,6 @@ use Rattle.sql_reads.proofs.MemberFacts.{filtered, read_from}
 use Rattle.sql_reads.proofs.TableFacts.{filter_true, one_case, one_passes}
 
 -- ---- records
-
--- a row that the bureau wrote says its record, with what is said of it beside
-pub sysmod_read : (beside : Beside) (x : Sysmod) → IsRecord x → sysmod_found beside (sysmod_row x) ≡ Some (record x { conds = beside.conds; sup = beside.sup })
-sysmod_read beside x is = rw (id_again x.id is.id, sysmod_kind_again x.kind, ids_again x.fmids is.fmids, ids_again x.pre is.pre, ids_again x.req is.req) refl
 
 pub sysmods_ids : (beside : List ℕ → Beside) (rows : List Row) → AreRowsOf sysmod_row IsRecord rows → content.ids_in (sysmods_of beside rows) ≡ filter_map (λ row. id_in (column row 0)) rows
 sysmods_ids beside [] all = refl
@@ -48,7 +43,7 @@ sysmods_ids beside (row ∷ rows) all =
     said it =
         ap (λ r. option_and_then (λ id. sysmod_found (beside id) r) (id_in (column r 0))) it.2
         ∙ ap (option_and_then (λ id. sysmod_found (beside id) (sysmod_row it.0))) (id_again it.0.id it.1.id)
-        ∙ sysmod_read (beside it.0.id) it.0 it.1
+        ∙ sysmod_again (beside it.0.id) it.0 it.1
 
 -- the rows that are shown of an id say its record
 pub sysmod_shown : (stored : Stored) (id : List ℕ) (rows : List Row) → IsPermutation (map (shown (0 ∷ 1 ∷ 2 ∷ 3 ∷ 4 ∷ [])) (filter (is_of id) stored.sysmods)) rows → (found : Option Sysmod)

@@ -13,12 +13,11 @@ use Rattle.sql_texts.specs.Found.{passes}
 use Rattle.sql_texts.specs.Meaning.{Means}
 use Rattle.sql_texts.specs.Schema.{bureau, tables}
 use Rattle.sql_texts.specs.Writes.{delete_of}
-use Rattle.sql_tables.specs.Changes.{replaced}
-use Rattle.sql_tables.specs.Stored.{Stored}
+use Rattle.sql_tables.specs.Changes.{coming, going, instead, replaced}
+use Rattle.sql_tables.specs.Stored.{Stored, of_table}
 use Rattle.sql_state.specs.Numbered.{IsNumbered}
 use Rattle.sql_state.specs.Ours.{held_by}
 use Rattle.sql_state.specs.Writing.{Changes, IsKnown}
-use Rattle.sql_rows.specs.Parts.{coming, going, instead}
 use Rattle.sql_rows.specs.Running.{Ran}
 use Rattle.sql_rows.specs.Standing.{Stands}
 use Rattle.sql_rows.proofs.ChangeFacts.{changed_by}
@@ -58,10 +57,10 @@ module _ (index : ℕ) (table : Table) (rows : Stored → List Row) (with_rows :
   pub goes : {A F : Type 0} (old new : State) (text : List ℕ) (params : Row) (tests : List Term) (parameters : ℕ) (has : Row → Bool) (result : Result A F)
       → ((row : Row) → passes params tests row ≡ has (drop 1 row))
       → Means bureau text (delete_of index table.tree tests) parameters → Ran text params old new result
-      → Changes old new result (going rows with_rows has)
+      → Changes old new result (going (of_table rows with_rows) has)
   goes old new text params tests parameters has result alike means ran =
       let there = old.now.trees table.tree in
-      changed_by old new text params result (going rows with_rows has) ran (λ clean count known executes.
+      changed_by old new text params result (going (of_table rows with_rows) has) ran (λ clean count known executes.
       let set = deletes text index table tests parameters params old new count means stands.placed known.schema (numbered_so old.now known) executes in
       let after = set_so _ old.now new.now known set in (
         after.0,
@@ -70,21 +69,21 @@ module _ (index : ℕ) (table : Table) (rows : Stored → List Row) (with_rows :
       ))
 
   -- nothing goes where nothing is there
-  pub none_goes : (has : Row → Bool) (stored : Stored) → list_any has (rows stored) ≡ false → stored ≡ going rows with_rows has stored
+  pub none_goes : (has : Row → Bool) (stored : Stored) → list_any has (rows stored) ≡ false → stored ≡ going (of_table rows with_rows) has stored
   none_goes has stored none = sym (stands.kept stored) ∙ ap (λ all. with_rows all stored) (none_gone has (rows stored) none)
 
   -- rows that go, and then rows that come
-  pub in_place : (has : Row → Bool) (news : List Row) (stored : Stored) → coming rows with_rows news (going rows with_rows has stored) ≡ instead rows with_rows has news stored
+  pub in_place : (has : Row → Bool) (news : List Row) (stored : Stored) → coming (of_table rows with_rows) news (going (of_table rows with_rows) has stored) ≡ instead (of_table rows with_rows) has news stored
   in_place has news stored =
       let left = replaced has [] (rows stored) in
       stands.again (rows (with_rows left stored) ++ news) left stored
       ∙ ap (λ all. with_rows all stored) (ap (λ all. all ++ news) (stands.got left stored) ∙ replaced_then has news (rows stored))
 
   -- rows that come after rows that came
-  pub none_come : (stored : Stored) → stored ≡ coming rows with_rows [] stored
+  pub none_come : (stored : Stored) → stored ≡ coming (of_table rows with_rows) [] stored
   none_come stored = sym (ap (λ all. with_rows all stored) (append-nil (rows stored)) ∙ stands.kept stored)
 
-  pub more_come : (ones others : List Row) (stored : Stored) → coming rows with_rows others (coming rows with_rows ones stored) ≡ coming rows with_rows (ones ++ others) stored
+  pub more_come : (ones others : List Row) (stored : Stored) → coming (of_table rows with_rows) others (coming (of_table rows with_rows) ones stored) ≡ coming (of_table rows with_rows) (ones ++ others) stored
   more_come ones others stored =
       stands.again (rows (with_rows (rows stored ++ ones) stored) ++ others) (rows stored ++ ones) stored
       ∙ ap (λ all. with_rows all stored) (ap (λ all. all ++ others) (stands.got (rows stored ++ ones) stored) ∙ append_assoc (rows stored) ones others)

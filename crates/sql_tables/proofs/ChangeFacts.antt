@@ -1,7 +1,7 @@
 -- What a client's change makes of the rows is what it makes of the tables.
 use Rattle.std.proofs.Common.{◌≡◌, ℕ, Bool, true, false, cond, List, [], ◌∷◌, refl, sym, ◌∙◌, ap, if◌then◌else◌}
-use Rattle.std.specs.Prelude.{filter, fold, map, Some, None, is_some, option_and_then, option_map, unwrap_or}
-use Rattle.std.specs.List.{AllByRecursion, cons_option, filter_map, list_any}
+use Rattle.std.specs.Prelude.{filter, fold, map, Some, None, is_some, option_and_then, unwrap_or}
+use Rattle.std.specs.List.{AllByRecursion, filter_map, list_any}
 use Rattle.mcs_reader.specs.Id.{IsId}
 use Rattle.catalogue.specs.Content.{Content}
 use Rattle.catalogue.specs.Ids.{same_id}
@@ -17,17 +17,16 @@ use Rattle.bureau_store.specs.Tables.{AreInOrder, LastChange, no_change}
 use Rattle.bureau_store.specs.declared.caller.Caller.{Caller}
 use Rattle.bureau_store.specs.declared.caller.Caller.TheVariants.{Publisher, Client}
 use Rattle.bureau_store.specs.declared.caller.CallerRow.{CallerRow}
-use Rattle.sqlite_value.specs.Order.{Row, column}
-use Rattle.sql_tables.specs.Changes.{changed, published, received_after, replaced, stored_after, with_last}
+use Rattle.sqlite_value.specs.Order.{Row}
+use Rattle.sql_tables.specs.Changes.{changed, client_changed, published, replaced, stored_after, with_last}
 use Rattle.sql_tables.specs.Fit.{CanBeMade, IsFit, IsNamed, IsOwn}
-use Rattle.sql_tables.specs.Rows.{caller_found, caller_row, change_found, change_row, received_row}
-use Rattle.sql_tables.specs.Stored.{Stored, change_of, first, is_of, is_of_both, last_of, name_of, opened, received_of, shown, tables_of, zone_of, zones_of}
-use Rattle.sql_tables.specs.Values.{ids_in}
+use Rattle.sql_tables.specs.Rows.{caller_found, caller_row, change_row, received_row}
+use Rattle.sql_tables.specs.Stored.{Stored, change_of, change_said, content_of, is_of, is_of_both, last_of, name_of, opened, received_of, received_said, tables_of, zone_of, zones_of}
 use Rattle.sql_tables.proofs.ClientFacts.{of_apart, zone_found, zones_ascend}
 use Rattle.sql_tables.proofs.ContentFacts.{all_published, content_in_order, spared}
-use Rattle.sql_tables.proofs.ListFacts.{filter_other, filter_same}
-use Rattle.sql_tables.proofs.ListValueFacts.{ids_again}
-use Rattle.sql_tables.proofs.ValueFacts.{id_again, named_itself}
+use Rattle.sql_tables.proofs.ListFacts.{filter_other, filter_same, read_again}
+use Rattle.sql_tables.proofs.RowFacts.{caller_again, change_again, received_again}
+use Rattle.sql_tables.proofs.ValueFacts.{named_itself}
 use Rattle.sql_tables.proofs.ZoneFacts.{heads_other, rows_other, same_zones, zones_asked, zones_dropped, zones_put}
 
 -- ---- one row for a name
@@ -44,35 +43,33 @@ other_row name other row rows apart is =
 
 -- ---- the received list
 
-received_own : (client : List ℕ) (e : Effect) (rows : List Row) → IsId client → IsFit e
-    → received_of (received_after client e rows) client ≡ effect.received_after e (received_of rows client)
-received_own client (publication changes) rows is fit = refl
-received_own client (zone_put zone news) rows is fit = refl
-received_own client (zone_dropped zone) rows is fit = refl
-received_own client (received_put ids) rows is fit =
-    ap (λ rs. unwrap_or (option_and_then (λ row. ids_in (column row 1)) (first rs)) []) (own_row client (received_row client ids) rows (named_itself client is))
-    ∙ ap (λ o. unwrap_or o []) (ids_again ids fit)
-received_own client (patterns_put zone patterns) rows is fit = refl
+received_own : (client : List ℕ) (e : Effect) (stored : Stored) → IsId client → IsFit e
+    → received_of (client_changed client e stored).received client ≡ effect.received_after e (received_of stored.received client)
+received_own client (publication changes) stored is fit = refl
+received_own client (zone_put zone news) stored is fit = refl
+received_own client (zone_dropped zone) stored is fit = refl
+received_own client (received_put ids) stored is fit =
+    ap received_said (own_row client (received_row client ids) stored.received (named_itself client is)) ∙ received_again client ids fit
+received_own client (patterns_put zone patterns) stored is fit = refl
 
-received_other : (client name : List ℕ) (e : Effect) (rows : List Row) → IsId client → same_id client name ≡ false
-    → received_of (received_after client e rows) name ≡ received_of rows name
-received_other client name (publication changes) rows is apart = refl
-received_other client name (zone_put zone news) rows is apart = refl
-received_other client name (zone_dropped zone) rows is apart = refl
-received_other client name (received_put ids) rows is apart =
-    ap (λ rs. unwrap_or (option_and_then (λ row. ids_in (column row 1)) (first rs)) []) (other_row client name (received_row client ids) rows apart (named_itself client is))
-received_other client name (patterns_put zone patterns) rows is apart = refl
+received_other : (client name : List ℕ) (e : Effect) (stored : Stored) → IsId client → same_id client name ≡ false
+    → received_of (client_changed client e stored).received name ≡ received_of stored.received name
+received_other client name (publication changes) stored is apart = refl
+received_other client name (zone_put zone news) stored is apart = refl
+received_other client name (zone_dropped zone) stored is apart = refl
+received_other client name (received_put ids) stored is apart =
+    ap received_said (other_row client name (received_row client ids) stored.received apart (named_itself client is))
+received_other client name (patterns_put zone patterns) stored is apart = refl
 
 -- ---- the last change
 
 change_own : (name : List ℕ) (last : LastChange) (rows : List Row) → IsId name → change_of (with_last (Some name) last rows) name ≡ Some last
-change_own name last rows is =
-    ap (λ rs. option_and_then (λ row. change_found (shown (1 ∷ 2 ∷ []) row)) (first rs)) (own_row name (change_row name last) rows (named_itself name is))
+change_own name last rows is = ap change_said (own_row name (change_row name last) rows (named_itself name is)) ∙ change_again name last
 
 change_other : (name other : List ℕ) (last : LastChange) (rows : List Row) → IsId name → same_id name other ≡ false
     → change_of (with_last (Some name) last rows) other ≡ change_of rows other
 change_other name other last rows is apart =
-    ap (λ rs. option_and_then (λ row. change_found (shown (1 ∷ 2 ∷ []) row)) (first rs)) (other_row name other (change_row name last) rows apart (named_itself name is))
+    ap change_said (other_row name other (change_row name last) rows apart (named_itself name is))
 
 publisher_id : IsId publisher_name
 publisher_id = (refl, refl)
@@ -110,6 +107,17 @@ private_content client (zone_dropped zone) content own = refl
 private_content client (received_put ids) content own = refl
 private_content client (patterns_put zone patterns) content own = refl
 
+-- all rows but those of the clients
+abbrev not_of_clients : Stored → Stored
+not_of_clients stored = record stored { heads = []; rows = []; received = [] }
+
+others_stay : (client : List ℕ) (e : Effect) (stored : Stored) → not_of_clients (client_changed client e stored) ≡ not_of_clients stored
+others_stay client (publication changes) stored = refl
+others_stay client (zone_put zone rows) stored = refl
+others_stay client (zone_dropped zone) stored = refl
+others_stay client (received_put ids) stored = refl
+others_stay client (patterns_put zone patterns) stored = refl
+
 zones_own : (client : List ℕ) (e : Effect) (stored : Stored) → IsId client → CanBeMade (Client client) e (tables_of stored)
     → zones_of (changed (Client client) e stored) client ≡ zones_after e (zones_of stored client)
 zones_own client (publication changes) stored is can = absurd can.own
@@ -127,16 +135,22 @@ zones_other : (client name : List ℕ) (e : Effect) (stored : Stored) → IsId c
     → zones_of (changed (Client client) e stored) name ≡ zones_of stored name
 zones_other client name e stored is fit apart =
     same_zones stored (changed (Client client) e stored) name
-    (λ zone. heads_other client name zone e is fit apart stored.heads)
-    (λ zone. rows_other client name zone e is fit apart stored.rows)
+    (λ zone. heads_other client name zone e is fit apart stored)
+    (λ zone. rows_other client name zone e is fit apart stored)
 
 -- a change of a client
 pub client_made : (client : List ℕ) (e : Effect) (last : LastChange) (stored : Stored) → CanBeMade (Client client) e (tables_of stored)
     → tables_of (stored_after (Client client) e last stored) ≡ effect.tables_after (Client client) e last (tables_of stored)
 client_made client e last stored can =
     same_tables (tables_of (stored_after (Client client) e last stored)) (effect.tables_after (Client client) e last (tables_of stored))
-    refl (sym (private_content client e (tables_of stored).content can.own)) (λ other. last_after (Client client) other last stored.changes can.named) zones received
+    (ap (λ (s : Stored). filter_map caller_found s.callers) stay)
+    (ap content_of stay ∙ sym (private_content client e (tables_of stored).content can.own))
+    (λ other. ap (λ (s : Stored). last_of (with_last (name_of (Client client)) last s.changes) other) stay ∙ last_after (Client client) other last stored.changes can.named)
+    zones received
   where
+    stay : not_of_clients (client_changed client e stored) ≡ not_of_clients stored
+    stay = others_stay client e stored
+
     zones : (name : List ℕ) → zones_of (changed (Client client) e stored) name ≡ (if same_id client name then zones_after e (zones_of stored name) else zones_of stored name)
     zones name = by (same_id client name) refl
       where
@@ -146,16 +160,16 @@ client_made client e last stored can =
             ap (zones_of (changed (Client client) e stored)) (sym same) ∙ zones_own client e stored can.named.0 can ∙ ap (λ n. zones_after e (zones_of stored n)) same
         by false at = zones_other client name e stored can.named.0 can.fit at
 
-    received : (name : List ℕ) → received_of (received_after client e stored.received) name ≡ (if same_id client name then effect.received_after e (received_of stored.received name) else received_of stored.received name)
+    received : (name : List ℕ) → received_of (client_changed client e stored).received name ≡ (if same_id client name then effect.received_after e (received_of stored.received name) else received_of stored.received name)
     received name = by (same_id client name) refl
       where
         by : (b : Bool) → same_id client name ≡ b
-            → received_of (received_after client e stored.received) name ≡ cond b (effect.received_after e (received_of stored.received name)) (received_of stored.received name)
+            → received_of (client_changed client e stored).received name ≡ cond b (effect.received_after e (received_of stored.received name)) (received_of stored.received name)
         by true at =
             let same = one_id client name at in
-            ap (received_of (received_after client e stored.received)) (sym same) ∙ received_own client e stored.received can.named.0 can.fit
+            ap (received_of (client_changed client e stored).received) (sym same) ∙ received_own client e stored can.named.0 can.fit
             ∙ ap (λ n. effect.received_after e (received_of stored.received n)) same
-        by false at = received_other client name e stored.received can.named.0 at
+        by false at = received_other client name e stored can.named.0 at
 
 -- a change of the publisher
 publisher_made : (changes : List Change) (last : LastChange) (stored : Stored) → IsFit (publication changes)
@@ -194,10 +208,7 @@ change_made (Client client) e last stored can = client_made client e last stored
 -- ---- before the first change
 
 pub callers_again : (rows : List CallerRow) → AllByRecursion (λ (row : CallerRow). IsId row.name) rows → filter_map caller_found (map caller_row rows) ≡ rows
-callers_again [] h = refl
-callers_again (row ∷ rows) h =
-    ap (λ o. cons_option (option_map (λ name. record { name = name; token = row.token }) o) (filter_map caller_found (map caller_row rows))) (id_again row.name h.0)
-    ∙ ap (λ rest. row ∷ rest) (callers_again rows h.1)
+callers_again rows all = read_again (λ (row : CallerRow). IsId row.name) caller_row caller_found caller_again rows all
 
 pub opened_tables : (rows : List CallerRow) → AllByRecursion (λ (row : CallerRow). IsId row.name) rows → tables_of (opened (map caller_row rows)) ≡ tables.opened rows
 opened_tables rows h = same_tables (tables_of (opened (map caller_row rows))) (tables.opened rows) (callers_again rows h) refl last (λ name. refl) (λ name. refl)

@@ -1,7 +1,7 @@
 -- What the rows say of each client, and what a client's change makes of it.
 use Rattle.std.proofs.Common.{◌≡◌, ℕ, Bool, true, false, cond, ◌&&◌, ◌||◌, List, [], ◌∷◌, refl, sym, ◌∙◌, ap, if◌then◌else◌}
 use Rattle.std.specs.Prelude.{filter, map, Option, Some, None, option_map, unwrap_or}
-use Rattle.std.specs.List.{AllByRecursion, filter_map, cons_option, list_any}
+use Rattle.std.specs.List.{filter_map, cons_option, list_any}
 use Rattle.std.proofs.lemmas.Bool.{and_parts}
 use Rattle.std.proofs.Math.Bool.{and-false}
 use Rattle.mcs_reader.specs.Id.{IsId}
@@ -12,12 +12,13 @@ use Rattle.bureau_store.specs.Tables.{ZoneTable, zone_named}
 use Rattle.sqlite_value.specs.Order.{Row, column}
 use Rattle.sqlite_value.specs.declared.value.Value.{Value}
 use Rattle.sql_tables.specs.Fit.{AreZoneRows}
-use Rattle.sql_tables.specs.Rows.{zone_row, zone_row_found}
-use Rattle.sql_tables.specs.Stored.{Stored, is_named, is_of, is_of_both, names_of, rows_in_order, shown, zone_of, zone_rows_of, zones_of}
-use Rattle.sql_tables.specs.Values.{id_in, id_value, state_value}
+use Rattle.sql_tables.specs.Rows.{zone_row}
+use Rattle.sql_tables.specs.Stored.{Stored, is_named, is_of, is_of_both, names_of, rows_in_order, zone_of, zone_row_said, zone_rows_of, zones_of}
+use Rattle.sql_tables.specs.Values.{id_in, id_value}
 use Rattle.sql_tables.proofs.ListFacts.{read_again}
 use Rattle.sql_tables.proofs.OrderFacts.{KeysAscend, by_key_same, each_name, each_with, looked_up, name_in, with_key}
-use Rattle.sql_tables.proofs.ValueFacts.{id_again, named_apart, named_itself, state_again}
+use Rattle.sql_tables.proofs.RowFacts.{zone_row_again}
+use Rattle.sql_tables.proofs.ValueFacts.{named_apart, named_itself}
 
 -- ---- which rows belong to whom
 
@@ -99,20 +100,10 @@ zone_found stored client zone =
 
 -- ---- the rows of a zone that is put
 
-zone_rows_read : (client zone : List ℕ) (rows : List ZoneRow) → AllByRecursion (λ row. IsId row.sysmod) rows
-    → filter_map (λ row. zone_row_found (shown (2 ∷ 3 ∷ []) (zone_row client zone row))) rows ≡ rows
-zone_rows_read client zone [] h = refl
-zone_rows_read client zone (row ∷ rows) h =
-    ap (λ found. cons_option found (filter_map (λ r. zone_row_found (shown (2 ∷ 3 ∷ []) (zone_row client zone r))) rows)) one
-    ∙ ap (λ rs. row ∷ rs) (zone_rows_read client zone rows h.1)
-  where
-    one : zone_row_found (id_value row.sysmod ∷ state_value row.state ∷ []) ≡ Some row
-    one = rw (id_again row.sysmod h.0, state_again row.state) refl
-
 -- rows that are put are those that are read
 pub rows_put : (client zone : List ℕ) (rows : List ZoneRow) → IsId client → IsId zone → AreZoneRows rows
     → (all : List Row) → filter (is_of_both client zone) all ≡ map (zone_row client zone) rows → zone_rows_of all client zone ≡ rows
 rows_put client zone rows is_client is_zone fit all has =
-    ap (λ rs. rows_in_order (filter_map (λ row. zone_row_found (shown (2 ∷ 3 ∷ []) row)) rs)) has
-    ∙ ap rows_in_order (read_again (λ row. zone_row_found (shown (2 ∷ 3 ∷ []) row)) (zone_row client zone) rows (zone_rows_read client zone rows fit.ids))
+    ap (λ rs. rows_in_order (filter_map zone_row_said rs)) has
+    ∙ ap rows_in_order (read_again (λ (row : ZoneRow). IsId row.sysmod) (zone_row client zone) zone_row_said (zone_row_again client zone) rows fit.ids)
     ∙ by_key_same (λ row. row.sysmod) rows fit.ascend

@@ -30,40 +30,22 @@ use Rattle.catalogue.specs.Publication.{after, last_of}
 use Rattle.catalogue.specs.declared.change.Change.{Change}
 use Rattle.catalogue.specs.declared.change.Change.TheVariants.{Whole, OfHold}
 use Rattle.catalogue.specs.declared.sysmod.Sysmod.{Sysmod}
-use Rattle.catalogue.specs.declared.sysmod.SysmodKind.{SysmodKind}
 use Rattle.catalogue.proofs.IdFacts.{conds_total, exact_ids, ids_total, itself, one_id, same_back}
 use Rattle.catalogue.proofs.PublicationFacts.{after_more, after_none, after_only}
 use Rattle.catalogue.proofs.RecordFacts.{catalogue_is, last_append}
 use Rattle.sqlite_value.specs.Order.{Row, column}
 use Rattle.sql_tables.specs.Changes.{holds_changed, is_under, published, replaced}
 use Rattle.sql_tables.specs.Fit.{IsCond, IsFitChange, IsHold, IsRecord}
-use Rattle.sql_tables.specs.Rows.{Beside, cond_found, cond_row, hold_found, hold_row, hold_with, key_found, sup_row, sysmod_found, sysmod_row, with}
+use Rattle.sql_tables.specs.Rows.{Beside, cond_found, cond_row, hold_found, hold_row, key_found, sup_row, sysmod_found, sysmod_row, with}
 use Rattle.sql_tables.specs.Stored.{Stored, beside_of, content_of, is_of, shown, sysmods_of}
-use Rattle.sql_tables.specs.Values.{categories_in, date_in, hold_kind_in, id_in, ids_in, optional_id_in, sysmod_kind_in}
+use Rattle.sql_tables.specs.Values.{hold_kind_in, id_in}
 use Rattle.sql_tables.proofs.ClientFacts.{of_apart}
-use Rattle.sql_tables.proofs.ListFacts.{filter_all, filter_none, filter_other, filter_same}
-use Rattle.sql_tables.proofs.RowFacts.{cond_again, hold_again, sysmod_again}
+use Rattle.sql_tables.proofs.ListFacts.{filter_all, filter_none, filter_other, filter_same, read_again}
+use Rattle.sql_tables.proofs.RowFacts.{cond_again, hold_again, hold_own, sysmod_again, sysmod_own}
 use Rattle.sql_tables.proofs.SetFacts.{exact_conds, set_same}
 use Rattle.sql_tables.proofs.ValueFacts.{id_again, named_itself, named_value}
 
 -- ---- records
-
--- a record that is read has the id of its row
-pub sysmod_own : (beside : Beside) (row : Row) (sysmod : Sysmod) → sysmod_found beside row ≡ Some sysmod → id_in (column row 0) ≡ Some sysmod.id
-sysmod_own beside row sysmod h = by (id_in (column row 0)) (sysmod_kind_in (column row 1)) (ids_in (column row 2)) (ids_in (column row 3)) (ids_in (column row 4)) h
-  where
-    by : (id : Option (List ℕ)) (kind : Option SysmodKind) (fmids pre req : Option (List (List ℕ)))
-        → with id (λ i. with kind (λ k. with fmids (λ f. with pre (λ p. option_map (λ r. record { id = i; kind = k; fmids = f; pre = p; req = r; conds = beside.conds; sup = beside.sup }) req)))) ≡ Some sysmod
-        → id ≡ Some sysmod.id
-    by None kind fmids pre req h = cc
-    by (Some i) None fmids pre req h = cc
-    by (Some i) (Some k) None pre req h = cc
-    by (Some i) (Some k) (Some f) None req h = cc
-    by (Some i) (Some k) (Some f) (Some p) None h = cc
-    by (Some i) (Some k) (Some f) (Some p) (Some r) h = ap Some (some_id h)
-      where
-        some_id : ◌≡◌ {A = Option Sysmod} (Some (record { id = i; kind = k; fmids = f; pre = p; req = r; conds = beside.conds; sup = beside.sup })) (Some sysmod) → i ≡ sysmod.id
-        some_id e = ap (λ (o : Option Sysmod). unwrap_or (option_map (λ (s : Sysmod). s.id) o) i) e
 
 -- one record before others, as the last of an id sees it
 abbrev more : List ℕ → Option Sysmod → List Sysmod → Option Sysmod
@@ -130,20 +112,13 @@ record_by stored id = (catalogue_is (sysmods_of (beside_of stored) stored.sysmod
 
 -- ---- lists in order that stand beside a record, in rows of its id
 
--- the rows of a list are read again
-listed_again : {X : Type 0} (P : X → Type 0) (make : X → Row) (read : Row → Option X) → ((x : X) → P x → read (make x) ≡ Some x) → (xs : List X) → AllByRecursion P xs
-    → filter_map read (map make xs) ≡ xs
-listed_again P make read again [] h = refl
-listed_again P make read again (x ∷ xs) h =
-    ap (λ o. cons_option o (filter_map read (map make xs))) (again x h.0) ∙ ap (λ rest. x ∷ rest) (listed_again P make read again xs h.1)
-
 -- the rows of a list come in place of those of its id
 module _ {X : Type 0} (make : X → Row) (id : List ℕ) (own : (x : X) → is_of id (make x) ≡ true) (xs : List X) (rows : List Row) where
   listed_own : {cmp : X → X → Ordering} → IsTotalOrder cmp → CmpEqualImpliesEq cmp → (P : X → Type 0) (read : Row → Option X) → ((x : X) → P x → read (make x) ≡ Some x)
       → AllByRecursion P xs → IsStrictlySortedBy cmp xs → fold (insert_key cmp) [] (filter_map read (filter (is_of id) (replaced (is_of id) (map make xs) rows))) ≡ xs
   listed_own {cmp} total exact P read again all ascend =
       ap (λ found. fold (insert_key cmp) [] (filter_map read found)) (filter_same (is_of id) (map make xs) rows ∙ filter_all (is_of id) make own xs)
-      ∙ ap (fold (insert_key cmp) []) (listed_again P make read again xs all)
+      ∙ ap (fold (insert_key cmp) []) (read_again P make read again xs all)
       ∙ set_same total exact xs ascend
 
   listed_other : (other : List ℕ) → same_id id other ≡ false → filter (is_of other) (replaced (is_of id) (map make xs) rows) ≡ filter (is_of other) rows
@@ -178,7 +153,7 @@ module _ (stored : Stored) (x : Sysmod) (is : IsRecord x) where
       ∙ ap (λ rows. last_of (records_by (beside_of new) x.id rows) x.id)
       (filter_same (is_of x.id) (sysmod_row x ∷ []) stored.sysmods ∙ ap (λ b. cond b (sysmod_row x ∷ []) []) (named_itself x.id is.id))
       ∙ ap (λ beside. last_of (cons_option (sysmod_found beside (sysmod_row x)) []) x.id) beside_own
-      ∙ ap (λ o. last_of (cons_option o []) x.id) (sysmod_again x is)
+      ∙ ap (λ o. last_of (cons_option o []) x.id) (sysmod_again (record { conds = x.conds; sup = x.sup }) x is)
       ∙ ap (λ b. cond b (Some x) None) (itself x.id)
 
   record_other : (id : List ℕ) → same_id x.id id ≡ false → record_of (content_of new) id ≡ record_of (content_of stored) id
@@ -241,27 +216,6 @@ key_is key row = by (id_in (column row 0)) (hold_kind_in (column row 1)) (id_in 
     by (Some sysmod) None c = and-false (same_id sysmod key.sysmod)
     by (Some sysmod) (Some kind) None = ap (λ x. same_id sysmod key.sysmod && x) (and-false (is_same_kind kind key.kind)) ∙ and-false (same_id sysmod key.sysmod)
     by (Some sysmod) (Some kind) (Some reason) = refl
-
--- a hold that is read has the key of its row
-with_own : (key : HoldKey) (row : Row) (hold : Hold) → hold_with key row ≡ Some hold → hold.key ≡ key
-with_own key row hold h = by (optional_id_in (column row 3)) (optional_id_in (column row 4)) (date_in (column row 5)) (optional_id_in (column row 6)) (categories_in (column row 7)) h
-  where
-    by : (fmid class : Option (Option (List ℕ))) (dated : Option (Option ℕ)) (resolver : Option (Option (List ℕ))) (categories : Option (List (List ℕ)))
-        → with fmid (λ f. with class (λ c. with dated (λ d. with resolver (λ r. option_map (λ cs. record { key = key; fmid = f; class = c; resolver = r; dated = d; categories = cs }) categories)))) ≡ Some hold
-        → hold.key ≡ key
-    by None class dated resolver categories h = cc
-    by (Some f) None dated resolver categories h = cc
-    by (Some f) (Some c) None resolver categories h = cc
-    by (Some f) (Some c) (Some d) None categories h = cc
-    by (Some f) (Some c) (Some d) (Some r) None h = cc
-    by (Some f) (Some c) (Some d) (Some r) (Some cs) h = sym (ap (λ (o : Option Hold). unwrap_or (option_map (λ (x : Hold). x.key) o) key) h)
-
-pub hold_own : (row : Row) (hold : Hold) → hold_found row ≡ Some hold → key_found row ≡ Some hold.key
-hold_own row hold h = by (key_found row) refl h
-  where
-    by : (o : Option HoldKey) → key_found row ≡ o → with o (λ key. hold_with key row) ≡ Some hold → key_found row ≡ Some hold.key
-    by None is h = cc
-    by (Some key) is h = is ∙ ap Some (sym (with_own key row hold h))
 
 -- the last hold under a key is read from the rows under that key alone
 under_by : (rows : List Row) (key : HoldKey) → last_under (filter_map hold_found rows) key ≡ last_under (filter_map hold_found (filter (is_under key) rows)) key

@@ -1,7 +1,7 @@
 -- Rows that go and rows that come, as a filter sees them.
 use Rattle.std.proofs.Common.{◌≡◌, Bool, true, false, cond, ◌||◌, List, [], ◌∷◌, ◌++◌, refl, sym, ◌∙◌, ap}
-use Rattle.std.specs.Prelude.{not, filter, map, Option, is_some}
-use Rattle.std.specs.List.{filter_map, cons_option, list_any}
+use Rattle.std.specs.Prelude.{not, filter, map, Option, Some, is_some}
+use Rattle.std.specs.List.{AllByRecursion, filter_map, cons_option, list_any}
 use Rattle.std.proofs.lemmas.List.Elements.{filter-append}
 use Rattle.std.proofs.lemmas.List.{append-nil}
 use Rattle.sqlite_value.specs.Order.{Row}
@@ -66,10 +66,9 @@ any_first test (row ∷ rows) = by (test row) (any_first test rows)
     by true rest = refl
     by false rest = rest
 
--- rows that are made are read as what they were made of
-pub read_again : {X : Type 0} (read : Row → Option X) (make : X → Row) (xs : List X) → filter_map (λ x. read (make x)) xs ≡ xs → filter_map read (map make xs) ≡ xs
-read_again read make xs again = moved xs ∙ again
-  where
-    moved : (ys : List _) → filter_map read (map make ys) ≡ filter_map (λ x. read (make x)) ys
-    moved [] = refl
-    moved (y ∷ ys) = ap (cons_option (read (make y))) (moved ys)
+-- rows that are made of things are read as these
+pub read_again : {X : Type 0} (P : X → Type 0) (make : X → Row) (read : Row → Option X) → ((x : X) → P x → read (make x) ≡ Some x) → (xs : List X) → AllByRecursion P xs
+    → filter_map read (map make xs) ≡ xs
+read_again P make read again [] all = refl
+read_again P make read again (x ∷ xs) all =
+    ap (λ o. cons_option o (filter_map read (map make xs))) (again x all.0) ∙ ap (λ rest. x ∷ rest) (read_again P make read again xs all.1)

@@ -17,7 +17,8 @@ use Rattle.sqlite_value.specs.Order.{Row, column}
 use Rattle.sql_tables.specs.Rows.{cond_found, sysmod_found}
 use Rattle.sql_tables.specs.Stored.{Stored, beside_of, conds_of, content_of, is_of, shown, sup_of, sysmods_of}
 use Rattle.sql_tables.specs.Values.{id_in}
-use Rattle.sql_tables.proofs.ContentFacts.{record_by, records_by, sysmod_own}
+use Rattle.sql_tables.proofs.ContentFacts.{record_by, records_by}
+use Rattle.sql_tables.proofs.RowFacts.{sysmod_own}
 use Rattle.sql_tables.proofs.MemberFacts.{same_members}
 use Rattle.sql_tables.proofs.OrderFacts.{ids_found, map_same, same_by_key}
 use Rattle.sql_tables.proofs.SetFacts.{exact_conds, set_read}

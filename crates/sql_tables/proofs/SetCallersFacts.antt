@@ -25,9 +25,8 @@ use Rattle.bureau_store.specs.declared.caller.Caller.TheVariants.{Publisher, Cli
 use Rattle.bureau_store.specs.declared.caller.CallerRow.{CallerRow}
 use Rattle.sqlite_value.specs.Order.{Row, column}
 use Rattle.sql_tables.specs.Changes.{replaced, with_callers, without_caller}
-use Rattle.sql_tables.specs.Rows.{change_found}
-use Rattle.sql_tables.specs.Stored.{Stored, change_of, content_of, first, is_named, is_of, is_of_both, last_of, received_of, shown, tables_of, zone_of, zones_of}
-use Rattle.sql_tables.specs.Values.{id_in, ids_in}
+use Rattle.sql_tables.specs.Stored.{Stored, change_of, change_said, content_of, is_named, is_of, is_of_both, last_of, received_of, received_said, tables_of, zone_of, zones_of}
+use Rattle.sql_tables.specs.Values.{id_in}
 use Rattle.sql_tables.proofs.ChangeFacts.{callers_again}
 use Rattle.sql_tables.proofs.ClientFacts.{of_apart}
 use Rattle.sql_tables.proofs.ListFacts.{filter_other, filter_same}
@@ -68,13 +67,13 @@ zones_go name = by_name (λ stored. zones_of stored name) [] name
 
 received_goes : (name : List ℕ) → Goes (λ stored. received_of stored.received name) [] name
 received_goes name = by_name (λ stored. received_of stored.received name) [] name
-    (λ stored. ap (λ rows. unwrap_or (option_and_then (λ row. ids_in (column row 1)) (first rows)) []) (own_rows name stored.received))
-    (λ stored gone other. ap (λ rows. unwrap_or (option_and_then (λ row. ids_in (column row 1)) (first rows)) []) (other_rows gone name other stored.received))
+    (λ stored. ap received_said (own_rows name stored.received))
+    (λ stored gone other. ap received_said (other_rows gone name other stored.received))
 
 change_goes : (name : List ℕ) → Goes (λ stored. unwrap_or (change_of stored.changes name) no_change) no_change name
 change_goes name = by_name (λ stored. unwrap_or (change_of stored.changes name) no_change) no_change name
-    (λ stored. ap (λ rows. unwrap_or (option_and_then (λ row. change_found (shown (1 ∷ 2 ∷ []) row)) (first rows)) no_change) (own_rows name stored.changes))
-    (λ stored gone other. ap (λ rows. unwrap_or (option_and_then (λ row. change_found (shown (1 ∷ 2 ∷ []) row)) (first rows)) no_change) (other_rows gone name other stored.changes))
+    (λ stored. ap (λ rows. unwrap_or (change_said rows) no_change) (own_rows name stored.changes))
+    (λ stored gone other. ap (λ rows. unwrap_or (change_said rows) no_change) (other_rows gone name other stored.changes))
 
 last_goes : (caller : Caller) → Goes (λ stored. last_of stored.changes caller) no_change (set.name_of caller)
 last_goes Publisher = change_goes publisher_name

@@ -1,6 +1,6 @@
 -- Each change leaves rows whole.
 use Rattle.std.proofs.Common.{◌≡◌, ◌≢◌, ◌<◌, ◌+◌, ℕ, zero, suc, arith, Bool, true, false, cond, ◌&&◌, ◌||◌, List, [], ◌∷◌, ◌++◌, refl, sym, ◌∙◌, ap}
-use Rattle.std.specs.Prelude.{filter, fold, map, not, take, Some}
+use Rattle.std.specs.Prelude.{drop, filter, fold, map, not, take, Some}
 use Rattle.std.specs.List.{AllByRecursion, list_any, list_all}
 use Rattle.std.specs.List.Sorted.{IsStrictlySortedBy}
 use Rattle.std.specs.declared.cmp.Ordering.TheVariants.{Less}
@@ -21,11 +21,11 @@ use Rattle.bureau_store.specs.declared.caller.Caller.{Caller}
 use Rattle.bureau_store.specs.declared.caller.Caller.TheVariants.{Publisher, Client}
 use Rattle.bureau_store.specs.declared.caller.CallerRow.{CallerRow}
 use Rattle.sqlite_value.specs.Order.{Row, column}
-use Rattle.sql_tables.specs.Changes.{heads_after, is_kind, is_under, published, replaced, rows_after, stored_after, with_callers, without_caller}
+use Rattle.sql_tables.specs.Changes.{client_changed, going, instead, is_kind, is_under, published, replaced, stored_after, with_callers, with_head, with_last, without_caller}
 use Rattle.sql_tables.specs.Fit.{CanBeWritten, IsCond, IsFit, IsFitChange, IsHold, IsRecord}
-use Rattle.sql_tables.specs.Rows.{caller_row, cond_row, head_row, hold_row, sup_row, sysmod_row, zone_row}
-use Rattle.sql_tables.specs.Stored.{Stored, is_named, is_of, is_of_both, opened}
-use Rattle.sql_tables.specs.Values.{id_in, id_value, state_value, texts_value}
+use Rattle.sql_tables.specs.Rows.{caller_row, cond_row, head_row, hold_row, received_row, sup_row, sysmod_row, zone_row}
+use Rattle.sql_tables.specs.Stored.{Stored, change_table, head_table, is_named, is_of, is_of_both, name_of, opened, row_table}
+use Rattle.sql_tables.specs.Values.{id_in, id_value}
 use Rattle.sql_tables.specs.Whole.{AreRowsOf, HaveOwnKeys, Head, IsCondition, IsHead, IsMember, IsWhole, IsZoneSysmod, condition_row, member_row, row_of_head, row_of_zone_sysmod}
 use Rattle.sql_tables.proofs.ClientFacts.{made_here}
 use Rattle.sql_tables.proofs.ContentFacts.{key_itself, row_under}
@@ -123,6 +123,62 @@ by_hold key a b same =
     ∙ ap (λ v. is_named key.sysmod (column b 0) && (is_kind key.kind v && is_named key.reason (column a 2))) (same_column 3 1 (omega arith) a b same)
     ∙ ap (λ v. is_named key.sysmod (column b 0) && (is_kind key.kind (column b 1) && is_named key.reason v)) (same_column 3 2 (omega arith) a b same)
 
+-- ---- other rows of one table
+
+-- nothing is said of last changes and of received lists
+beside_whole : (changes received : List Row) (stored : Stored) → IsWhole stored → IsWhole (record stored { changes = changes; received = received })
+beside_whole changes received stored whole = record {
+  callers = whole.callers;
+  sysmods = whole.sysmods;
+  sysmod_keys = whole.sysmod_keys;
+  sups = whole.sups;
+  conds = whole.conds;
+  holds = whole.holds;
+  hold_keys = whole.hold_keys;
+  heads = whole.heads;
+  head_keys = whole.head_keys;
+  rows = whole.rows;
+  row_keys = whole.row_keys;
+}
+
+heads_whole : (heads : List Row) (stored : Stored) → AreRowsOf row_of_head IsHead heads → HaveOwnKeys 2 heads → IsWhole stored → IsWhole (head_table.with_rows heads stored)
+heads_whole heads stored fit own whole = record {
+  callers = whole.callers;
+  sysmods = whole.sysmods;
+  sysmod_keys = whole.sysmod_keys;
+  sups = whole.sups;
+  conds = whole.conds;
+  holds = whole.holds;
+  hold_keys = whole.hold_keys;
+  heads = fit;
+  head_keys = own;
+  rows = whole.rows;
+  row_keys = whole.row_keys;
+}
+
+-- heads that pass a test of their keys go, and these come
+heads_replaced : (test : Row → Bool) → ((a b : Row) → take 2 a ≡ take 2 b → test a ≡ test b) → (news : List Row) (stored : Stored)
+    → AreRowsOf row_of_head IsHead news → AllByRecursion (λ row. test row ≡ true) news → HaveOwnKeys 2 news → IsWhole stored → IsWhole (instead head_table test news stored)
+heads_replaced test alike news stored fit pass own whole =
+    heads_whole (replaced test news stored.heads) stored (written_again row_of_head IsHead test news stored.heads whole.heads fit) (own_replaced 2 test alike news stored.heads pass own whole.head_keys) whole
+
+-- so with the rows of zones
+rows_replaced : (test : Row → Bool) → ((a b : Row) → take 3 a ≡ take 3 b → test a ≡ test b) → (news : List Row) (stored : Stored)
+    → AreRowsOf row_of_zone_sysmod IsZoneSysmod news → AllByRecursion (λ row. test row ≡ true) news → HaveOwnKeys 3 news → IsWhole stored → IsWhole (instead row_table test news stored)
+rows_replaced test alike news stored fit pass own whole = record {
+  callers = whole.callers;
+  sysmods = whole.sysmods;
+  sysmod_keys = whole.sysmod_keys;
+  sups = whole.sups;
+  conds = whole.conds;
+  holds = whole.holds;
+  hold_keys = whole.hold_keys;
+  heads = whole.heads;
+  head_keys = whole.head_keys;
+  rows = written_again row_of_zone_sysmod IsZoneSysmod test news stored.rows whole.rows fit;
+  row_keys = own_replaced 3 test alike news stored.rows pass own whole.row_keys;
+}
+
 -- ---- a publication
 
 -- the holds under a key go, and others under it come
@@ -177,18 +233,6 @@ module _ (client : List ℕ) (is_client : IsId client) where
   head_written : (zone : List ℕ) (patterns : List (List ℕ)) → IsId zone → list_all is_pattern patterns ≡ true → AreRowsOf row_of_head IsHead (head_row client zone patterns ∷ [])
   head_written zone patterns is fit = ((record { client = client; zone = zone; patterns = patterns }, (is_client, is, fit), refl), tt)
 
-  heads_written : (e : Effect) (heads : List Row) → IsFit e → AreRowsOf row_of_head IsHead heads → AreRowsOf row_of_head IsHead (heads_after client e heads)
-  heads_written (publication changes) heads fit all = all
-  heads_written (zone_put zone rows) heads fit all = by (list_any (is_of_both client zone) heads)
-    where
-      by : (b : Bool) → AreRowsOf row_of_head IsHead (cond b heads (heads ++ head_row client zone [] ∷ []))
-      by true = all
-      by false = all_append (λ row. (x : Head) × IsHead x × (row ≡ row_of_head x)) heads (head_row client zone [] ∷ []) all (head_written zone [] fit.0 refl)
-  heads_written (zone_dropped zone) heads fit all = written_again row_of_head IsHead (is_of_both client zone) [] heads all tt
-  heads_written (received_put ids) heads fit all = all
-  heads_written (patterns_put zone patterns) heads fit all =
-      written_again row_of_head IsHead (is_of_both client zone) (head_row client zone patterns ∷ []) heads all (head_written zone patterns fit.0 fit.1)
-
   -- rows none of which passes a test
   none_pass : (test : Row → Bool) (rows : List Row) → list_any test rows ≡ false → AllByRecursion (λ row. test row ≡ false) rows
   none_pass test [] none = tt
@@ -199,34 +243,24 @@ module _ (client : List ℕ) (is_client : IsId client) where
       by true at h rest = cc
       by false at h rest = (at, rest h)
 
-  heads_own : (e : Effect) (heads : List Row) → IsFit e → HaveOwnKeys 2 heads → HaveOwnKeys 2 (heads_after client e heads)
-  heads_own (publication changes) heads fit own = own
-  heads_own (zone_put zone rows) heads fit own = by (list_any (is_of_both client zone) heads) refl
+  -- a zone has a head
+  headed : (zone : List ℕ) (stored : Stored) → IsId zone → IsWhole stored → IsWhole (record stored { heads = with_head client zone stored.heads })
+  headed zone stored is whole = by (list_any (is_of_both client zone) stored.heads) refl
     where
-      by : (b : Bool) → list_any (is_of_both client zone) heads ≡ b → HaveOwnKeys 2 (cond b heads (heads ++ head_row client zone [] ∷ []))
-      by true at = own
+      by : (b : Bool) → list_any (is_of_both client zone) stored.heads ≡ b → IsWhole (record stored { heads = cond b stored.heads (stored.heads ++ head_row client zone [] ∷ []) })
+      by true at = whole
       by false at =
-          own_appended 2 heads (head_row client zone [] ∷ []) own (tt, tt)
+          heads_whole (stored.heads ++ head_row client zone [] ∷ []) stored
+          (all_append (λ row. (x : Head) × IsHead x × (row ≡ row_of_head x)) stored.heads (head_row client zone [] ∷ []) whole.heads (head_written zone [] is refl))
+          (own_appended 2 stored.heads (head_row client zone [] ∷ []) whole.head_keys (tt, tt)
           (all_so (λ row. is_of_both client zone row ≡ false) (λ row. AllByRecursion (λ new. take 2 row ≢ take 2 new) (head_row client zone [] ∷ []))
-          (λ row fails. differ_by 2 (is_of_both client zone) (by_zone client zone) row fails (head_row client zone [] ∷ []) (made_here client zone is_client fit.0 (texts_value [] ∷ []), tt)) heads
-          (none_pass (is_of_both client zone) heads at))
-  heads_own (zone_dropped zone) heads fit own = own_replaced 2 (is_of_both client zone) (by_zone client zone) [] heads tt tt own
-  heads_own (received_put ids) heads fit own = own
-  heads_own (patterns_put zone patterns) heads fit own =
-      own_replaced 2 (is_of_both client zone) (by_zone client zone) (head_row client zone patterns ∷ []) heads
-      (made_here client zone is_client fit.0 (texts_value patterns ∷ []), tt) (tt, tt) own
+          (λ row fails. differ_by 2 (is_of_both client zone) (by_zone client zone) row fails (head_row client zone [] ∷ []) (made_here client zone is_client is (drop 2 (head_row client zone [])), tt)) stored.heads
+          (none_pass (is_of_both client zone) stored.heads at)))
+          whole
 
   zone_sysmods_written : (zone : List ℕ) (rows : List ZoneRow) → IsId zone → AllByRecursion (λ (row : ZoneRow). IsId row.sysmod) rows → AreRowsOf row_of_zone_sysmod IsZoneSysmod (map (zone_row client zone) rows)
   zone_sysmods_written zone [] is all = tt
   zone_sysmods_written zone (row ∷ rows) is all = ((record { client = client; zone = zone; row = row }, (is_client, is, all.0), refl), zone_sysmods_written zone rows is all.1)
-
-  rows_written : (e : Effect) (rows : List Row) → IsFit e → AreRowsOf row_of_zone_sysmod IsZoneSysmod rows → AreRowsOf row_of_zone_sysmod IsZoneSysmod (rows_after client e rows)
-  rows_written (publication changes) rows fit all = all
-  rows_written (zone_put zone news) rows fit all =
-      written_again row_of_zone_sysmod IsZoneSysmod (is_of_both client zone) (map (zone_row client zone) news) rows all (zone_sysmods_written zone news fit.0 fit.1.ids)
-  rows_written (zone_dropped zone) rows fit all = written_again row_of_zone_sysmod IsZoneSysmod (is_of_both client zone) [] rows all tt
-  rows_written (received_put ids) rows fit all = all
-  rows_written (patterns_put zone patterns) rows fit all = all
 
   -- SYSMODs that ascend have keys of their own
   later_differ : (zone : List ℕ) (row : ZoneRow) (rows : List ZoneRow) → IsId row.sysmod → AllByRecursion (λ (r : ZoneRow). IsId r.sysmod) rows
@@ -249,51 +283,35 @@ module _ (client : List ℕ) (is_client : IsId client) where
 
   put_here : (zone : List ℕ) (rows : List ZoneRow) → IsId zone → AllByRecursion (λ new. is_of_both client zone new ≡ true) (map (zone_row client zone) rows)
   put_here zone [] is = tt
-  put_here zone (row ∷ rows) is = (made_here client zone is_client is (id_value row.sysmod ∷ state_value row.state ∷ []), put_here zone rows is)
+  put_here zone (row ∷ rows) is = (made_here client zone is_client is (drop 2 (zone_row client zone row)), put_here zone rows is)
 
-  rows_own : (e : Effect) (rows : List Row) → IsFit e → HaveOwnKeys 3 rows → HaveOwnKeys 3 (rows_after client e rows)
-  rows_own (publication changes) rows fit own = own
-  rows_own (zone_put zone news) rows fit own =
-      own_replaced 3 (is_of_both client zone) (by_zone_sysmod client zone) (map (zone_row client zone) news) rows (put_here zone news fit.0) (put_own zone news fit.1.ids fit.1.ascend) own
-  rows_own (zone_dropped zone) rows fit own = own_replaced 3 (is_of_both client zone) (by_zone_sysmod client zone) [] rows tt tt own
-  rows_own (received_put ids) rows fit own = own
-  rows_own (patterns_put zone patterns) rows fit own = own
+  client_whole : (e : Effect) (stored : Stored) → IsFit e → IsWhole stored → IsWhole (client_changed client e stored)
+  client_whole (publication changes) stored fit whole = whole
+  client_whole (zone_put zone news) stored fit whole =
+      rows_replaced (is_of_both client zone) (by_zone_sysmod client zone) (map (zone_row client zone) news) (record stored { heads = with_head client zone stored.heads })
+      (zone_sysmods_written zone news fit.0 fit.1.ids) (put_here zone news fit.0) (put_own zone news fit.1.ids fit.1.ascend) (headed zone stored fit.0 whole)
+  client_whole (zone_dropped zone) stored fit whole =
+      rows_replaced (is_of_both client zone) (by_zone_sysmod client zone) [] (going head_table (is_of_both client zone) stored) tt tt tt
+      (heads_replaced (is_of_both client zone) (by_zone client zone) [] stored tt tt tt whole)
+  client_whole (received_put ids) stored fit whole =
+      beside_whole stored.changes (replaced (is_of client) (received_row client ids ∷ []) stored.received) stored whole
+  client_whole (patterns_put zone patterns) stored fit whole =
+      heads_replaced (is_of_both client zone) (by_zone client zone) (head_row client zone patterns ∷ []) stored
+      (head_written zone patterns fit.0 fit.1) (made_here client zone is_client fit.0 (drop 2 (head_row client zone patterns)), tt) (tt, tt) whole
 
 -- ---- each change
 
 pub whole_after : (caller : Caller) (e : Effect) (last : LastChange) (stored : Stored) → CanBeWritten caller e → IsWhole stored → IsWhole (stored_after caller e last stored)
 whole_after Publisher (publication changes) last stored can whole =
-    let left = all_whole changes stored can.fit whole in
-    record {
-      callers = left.callers;
-      sysmods = left.sysmods;
-      sysmod_keys = left.sysmod_keys;
-      sups = left.sups;
-      conds = left.conds;
-      holds = left.holds;
-      hold_keys = left.hold_keys;
-      heads = left.heads;
-      head_keys = left.head_keys;
-      rows = left.rows;
-      row_keys = left.row_keys;
-    }
+    let left = fold published stored changes in
+    beside_whole (with_last (name_of Publisher) last left.changes) left.received left (all_whole changes stored can.fit whole)
 whole_after Publisher (zone_put zone rows) last stored can whole = absurd can.own
 whole_after Publisher (zone_dropped zone) last stored can whole = absurd can.own
 whole_after Publisher (received_put ids) last stored can whole = absurd can.own
 whole_after Publisher (patterns_put zone patterns) last stored can whole = absurd can.own
-whole_after (Client client) e last stored can whole = record {
-  callers = whole.callers;
-  sysmods = whole.sysmods;
-  sysmod_keys = whole.sysmod_keys;
-  sups = whole.sups;
-  conds = whole.conds;
-  holds = whole.holds;
-  hold_keys = whole.hold_keys;
-  heads = heads_written client can.named.0 e stored.heads can.fit whole.heads;
-  head_keys = heads_own client can.named.0 e stored.heads can.fit whole.head_keys;
-  rows = rows_written client can.named.0 e stored.rows can.fit whole.rows;
-  row_keys = rows_own client can.named.0 e stored.rows can.fit whole.row_keys;
-}
+whole_after (Client client) e last stored can whole =
+    let left = client_changed client e stored in
+    beside_whole (with_last (name_of (Client client)) last left.changes) left.received left (client_whole client can.named.0 e stored can.fit whole)
 
 -- before the first change
 pub whole_opened : (rows : List CallerRow) → AllByRecursion (λ (row : CallerRow). IsId row.name) rows → IsWhole (opened (map caller_row rows))
@@ -321,19 +339,14 @@ by_first : (columns : ℕ) (name : List ℕ) (a b : Row) → take (1 + columns) 
 by_first columns name a b same = ap (is_named name) (same_column (1 + columns) 0 (omega arith) a b same)
 
 whole_without : (name : List ℕ) (stored : Stored) → IsWhole stored → IsWhole (without_caller stored name)
-whole_without name stored whole = record {
-  callers = whole.callers;
-  sysmods = whole.sysmods;
-  sysmod_keys = whole.sysmod_keys;
-  sups = whole.sups;
-  conds = whole.conds;
-  holds = whole.holds;
-  hold_keys = whole.hold_keys;
-  heads = written_again row_of_head IsHead (is_of name) [] stored.heads whole.heads tt;
-  head_keys = own_replaced 2 (is_of name) (by_first 1 name) [] stored.heads tt tt whole.head_keys;
-  rows = written_again row_of_zone_sysmod IsZoneSysmod (is_of name) [] stored.rows whole.rows tt;
-  row_keys = own_replaced 3 (is_of name) (by_first 2 name) [] stored.rows tt tt whole.row_keys;
-}
+whole_without name stored whole =
+    let unchanged = going change_table (is_of name) stored in
+    let unheaded = going head_table (is_of name) unchanged in
+    let left = going row_table (is_of name) unheaded in
+    beside_whole left.changes (replaced (is_of name) [] left.received) left
+    (rows_replaced (is_of name) (by_first 2 name) [] unheaded tt tt tt
+    (heads_replaced (is_of name) (by_first 1 name) [] unchanged tt tt tt
+    (beside_whole (replaced (is_of name) [] stored.changes) stored.received stored whole)))
 
 all_without : (names : List (List ℕ)) (stored : Stored) → IsWhole stored → IsWhole (fold without_caller stored names)
 all_without [] stored whole = whole

@@ -1,6 +1,6 @@
 -- What a client's change makes of the zones and of the received list.
 use Rattle.std.proofs.Common.{◌≡◌, ℕ, Bool, true, false, cond, List, [], ◌∷◌, ◌++◌, refl, sym, ◌∙◌, ap, if◌then◌else◌}
-use Rattle.std.specs.Prelude.{filter, map, Option, Some, None, is_some, option_and_then, unwrap_or}
+use Rattle.std.specs.Prelude.{drop, filter, map, Option, Some, None, is_some, option_and_then, unwrap_or}
 use Rattle.std.specs.List.{filter_map, list_any, list_all}
 use Rattle.std.proofs.lemmas.List.{append-nil}
 use Rattle.std.proofs.lemmas.List.Elements.{filter-append}
@@ -13,11 +13,11 @@ use Rattle.bureau_store.specs.Effect.{Effect, publication, zone_put, zone_droppe
 use Rattle.bureau_store.specs.Tables as tables
 use Rattle.bureau_store.specs.Tables.{ZoneTable, rows_of, zone_named}
 use Rattle.sqlite_value.specs.Order.{Row, column}
-use Rattle.sql_tables.specs.Changes.{heads_after, replaced, rows_after, with_head}
+use Rattle.sql_tables.specs.Changes.{client_changed, replaced, with_head}
 use Rattle.sql_tables.specs.Fit.{AreZoneRows, IsFit}
-use Rattle.sql_tables.specs.Rows.{head_row, zone_row, zone_row_found}
-use Rattle.sql_tables.specs.Stored.{Stored, first, is_of_both, patterns_of, rows_in_order, shown, zone_of, zone_rows_of, zones_of}
-use Rattle.sql_tables.specs.Values.{id_value, patterns_in, state_value, texts_value}
+use Rattle.sql_tables.specs.Rows.{head_row, zone_row}
+use Rattle.sql_tables.specs.Stored.{Stored, first, is_of_both, patterns_of, rows_in_order, zone_of, zone_row_said, zone_rows_of, zones_of}
+use Rattle.sql_tables.specs.Values.{patterns_in}
 use Rattle.sql_tables.proofs.ClientFacts.{made_by_another, made_elsewhere, made_here, names_apart, rows_put, zone_found, zones_apart, zones_ascend, zones_with}
 use Rattle.sql_tables.proofs.ListFacts.{any_first, filter_all, filter_none, filter_other, filter_same}
 use Rattle.sql_tables.proofs.ListValueFacts.{patterns_again}
@@ -30,7 +30,7 @@ Found = Option (List ℕ × ZoneTable)
 
 abbrev table_by : List Row → List Row → ZoneTable
 table_by heads rows = record {
-  rows = rows_in_order (filter_map (λ row. zone_row_found (shown (2 ∷ 3 ∷ []) row)) rows);
+  rows = rows_in_order (filter_map zone_row_said rows);
   patterns = unwrap_or (option_and_then (λ row. patterns_in (column row 2)) (first heads)) [];
 }
 
@@ -68,33 +68,33 @@ headed test client zone heads fails = by (list_any (is_of_both client zone) head
         ∙ append-nil (filter test heads)
 
 -- of another client
-pub heads_other : (client name zone : List ℕ) (e : Effect) → IsId client → IsFit e → same_id client name ≡ false → (heads : List Row)
-    → filter (is_of_both name zone) (heads_after client e heads) ≡ filter (is_of_both name zone) heads
-heads_other client name zone (publication changes) is fit other heads = refl
-heads_other client name zone (zone_put put rows) is fit other heads =
-    headed (is_of_both name zone) client put heads (made_by_another client put is fit.0 (texts_value [] ∷ []) name zone other)
-heads_other client name zone (zone_dropped put) is fit other heads =
-    filter_other (is_of_both name zone) (is_of_both client put) [] heads (zones_apart name client zone put (back client name other)) refl
+pub heads_other : (client name zone : List ℕ) (e : Effect) → IsId client → IsFit e → same_id client name ≡ false → (stored : Stored)
+    → filter (is_of_both name zone) (client_changed client e stored).heads ≡ filter (is_of_both name zone) stored.heads
+heads_other client name zone (publication changes) is fit other stored = refl
+heads_other client name zone (zone_put put rows) is fit other stored =
+    headed (is_of_both name zone) client put stored.heads (made_by_another client put is fit.0 (drop 2 (head_row client put [])) name zone other)
+heads_other client name zone (zone_dropped put) is fit other stored =
+    filter_other (is_of_both name zone) (is_of_both client put) [] stored.heads (zones_apart name client zone put (back client name other)) refl
   where
     back : (a b : List ℕ) → same_id a b ≡ false → same_id b a ≡ false
     back a b h = same_back b a ∙ h
-heads_other client name zone (received_put ids) is fit other heads = refl
-heads_other client name zone (patterns_put put patterns) is fit other heads =
-    filter_other (is_of_both name zone) (is_of_both client put) (head_row client put patterns ∷ []) heads
+heads_other client name zone (received_put ids) is fit other stored = refl
+heads_other client name zone (patterns_put put patterns) is fit other stored =
+    filter_other (is_of_both name zone) (is_of_both client put) (head_row client put patterns ∷ []) stored.heads
     (zones_apart name client zone put (same_back name client ∙ other))
-    (ap (λ b. cond b (head_row client put patterns ∷ []) []) (made_by_another client put is fit.0 (texts_value patterns ∷ []) name zone other))
+    (ap (λ b. cond b (head_row client put patterns ∷ []) []) (made_by_another client put is fit.0 (drop 2 (head_row client put patterns)) name zone other))
 
-pub rows_other : (client name zone : List ℕ) (e : Effect) → IsId client → IsFit e → same_id client name ≡ false → (rows : List Row)
-    → filter (is_of_both name zone) (rows_after client e rows) ≡ filter (is_of_both name zone) rows
-rows_other client name zone (publication changes) is fit other rows = refl
-rows_other client name zone (zone_put put news) is fit other rows =
-    filter_other (is_of_both name zone) (is_of_both client put) (map (zone_row client put) news) rows
+pub rows_other : (client name zone : List ℕ) (e : Effect) → IsId client → IsFit e → same_id client name ≡ false → (stored : Stored)
+    → filter (is_of_both name zone) (client_changed client e stored).rows ≡ filter (is_of_both name zone) stored.rows
+rows_other client name zone (publication changes) is fit other stored = refl
+rows_other client name zone (zone_put put news) is fit other stored =
+    filter_other (is_of_both name zone) (is_of_both client put) (map (zone_row client put) news) stored.rows
     (zones_apart name client zone put (same_back name client ∙ other))
-    (filter_none (is_of_both name zone) (zone_row client put) (λ row. made_by_another client put is fit.0 (id_value row.sysmod ∷ state_value row.state ∷ []) name zone other) news)
-rows_other client name zone (zone_dropped put) is fit other rows =
-    filter_other (is_of_both name zone) (is_of_both client put) [] rows (zones_apart name client zone put (same_back name client ∙ other)) refl
-rows_other client name zone (received_put ids) is fit other rows = refl
-rows_other client name zone (patterns_put put patterns) is fit other rows = refl
+    (filter_none (is_of_both name zone) (zone_row client put) (λ row. made_by_another client put is fit.0 (drop 2 (zone_row client put row)) name zone other) news)
+rows_other client name zone (zone_dropped put) is fit other stored =
+    filter_other (is_of_both name zone) (is_of_both client put) [] stored.rows (zones_apart name client zone put (same_back name client ∙ other)) refl
+rows_other client name zone (received_put ids) is fit other stored = refl
+rows_other client name zone (patterns_put put patterns) is fit other stored = refl
 
 -- ---- the client's own zones
 
@@ -126,14 +126,14 @@ module _ (old : Stored) (client zone : List ℕ) (is_client : IsId client) (is_z
     rows_here : filter (is_of_both client zone) (replaced (is_of_both client zone) (map (zone_row client zone) news) old.rows) ≡ map (zone_row client zone) news
     rows_here =
         filter_same (is_of_both client zone) (map (zone_row client zone) news) old.rows
-        ∙ filter_all (is_of_both client zone) (zone_row client zone) (λ row. made_here client zone is_client is_zone (id_value row.sysmod ∷ state_value row.state ∷ [])) news
+        ∙ filter_all (is_of_both client zone) (zone_row client zone) (λ row. made_here client zone is_client is_zone (drop 2 (zone_row client zone row))) news
 
     rows_elsewhere : (name : List ℕ) → same_id zone name ≡ false
         → filter (is_of_both client name) (replaced (is_of_both client zone) (map (zone_row client zone) news) old.rows) ≡ filter (is_of_both client name) old.rows
     rows_elsewhere name apart =
         filter_other (is_of_both client name) (is_of_both client zone) (map (zone_row client zone) news) old.rows
         (names_apart client name zone (same_back name zone ∙ apart))
-        (filter_none (is_of_both client name) (zone_row client zone) (λ row. made_elsewhere client zone is_client is_zone (id_value row.sysmod ∷ state_value row.state ∷ []) name apart) news)
+        (filter_none (is_of_both client name) (zone_row client zone) (λ row. made_elsewhere client zone is_client is_zone (drop 2 (zone_row client zone row)) name apart) news)
 
     heads_here : (b : Bool) → any_here ≡ b
         → found_by zone (filter (is_of_both client zone) (cond b old.heads (old.heads ++ head_row client zone [] ∷ []))) (filter (is_of_both client zone) (replaced (is_of_both client zone) (map (zone_row client zone) news) old.rows))
@@ -151,7 +151,7 @@ module _ (old : Stored) (client zone : List ℕ) (is_client : IsId client) (is_z
             ap (λ hs. found_by zone hs (filter (is_of_both client zone) (replaced (is_of_both client zone) (map (zone_row client zone) news) old.rows))) (
             filter-append (is_of_both client zone) old.heads (head_row client zone [] ∷ [])
             ∙ ap (λ hs. hs ++ filter (is_of_both client zone) (head_row client zone [] ∷ [])) (nothing_first (filter (is_of_both client zone) old.heads) (sym (any_first (is_of_both client zone) old.heads) ∙ at))
-            ∙ ap (λ c. cond c (head_row client zone [] ∷ []) []) (made_here client zone is_client is_zone (texts_value [] ∷ []))
+            ∙ ap (λ c. cond c (head_row client zone [] ∷ []) []) (made_here client zone is_client is_zone (drop 2 (head_row client zone [])))
             )
             ∙ ap (λ rs. Some (zone, table rs [])) rows
 
@@ -162,7 +162,7 @@ module _ (old : Stored) (client zone : List ℕ) (is_client : IsId client) (is_z
         ∙ set_one zone name (λ n. found_by n (filter (is_of_both client n) put.heads) (filter (is_of_both client n) put.rows)) v (with_key name_in (zones_of old client) name)
         (heads_here any_here refl ∙ ap (λ o. Some (zone, table news (tables.patterns_of o))) (sym (zone_found old client zone)))
         (λ apart.
-        ap (λ hs. found_by name hs (filter (is_of_both client name) put.rows)) (headed (is_of_both client name) client zone old.heads (made_elsewhere client zone is_client is_zone (texts_value [] ∷ []) name apart))
+        ap (λ hs. found_by name hs (filter (is_of_both client name) put.rows)) (headed (is_of_both client name) client zone old.heads (made_elsewhere client zone is_client is_zone (drop 2 (head_row client zone [])) name apart))
         ∙ ap (found_by name (filter (is_of_both client name) old.heads)) (rows_elsewhere name apart)
         ∙ sym (found_is old client name))
         ∙ sym (put_with (zones_of old client) zone v name))
@@ -203,7 +203,7 @@ module _ (old : Stored) (client zone : List ℕ) (is_client : IsId client) (is_z
     asked_here =
         ap (λ hs. found_by zone hs (filter (is_of_both client zone) old.rows)) (
         filter_same (is_of_both client zone) (head_row client zone patterns ∷ []) old.heads
-        ∙ ap (λ c. cond c (head_row client zone patterns ∷ []) []) (made_here client zone is_client is_zone (texts_value patterns ∷ []))
+        ∙ ap (λ c. cond c (head_row client zone patterns ∷ []) []) (made_here client zone is_client is_zone (drop 2 (head_row client zone patterns)))
         )
         ∙ ap (λ o. Some (zone, table (zone_rows_of old.rows client zone) (unwrap_or o []))) (patterns_again patterns fit)
         ∙ ap (λ o. Some (zone, table (rows_of o) patterns)) (sym (zone_found old client zone ∙ ap (λ b. cond b (Some (zone_of old client zone)) None) there))
@@ -217,7 +217,7 @@ module _ (old : Stored) (client zone : List ℕ) (is_client : IsId client) (is_z
         (λ apart.
         ap (λ hs. found_by name hs (filter (is_of_both client name) old.rows))
         (filter_other (is_of_both client name) (is_of_both client zone) (head_row client zone patterns ∷ []) old.heads (names_apart client name zone (same_back name zone ∙ apart))
-        (ap (λ b. cond b (head_row client zone patterns ∷ []) []) (made_elsewhere client zone is_client is_zone (texts_value patterns ∷ []) name apart)))
+        (ap (λ b. cond b (head_row client zone patterns ∷ []) []) (made_elsewhere client zone is_client is_zone (drop 2 (head_row client zone patterns)) name apart)))
         ∙ sym (found_is old client name))
         ∙ sym (put_with (zones_of old client) zone v name))
       where

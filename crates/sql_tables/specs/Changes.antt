@@ -16,12 +16,26 @@ use Rattle.bureau_store.specs.declared.caller.CallerRow.{CallerRow}
 use Rattle.sqlite_value.specs.Order.{Row, column}
 use Rattle.sqlite_value.specs.declared.value.Value.{Value}
 use Rattle.sql_tables.specs.Rows.{caller_row, change_row, cond_row, head_row, hold_row, received_row, sup_row, sysmod_row, zone_row}
-use Rattle.sql_tables.specs.Stored.{Stored, is_named, is_of, is_of_both, name_of}
+use Rattle.sql_tables.specs.Stored.{OneTable, Stored, change_table, cond_table, head_table, is_named, is_of, is_of_both, name_of, received_table, row_table, sup_table, sysmod_table}
 use Rattle.sql_tables.specs.Values.{hold_kind_in}
+
+-- ---- what becomes of the rows of one table
 
 -- the rows that a test passes go, and these come
 abbrev pub replaced : (Row → Bool) → List Row → List Row → List Row
 replaced test news rows = filter (λ row. not (test row)) rows ++ news
+
+-- these come after those that are there
+abbrev pub coming : OneTable → List Row → Stored → Stored
+coming table news stored = table.with_rows (table.rows stored ++ news) stored
+
+-- those that a test passes go
+abbrev pub going : OneTable → (Row → Bool) → Stored → Stored
+going table test stored = table.with_rows (replaced test [] (table.rows stored)) stored
+
+-- those that a test passes go, and these come
+abbrev pub instead : OneTable → (Row → Bool) → List Row → Stored → Stored
+instead table test news stored = table.with_rows (replaced test news (table.rows stored)) stored
 
 -- ---- a client's changes
 
@@ -35,29 +49,18 @@ abbrev pub with_head : List ℕ → List ℕ → List Row → List Row
 with_head client zone heads =
     if list_any (is_of_both client zone) heads then heads else heads ++ head_row client zone [] ∷ []
 
-abbrev pub heads_after : List ℕ → Effect → List Row → List Row
-heads_after client (publication changes) heads = heads
-heads_after client (zone_put zone rows) heads = with_head client zone heads
-heads_after client (zone_dropped zone) heads = replaced (is_of_both client zone) [] heads
-heads_after client (received_put ids) heads = heads
-heads_after client (patterns_put zone patterns) heads =
-    replaced (is_of_both client zone) (head_row client zone patterns ∷ []) heads
-
-abbrev pub rows_after : List ℕ → Effect → List Row → List Row
-rows_after client (publication changes) rows = rows
-rows_after client (zone_put zone news) rows =
-    replaced (is_of_both client zone) (map (zone_row client zone) news) rows
-rows_after client (zone_dropped zone) rows = replaced (is_of_both client zone) [] rows
-rows_after client (received_put ids) rows = rows
-rows_after client (patterns_put zone patterns) rows = rows
-
-abbrev pub received_after : List ℕ → Effect → List Row → List Row
-received_after client (publication changes) received = received
-received_after client (zone_put zone rows) received = received
-received_after client (zone_dropped zone) received = received
-received_after client (received_put ids) received =
-    replaced (is_of client) (received_row client ids ∷ []) received
-received_after client (patterns_put zone patterns) received = received
+-- what each effect of a client's change makes of the rows
+abbrev pub client_changed : List ℕ → Effect → Stored → Stored
+client_changed client (publication changes) stored = stored
+client_changed client (zone_put zone news) stored =
+    instead row_table (is_of_both client zone) (map (zone_row client zone) news)
+    (record stored { heads = with_head client zone stored.heads })
+client_changed client (zone_dropped zone) stored =
+    going row_table (is_of_both client zone) (going head_table (is_of_both client zone) stored)
+client_changed client (received_put ids) stored =
+    instead received_table (is_of client) (received_row client ids ∷ []) stored
+client_changed client (patterns_put zone patterns) stored =
+    instead head_table (is_of_both client zone) (head_row client zone patterns ∷ []) stored
 
 -- ---- a publication
 
@@ -74,11 +77,10 @@ holds_changed (Put hold) holds = replaced (is_under hold.key) (hold_row hold ∷
 holds_changed (Release key) holds = replaced (is_under key) [] holds
 
 abbrev pub published : Stored → Change → Stored
-published stored (Whole sysmod) = record stored {
-  sysmods = replaced (is_of sysmod.id) (sysmod_row sysmod ∷ []) stored.sysmods;
-  sups = replaced (is_of sysmod.id) (map (sup_row sysmod.id) sysmod.sup) stored.sups;
-  conds = replaced (is_of sysmod.id) (map (cond_row sysmod.id) sysmod.conds) stored.conds;
-}
+published stored (Whole sysmod) =
+    instead cond_table (is_of sysmod.id) (map (cond_row sysmod.id) sysmod.conds)
+    (instead sup_table (is_of sysmod.id) (map (sup_row sysmod.id) sysmod.sup)
+    (instead sysmod_table (is_of sysmod.id) (sysmod_row sysmod ∷ []) stored))
 published stored (OfHold change) = record stored { holds = holds_changed change stored.holds }
 
 -- ---- all of it
@@ -90,11 +92,7 @@ changed Publisher (zone_put zone rows) stored = stored
 changed Publisher (zone_dropped zone) stored = stored
 changed Publisher (received_put ids) stored = stored
 changed Publisher (patterns_put zone patterns) stored = stored
-changed (Client client) effect stored = record stored {
-  heads = heads_after client effect stored.heads;
-  rows = rows_after client effect stored.rows;
-  received = received_after client effect stored.received;
-}
+changed (Client client) effect stored = client_changed client effect stored
 
 abbrev pub numbered : Caller → LastChange → Stored → Stored
 numbered caller last stored = record stored { changes = with_last (name_of caller) last stored.changes }
@@ -107,12 +105,9 @@ stored_after caller effect last stored = numbered caller last (changed caller ef
 
 -- a caller of this name leaves nothing: no last change, no zone, nothing received
 abbrev pub without_caller : Stored → List ℕ → Stored
-without_caller stored name = record stored {
-  changes = replaced (is_of name) [] stored.changes;
-  heads = replaced (is_of name) [] stored.heads;
-  rows = replaced (is_of name) [] stored.rows;
-  received = replaced (is_of name) [] stored.received;
-}
+without_caller stored name =
+    going received_table (is_of name) (going row_table (is_of name)
+    (going head_table (is_of name) (going change_table (is_of name) stored)))
 
 -- callers of these names leave nothing, and these are the callers
 abbrev pub with_callers : List (List ℕ) → List CallerRow → Stored → Stored

@@ -34,6 +34,41 @@ pub record Stored : Type 0 where
   pub rows : List Row
   pub received : List Row
 
+-- one of the tables: its rows among all, and the rows of all with others in their place
+pub record OneTable : Type 0 where
+  pub rows : Stored → List Row
+  pub with_rows : List Row → Stored → Stored
+
+abbrev pub of_table : (Stored → List Row) → (List Row → Stored → Stored) → OneTable
+of_table rows with_rows = record { rows = rows; with_rows = with_rows }
+
+abbrev pub caller_table : OneTable
+caller_table = of_table (λ stored. stored.callers) (λ rows stored. record stored { callers = rows })
+
+abbrev pub change_table : OneTable
+change_table = of_table (λ stored. stored.changes) (λ rows stored. record stored { changes = rows })
+
+abbrev pub sysmod_table : OneTable
+sysmod_table = of_table (λ stored. stored.sysmods) (λ rows stored. record stored { sysmods = rows })
+
+abbrev pub sup_table : OneTable
+sup_table = of_table (λ stored. stored.sups) (λ rows stored. record stored { sups = rows })
+
+abbrev pub cond_table : OneTable
+cond_table = of_table (λ stored. stored.conds) (λ rows stored. record stored { conds = rows })
+
+abbrev pub hold_table : OneTable
+hold_table = of_table (λ stored. stored.holds) (λ rows stored. record stored { holds = rows })
+
+abbrev pub head_table : OneTable
+head_table = of_table (λ stored. stored.heads) (λ rows stored. record stored { heads = rows })
+
+abbrev pub row_table : OneTable
+row_table = of_table (λ stored. stored.rows) (λ rows stored. record stored { rows = rows })
+
+abbrev pub received_table : OneTable
+received_table = of_table (λ stored. stored.received) (λ rows stored. record stored { received = rows })
+
 -- no rows but those of the callers
 abbrev pub opened : List Row → Stored
 opened callers = record {
@@ -79,9 +114,12 @@ abbrev pub name_of : Caller → Option (List ℕ)
 name_of Publisher = Some publisher_name
 name_of (Client name) = if is_publisher name then None else Some name
 
+-- what the rows of a name say
+abbrev pub change_said : List Row → Option LastChange
+change_said rows = option_and_then (λ row. change_found (shown (1 ∷ 2 ∷ []) row)) (first rows)
+
 abbrev pub change_of : List Row → List ℕ → Option LastChange
-change_of rows name =
-    option_and_then (λ row. change_found (shown (1 ∷ 2 ∷ []) row)) (first (filter (is_of name) rows))
+change_of rows name = change_said (filter (is_of name) rows)
 
 abbrev pub last_of : List Row → Caller → LastChange
 last_of rows caller = unwrap_or (option_and_then (change_of rows) (name_of caller)) no_change
@@ -115,10 +153,13 @@ content_of stored = record {
 
 -- ---- what a client has
 
+-- what a row of a zone says
+abbrev pub zone_row_said : Row → Option ZoneRow
+zone_row_said row = zone_row_found (shown (2 ∷ 3 ∷ []) row)
+
 -- the rows of a zone as they stand
 abbrev pub rows_as_stored : List Row → List ℕ → List ℕ → List ZoneRow
-rows_as_stored rows client zone =
-    filter_map (λ row. zone_row_found (shown (2 ∷ 3 ∷ []) row)) (filter (is_of_both client zone) rows)
+rows_as_stored rows client zone = filter_map zone_row_said (filter (is_of_both client zone) rows)
 
 -- the first row of each SYSMOD, in ascending order
 abbrev pub rows_in_order : List ZoneRow → List ZoneRow
@@ -146,9 +187,12 @@ names_of heads client = in_order (filter_map (λ row. id_in (column row 1)) (fil
 abbrev pub zones_of : Stored → List ℕ → Zones
 zones_of stored client = map (λ zone. (zone, zone_of stored client zone)) (names_of stored.heads client)
 
+-- what the rows of a client say that it has received
+abbrev pub received_said : List Row → List (List ℕ)
+received_said rows = unwrap_or (option_and_then (λ row. ids_in (column row 1)) (first rows)) []
+
 abbrev pub received_of : List Row → List ℕ → List (List ℕ)
-received_of received client =
-    unwrap_or (option_and_then (λ row. ids_in (column row 1)) (first (filter (is_of client) received))) []
+received_of received client = received_said (filter (is_of client) received)
 
 -- ---- all of it
 

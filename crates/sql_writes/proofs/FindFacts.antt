@@ -16,15 +16,13 @@ use Rattle.sql_texts.specs.Found.{passes, shown}
 use Rattle.sql_texts.specs.Meaning.{Reads}
 use Rattle.sql_texts.specs.Schema.{bureau}
 use Rattle.sql_texts.specs.Reads.{from_table}
-use Rattle.sql_tables.specs.Changes.{with_head}
+use Rattle.sql_tables.specs.Changes.{coming, going, with_head}
 use Rattle.sql_tables.specs.InTrees.{columns_of}
 use Rattle.sql_tables.specs.Rows.{head_row}
-use Rattle.sql_tables.specs.Stored.{Stored, is_of_both}
+use Rattle.sql_tables.specs.Stored.{Stored, head_table, is_of_both, of_table}
 use Rattle.sql_state.specs.Ours.{held_by}
 use Rattle.sql_state.specs.Writing.{Changes, IsKnown}
 use Rattle.sql_state.proofs.StopFacts.{was_clean}
-use Rattle.sql_writes.specs.Parts as parts
-use Rattle.sql_rows.specs.Parts.{going}
 use Rattle.sql_rows.specs.Standing.{Stands}
 use Rattle.sql_rows.proofs.ChangeFacts.{alike_here, changes_then}
 use Rattle.sql_rows.proofs.TableFacts.{none_goes}
@@ -62,9 +60,9 @@ module _ (index : ℕ) (table : Table) (rows : Stored → List Row) (with_rows :
 
   -- none has it, so nothing goes
   pub spared : {A B F : Type 0} (old mid : State) (has : Row → Bool) (a : A) (b : B) → Changes {Fault = F} old mid (Ok a) (λ stored. stored)
-      → (HasCleanDisk mid → IsKnown old.now → list_any has (rows (held_by old.now)) ≡ false) → Changes {Fault = F} old mid (Ok b) (going rows with_rows has)
+      → (HasCleanDisk mid → IsKnown old.now → list_any has (rows (held_by old.now)) ≡ false) → Changes {Fault = F} old mid (Ok b) (going (of_table rows with_rows) has)
   spared old mid has a b h none =
-      alike_here old mid (Ok b) (λ stored. stored) (going rows with_rows has)
+      alike_here old mid (Ok b) (λ stored. stored) (going (of_table rows with_rows) has)
       (λ clean known. none_goes index table rows with_rows stands has (held_by old.now) (none clean known)) (told old mid a b (λ stored. stored) h)
 
 -- ---- whether a client has a zone
@@ -74,9 +72,9 @@ head_added_here client zone heads none = sym (ap (λ b. cond b heads (heads ++ h
 
 -- the head comes
 pub head_added : {A B E F : Type 0} (old mid new : State) (client zone : List ℕ) (a : A) (result : Result B F) → Changes {Fault = E} old mid (Ok a) (λ stored. stored)
-    → (HasCleanDisk mid → IsKnown old.now → list_any (is_of_both client zone) (held_by old.now).heads ≡ false) → Changes mid new result (parts.with_head client zone [])
+    → (HasCleanDisk mid → IsKnown old.now → list_any (is_of_both client zone) (held_by old.now).heads ≡ false) → Changes mid new result (coming head_table (head_row client zone [] ∷ []))
     → Changes old new result (λ stored. record stored { heads = with_head client zone stored.heads })
 head_added old mid new client zone a result one none two =
-    alike_here old new result (parts.with_head client zone []) (λ stored. record stored { heads = with_head client zone stored.heads })
+    alike_here old new result (coming head_table (head_row client zone [] ∷ [])) (λ stored. record stored { heads = with_head client zone stored.heads })
     (λ clean known. ap (λ heads. record (held_by old.now) { heads = heads }) (head_added_here client zone (held_by old.now).heads (none (was_clean mid new _ two.survives clean) known)))
-    (changes_then old mid new a result (λ stored. stored) (parts.with_head client zone []) one two)
+    (changes_then old mid new a result (λ stored. stored) (coming head_table (head_row client zone [] ∷ [])) one two)

@@ -112,9 +112,8 @@ next_is P (y ∷ ys) (suc i) x low at all = next_is P ys i x (omega (arith, low)
 
 nothing_put : (change : Change) (stored : Stored) → HasNoRest change → NoneOf stored.conds change → rest_put stored change ≡ stored
 nothing_put (Whole sysmod) stored bare none =
-    let left = replaced (is_of sysmod.id) [] stored.conds in
     ap (λ rows. record stored { conds = rows })
-    (ap (λ conds. left ++ map (cond_row sysmod.id) conds) bare ∙ append-nil left ∙ sym (none_gone (is_of sysmod.id) stored.conds none))
+    (ap (λ conds. replaced (is_of sysmod.id) (map (cond_row sysmod.id) conds) stored.conds) bare ∙ sym (none_gone (is_of sysmod.id) stored.conds none))
 nothing_put (OfHold change) stored bare none = absurd bare
 
 pub rest_skipped : (first : Stored → Stored) → ((stored : Stored) → (first stored).conds ≡ stored.conds) → (changes : List Change) (i : ℕ) (one : Change) → i < length changes → one ≡ get_or changes i one → HasNoRest one

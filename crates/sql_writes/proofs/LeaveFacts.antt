@@ -1,5 +1,5 @@
--- Why the statement is refused that deletes rows, and that no row comes twice into a table by a list in order.
-use Rattle.std.proofs.Common.{◌≡◌, ◌<◌, ◌&&◌, ◌++◌, ℕ, zero, suc, false, true, List, [], ◌∷◌, Less, Ordering, Result, length, take, get_or, map, refl, sym, ◌∙◌, ap, subst, inl, inr}
+-- Why the statement is refused that deletes a hold, and that no row comes twice into a table by a list in order.
+use Rattle.std.proofs.Common.{◌≡◌, ◌<◌, ◌&&◌, ◌++◌, ℕ, zero, suc, Bool, false, true, List, [], ◌∷◌, Less, Ordering, Result, length, take, get_or, map, refl, sym, ◌∙◌, ap, subst, inl, inr}
 use Rattle.std.specs.List.{AllByRecursion, list_any}
 use Rattle.std.specs.List.Sorted.{IsStrictlySortedBy}
 use Rattle.std.specs.Ordering.{is_eq, ordering_then}
@@ -15,6 +15,7 @@ use Rattle.catalogue.proofs.IdFacts.{one_id}
 use Rattle.zone_lists.specs.declared.zones.ZoneRow.{ZoneRow}
 use Rattle.sqlite.specs.Order.{Row, column}
 use Rattle.sqlite.specs.State.{State}
+use Rattle.sqlite.specs.Table.{Table}
 use Rattle.sqlite.specs.Values.{bound, bound_value}
 use Rattle.sqlite.specs.declared.error.Error.{Error}
 use Rattle.sqlite_rules.specs.Lists.{Has}
@@ -27,18 +28,18 @@ use Rattle.sql_texts.specs.Reads.{is_given}
 use Rattle.sql_texts.specs.Schema as schema
 use Rattle.sql_texts.specs.Schema.{bureau}
 use Rattle.sql_texts.specs.Writes.{delete_of}
-use Rattle.sql_tables.specs.Changes.{is_under, replaced}
+use Rattle.sql_tables.specs.Changes.{coming, going, replaced}
 use Rattle.sql_tables.specs.Fit.{AreIds, AreZoneRows, IsCond}
 use Rattle.sql_tables.specs.Rows.{cond_row, sup_row, zone_row}
-use Rattle.sql_tables.specs.Stored.{Stored, is_named, is_of, is_of_both}
+use Rattle.sql_tables.specs.Stored.{Stored, cond_table, is_named, is_of, is_of_both, of_table, row_table}
 use Rattle.sql_tables.specs.Values.{hold_kind_value, id_value}
 use Rattle.sql_tables.proofs.ValueFacts.{named_value}
 use Rattle.sql_writes.specs.Excused.{Takes}
 use Rattle.sql_rows.specs.Parts.{is_of_three}
 use Rattle.sql_writes.specs.Many.{AreNewInPlace}
 use Rattle.sql_writes.proofs.AlikeFacts.{each_new}
-use Rattle.sql_writes.specs.Parts.{with_conds, with_rows, without_conds, without_head, without_hold, without_last, without_received, without_rows}
 use Rattle.sql_rows.specs.Running.{FailsInside, Ran}
+use Rattle.sql_rows.specs.Standing.{Stands}
 use Rattle.sql_rows.proofs.AbsentFacts.{gone_and_come, gone_now, none_before}
 use Rattle.sql_writes.proofs.StepFacts.{goes_takes}
 
@@ -56,17 +57,11 @@ module _ (old new : State) (text : List ℕ) (result : Result (Unit {0}) Error) 
 
 -- ---- what is there no more
 
-pub none_last : (name : List ℕ) (stored : Stored) → list_any (is_of name) (without_last name stored).changes ≡ false
-none_last name stored = gone_now (is_of name) (is_of name) (λ row h. h) stored.changes
-
-pub none_hold : (key : HoldKey) (stored : Stored) → list_any (is_under key) (without_hold key stored).holds ≡ false
-none_hold key stored = gone_now (is_under key) (is_under key) (λ row h. h) stored.holds
-
-pub none_head : (client zone : List ℕ) (stored : Stored) → list_any (is_of_both client zone) (without_head client zone stored).heads ≡ false
-none_head client zone stored = gone_now (is_of_both client zone) (is_of_both client zone) (λ row h. h) stored.heads
-
-pub none_received : (client : List ℕ) (stored : Stored) → list_any (is_of client) (without_received client stored).received ≡ false
-none_received client stored = gone_now (is_of client) (is_of client) (λ row h. h) stored.received
+-- rows of a table that went are there no more, whichever table it is
+pub none_left : (index : ℕ) (table : Table) (rows : Stored → List Row) (with_rows : List Row → Stored → Stored) → Stands index table rows with_rows → (has : Row → Bool) (stored : Stored)
+    → list_any has (rows (going (of_table rows with_rows) has stored)) ≡ false
+none_left index table rows with_rows stands has stored =
+    ap (list_any has) (stands.got (replaced has [] (rows stored)) stored) ∙ gone_now has has (λ row h. h) (rows stored)
 
 -- ---- lists in order
 
@@ -92,7 +87,7 @@ next_sup id members i member ids up low at rows =
 
 -- one more that it requires under a condition
 pub next_cond : (id : List ℕ) (conds : List CondNeed) (i : ℕ) (cond : CondNeed) → AllByRecursion IsCond conds → CondsAscend conds → i < length conds → cond ≡ get_or conds i cond
-    → (stored : Stored) → list_any (is_of_three id cond.fmid cond.need) (with_conds id (take i conds) (without_conds id stored)).conds ≡ false
+    → (stored : Stored) → list_any (is_of_three id cond.fmid cond.need) (coming cond_table (map (cond_row id) (take i conds)) (going cond_table (is_of id) stored)).conds ≡ false
 next_cond id conds i cond ids up low at stored =
     gone_and_come (is_of id) (is_of_three id cond.fmid cond.need) (λ row h. (and_parts _ _ h).0) stored.conds (cond_row id) (take i conds) (λ other here h.
     let is = all_has IsCond conds other ids (taken_has i conds other here) in
@@ -120,7 +115,7 @@ of_two client zone sysmod row h =
 
 -- one more SYSMOD of a zone
 pub next_row : (client zone : List ℕ) (rows : List ZoneRow) (i : ℕ) (row : ZoneRow) → AreZoneRows rows → i < length rows → row ≡ get_or rows i row
-    → (stored : Stored) → list_any (is_of_three client zone row.sysmod) (with_rows client zone (take i rows) (without_rows client zone stored)).rows ≡ false
+    → (stored : Stored) → list_any (is_of_three client zone row.sysmod) (coming row_table (map (zone_row client zone) (take i rows)) (going row_table (is_of_both client zone) stored)).rows ≡ false
 next_row client zone rows i row are low at stored =
     gone_and_come (is_of_both client zone) (is_of_three client zone row.sysmod)
     (λ one h. of_two client zone row.sysmod one h) stored.rows (zone_row client zone) (take i rows) (λ other here h.
@@ -131,8 +126,8 @@ next_row client zone rows i row are low at stored =
 
 pub rows_new : (client zone : List ℕ) (rows : List ZoneRow) → AreZoneRows rows → AreNewInPlace (λ row. is_of_three client zone row.sysmod) (zone_row client zone) rows (is_of_both client zone) (λ stored. stored.rows)
 rows_new client zone rows are stored =
-    each_new (λ row. is_of_three client zone row.sysmod) (zone_row client zone) rows (without_rows client zone stored).rows (λ i row low at. next_row client zone rows i row are low at stored)
+    each_new (λ row. is_of_three client zone row.sysmod) (zone_row client zone) rows (replaced (is_of_both client zone) [] stored.rows) (λ i row low at. next_row client zone rows i row are low at stored)
 
 pub conds_new : (id : List ℕ) (conds : List CondNeed) → AllByRecursion IsCond conds → CondsAscend conds → AreNewInPlace (λ cond. is_of_three id cond.fmid cond.need) (cond_row id) conds (is_of id) (λ stored. stored.conds)
 conds_new id conds ids up stored =
-    each_new (λ cond. is_of_three id cond.fmid cond.need) (cond_row id) conds (without_conds id stored).conds (λ i cond low at. next_cond id conds i cond ids up low at stored)
+    each_new (λ cond. is_of_three id cond.fmid cond.need) (cond_row id) conds (replaced (is_of id) [] stored.conds) (λ i cond low at. next_cond id conds i cond ids up low at stored)

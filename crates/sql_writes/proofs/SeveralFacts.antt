@@ -17,14 +17,13 @@ use Rattle.sqlite_schema.specs.Rules.{references_fit}
 use Rattle.sqlite_trees.specs.Tree.{with_tree}
 use Rattle.sqlite_value.specs.declared.value.ValueRef.{ValueRef}
 use Rattle.sql_texts.specs.Schema.{bureau, tables}
-use Rattle.sql_tables.specs.Changes.{replaced}
+use Rattle.sql_tables.specs.Changes.{coming, going, replaced}
 use Rattle.sql_tables.specs.InTrees.{columns_of}
-use Rattle.sql_tables.specs.Stored.{Stored}
+use Rattle.sql_tables.specs.Stored.{Stored, of_table}
 use Rattle.sql_state.specs.Numbered.{IsNumbered}
 use Rattle.sql_state.specs.Ours.{held_by}
 use Rattle.sql_state.specs.Writing.{Changes}
 use Rattle.sql_rows.specs.Fitting.{IsFitting}
-use Rattle.sql_rows.specs.Parts.{coming, going}
 use Rattle.sql_rows.specs.Running.{FailsInside, Ran}
 use Rattle.sql_rows.specs.Standing.{Stands}
 use Rattle.sql_rows.proofs.ChangeFacts.{changed_by}
@@ -52,15 +51,15 @@ bound_one_more values_of key all i x low at =
 module _ (index : ℕ) (table : Table) (rows : Stored → List Row) (with_rows : List Row → Stored → Stored) (stands : Stands index table rows with_rows)
     {X : Type 0} (row_of : X → Row) where
   -- things come after those that are there
-  pub come_so : Comes row_of rows (λ things. coming rows with_rows (map row_of things))
+  pub come_so : Comes row_of rows (λ things. coming (of_table rows with_rows) (map row_of things))
   come_so = record {
     none = none_come index table rows with_rows stands;
-    more = λ ones others stored. more_come index table rows with_rows stands (map row_of ones) (map row_of others) stored ∙ ap (λ all. coming rows with_rows all stored) (sym (map-append row_of ones others));
+    more = λ ones others stored. more_come index table rows with_rows stands (map row_of ones) (map row_of others) stored ∙ ap (λ all. coming (of_table rows with_rows) all stored) (sym (map-append row_of ones others));
     rows = λ ones stored. stands.got (rows stored ++ map row_of ones) stored;
   }
 
   -- things that are new where the rows of a key went are so after those went
-  pub new_gone : (is_same : X → Row → Bool) (has : Row → Bool) (things : List X) → AreNewInPlace is_same row_of things has rows → (stored : Stored) → AreNew is_same row_of things (rows (going rows with_rows has stored))
+  pub new_gone : (is_same : X → Row → Bool) (has : Row → Bool) (things : List X) → AreNewInPlace is_same row_of things has rows → (stored : Stored) → AreNew is_same row_of things (rows (going (of_table rows with_rows) has stored))
   new_gone is_same has things new stored = subst (AreNew is_same row_of things) (sym (stands.got (replaced has [] (rows stored)) stored)) (new stored)
 
   module _ (shared own : ℕ) (key : Row) (values_of : X → Row) (things : List X) (values : List ValueRef) (at : bound values ≡ key ++ flat_map values_of things)
@@ -75,11 +74,11 @@ module _ (index : ℕ) (table : Table) (rows : Stored → List Row) (with_rows :
     are_given = record { counted = ap (λ all. all.0) given; accepted = ap (λ all. all.1.0) given; source = ap (λ all. all.1.1) given }
 
     -- the statement that inserts them
-    pub rows_come : ((x : X) → cast_row table (Null ∷ row_of x) ≡ Null ∷ row_of x) → Changes old new result (coming rows with_rows (map row_of things))
+    pub rows_come : ((x : X) → cast_row table (Null ∷ row_of x) ≡ Null ∷ row_of x) → Changes old new result (coming (of_table rows with_rows) (map row_of things))
     rows_come cast =
         let all = map row_of things in
         let here = old.now.trees table.tree in
-        changed_by old new text params result (coming rows with_rows all) (subst (λ row. Ran text row old new result) at ran) (λ clean count known executes.
+        changed_by old new text params result (coming (of_table rows with_rows) all) (subst (λ row. Ran text row old new result) at ran) (λ clean count known executes.
         let ordered = numbered_so index table rows with_rows stands old.now known in
         let set = inserts_all text old new index table stands.placed stands.uncounted (rows_alike shared own (length things)) (1 + (shared + own)) (parameters_to (shared + own * length things)) params all are_given.source
         (cast_each things) count (means clean) known.schema ordered executes in

@@ -163,9 +163,7 @@ all_gone (OfHold change ∷ changes) stored = all_gone changes stored
 
 pub all_rest : (changes : List Change) (stored : Stored) → fold rest_put stored changes ≡ record stored { conds = in_turn cond_rows changes stored.conds; holds = held_in_turn changes stored.holds }
 all_rest [] stored = refl
-all_rest (Whole sysmod ∷ changes) stored =
-    all_rest changes (rest_put stored (Whole sysmod))
-    ∙ ap (λ rows. record stored { conds = in_turn cond_rows changes rows; holds = held_in_turn changes stored.holds }) (replaced_then (is_of sysmod.id) (cond_rows (Whole sysmod)) stored.conds)
+all_rest (Whole sysmod ∷ changes) stored = all_rest changes (rest_put stored (Whole sysmod))
 all_rest (OfHold change ∷ changes) stored = all_rest changes (rest_put stored (OfHold change))
 
 pub put_at_once : (changes : List Change) (rows : List SysmodRow) (sups : List SupRow) → AreApart changes → map values_of rows ≡ flat_map record_rows changes → sups ≡ flat_map sups_of changes

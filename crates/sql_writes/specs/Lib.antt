@@ -5,6 +5,5 @@ pub mod Excused
 pub mod Making
 pub mod Many
 pub mod Migrating
-pub mod Parts
 pub mod Records
 pub mod Room

@@ -8,12 +8,11 @@ use Rattle.catalogue.specs.declared.sysmod.Sysmod.{Sysmod}
 use Rattle.sqlite_value.specs.Order.{Row, column}
 use Rattle.sqlite_value.specs.declared.value.Value.TheVariants.{Text}
 use Rattle.sql_texts.specs.Found.{is_text}
-use Rattle.sql_tables.specs.Changes.{holds_changed}
-use Rattle.sql_tables.specs.Rows.{sup_row, sysmod_row}
-use Rattle.sql_tables.specs.Stored.{Stored, is_of, is_of_both}
+use Rattle.sql_tables.specs.Changes.{coming, going, holds_changed, instead}
+use Rattle.sql_tables.specs.Rows.{cond_row, sup_row, sysmod_row}
+use Rattle.sql_tables.specs.Stored.{Stored, cond_table, is_of, is_of_both, sup_table, sysmod_table}
 use Rattle.sql_tables.specs.Values.{id_value, sysmod_kind_value}
 use Rattle.sql_writes.specs.Many.{AreNew}
-use Rattle.sql_writes.specs.Parts.{with_conds, without_conds, without_sups, without_sysmod}
 use Rattle.sql_writes.specs.Room.{rows_of_change}
 use Rattle.sql_writes.specs.declared.records.SupRow.{SupRow}
 use Rattle.sql_writes.specs.declared.records.SysmodRow.{SysmodRow}
@@ -59,20 +58,20 @@ rest_count (OfHold change) = rows_of_change (OfHold change)
 
 -- the row of a record goes, and those of what it supersedes
 abbrev pub record_gone : Stored → Change → Stored
-record_gone stored (Whole sysmod) = without_sups sysmod.id (without_sysmod sysmod.id stored)
+record_gone stored (Whole sysmod) = going sup_table (is_of sysmod.id) (going sysmod_table (is_of sysmod.id) stored)
 record_gone stored (OfHold change) = stored
 
 -- rows of records come
 abbrev pub with_sysmods : List SysmodRow → Stored → Stored
-with_sysmods rows stored = record stored { sysmods = stored.sysmods ++ map values_of rows }
+with_sysmods rows = coming sysmod_table (map values_of rows)
 
 -- rows of what records supersede come
 abbrev pub with_members : List SupRow → Stored → Stored
-with_members rows stored = record stored { sups = stored.sups ++ map member_values rows }
+with_members rows = coming sup_table (map member_values rows)
 
 -- what a record requires under a condition comes in place of what stands there, or a hold comes or goes
 abbrev pub rest_put : Stored → Change → Stored
-rest_put stored (Whole sysmod) = with_conds sysmod.id sysmod.conds (without_conds sysmod.id stored)
+rest_put stored (Whole sysmod) = instead cond_table (is_of sysmod.id) (map (cond_row sysmod.id) sysmod.conds) stored
 rest_put stored (OfHold change) = record stored { holds = holds_changed change stored.holds }
 
 -- ---- which may be put together

@@ -1,8 +1,8 @@
 //! A store gets other callers.
-ghost use Rattle.std.specs.Prelude.{◌≡◌, fold};
+ghost use Rattle.std.specs.Prelude.{◌≡◌, [], fold};
 ghost use Rattle.sql_tables.specs.Changes.{with_callers, without_caller};
+ghost use Rattle.sql_tables.specs.Stored.{caller_table};
 ghost use Rattle.sql_writes.specs.Altering.{Alters};
-ghost use Rattle.sql_writes.specs.Parts.{without_callers};
 
 use crate::{delete, insert};
 use bureau_store::CallerRow;
@@ -26,7 +26,7 @@ fn leave_nothing<S: Alter>(tx: &mut Transaction<'_, S>, name: &Id) -> Result<(),
 fn remove_callers<S: Alter>(tx: &mut Transaction<'_, S>, names: &[Id]) -> Result<(), Error>
     ensures same { tx.new.conn.ghost_name ≡ tx.old.conn.ghost_name }
     ensures changes { Alters S.Store tx.old.conn.now tx.new.conn.now result
-        (λ stored. without_callers (fold without_caller stored names.now)) }
+        (λ stored. caller_table.with_rows [] (fold without_caller stored names.now)) }
 {
     delete::callers(tx)?;
     for name in names {

@@ -52,8 +52,7 @@ fn change<S: Alter>(
             delete::any_of::<Zone, ZoneRows, S>(tx, &key)
         }
         Effect::ReceivedPut { client, ids } => {
-            delete::rows_of::<Id, Received, S>(tx, client)?;
-            insert::received(alloc, tx, client, ids)
+            load::replace_joined::<Id, Received, S>(alloc, tx, client, ids)
         }
         Effect::PatternsPut {
             client,
@@ -64,8 +63,7 @@ fn change<S: Alter>(
                 client: *client,
                 zone: *zone,
             };
-            delete::any_of::<Zone, Heads, S>(tx, &key)?;
-            insert::head(alloc, tx, client, zone, patterns)
+            load::replace_joined::<Zone, Heads, S>(alloc, tx, &key, patterns)
         }
     }
 }

@@ -1,10 +1,10 @@
 //! Rows that go, by one statement. Rows that aren't there are no fault.
-ghost use Rattle.std.specs.Prelude.{◌≡◌, IfOk, fold};
+ghost use Rattle.std.specs.Prelude.{◌≡◌, [], IfOk, fold};
 ghost use Rattle.catalogue.specs.declared.change.Change.TheVariants.{Whole};
-ghost use Rattle.sql_rows.specs.Parts.{going};
+ghost use Rattle.sql_tables.specs.Changes.{going, is_under};
+ghost use Rattle.sql_tables.specs.Stored.{caller_table, hold_table, is_of, of_table, sup_table, sysmod_table};
 ghost use Rattle.sql_writes.specs.Altering.{Alters, TakesRoom};
 ghost use Rattle.sql_writes.specs.Asking.{FindsAny};
-ghost use Rattle.sql_writes.specs.Parts.{without_callers, without_hold, without_sups, without_sysmod};
 ghost use Rattle.sql_writes.specs.Records.{record_gone};
 
 use crate::run::run;
@@ -40,7 +40,7 @@ pub(crate) fn any_of<K: Key, T: Deletes<K>, S: Alter>(
 ) -> Result<(), Error>
     ensures same { tx.new.conn.ghost_name ≡ tx.old.conn.ghost_name }
     ensures changes { Alters S.Store tx.old.conn.now tx.new.conn.now result
-        (going T.rows T.with_rows (K.has key.now)) }
+        (going (of_table T.rows T.with_rows) (K.has key.now)) }
     ensures takes { TakesRoom S.Store tx.old.conn.now tx.new.conn.now result 0 (λ stored. Unit {0}) }
 {
     let params = key.params();
@@ -54,7 +54,7 @@ pub(crate) fn rows_of<K: Key, T: Asked<K>, S: Alter>(
 ) -> Result<(), Error>
     ensures same { tx.new.conn.ghost_name ≡ tx.old.conn.ghost_name }
     ensures changes { Alters S.Store tx.old.conn.now tx.new.conn.now result
-        (going T.rows T.with_rows (K.has key.now)) }
+        (going (of_table T.rows T.with_rows) (K.has key.now)) }
     ensures takes { TakesRoom S.Store tx.old.conn.now tx.new.conn.now result 0 (λ stored. Unit {0}) }
 {
     if has_rows_of::<K, T, S>(tx, key)? {
@@ -67,7 +67,7 @@ pub(crate) fn rows_of<K: Key, T: Asked<K>, S: Alter>(
 fn record<S: Alter>(tx: &mut Transaction<'_, S>, id: &Id) -> Result<(), Error>
     ensures same { tx.new.conn.ghost_name ≡ tx.old.conn.ghost_name }
     ensures changes { Alters S.Store tx.old.conn.now tx.new.conn.now result
-        (λ stored. without_sups id.now (without_sysmod id.now stored)) }
+        (λ stored. going sup_table (is_of id.now) (going sysmod_table (is_of id.now) stored)) }
     ensures takes { TakesRoom S.Store tx.old.conn.now tx.new.conn.now result 0 (λ stored. Unit {0}) }
 {
     rows_of::<Id, Sysmods, S>(tx, id)?;
@@ -98,7 +98,7 @@ pub(crate) fn records<S: Alter>(
 /// All callers.
 pub(crate) fn callers<S: Alter>(tx: &mut Transaction<'_, S>) -> Result<(), Error>
     ensures same { tx.new.conn.ghost_name ≡ tx.old.conn.ghost_name }
-    ensures changes { Alters S.Store tx.old.conn.now tx.new.conn.now result without_callers }
+    ensures changes { Alters S.Store tx.old.conn.now tx.new.conn.now result (caller_table.with_rows []) }
 {
     run(tx, write::delete_callers(), &[])
 }
@@ -106,7 +106,8 @@ pub(crate) fn callers<S: Alter>(tx: &mut Transaction<'_, S>) -> Result<(), Error
 /// The hold with this key.
 pub(crate) fn hold<S: Alter>(tx: &mut Transaction<'_, S>, key: &HoldKey) -> Result<(), Error>
     ensures same { tx.new.conn.ghost_name ≡ tx.old.conn.ghost_name }
-    ensures changes { Alters S.Store tx.old.conn.now tx.new.conn.now result (without_hold key.now) }
+    ensures changes { Alters S.Store tx.old.conn.now tx.new.conn.now result
+        (going hold_table (is_under key.now)) }
     ensures takes { TakesRoom S.Store tx.old.conn.now tx.new.conn.now result 0 (λ stored. Unit {0}) }
 {
     let params = [

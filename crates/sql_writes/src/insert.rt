@@ -4,38 +4,33 @@ ghost use Rattle.std.specs.List.{AllByRecursion, list_all, list_any};
 ghost use Rattle.catalogue.specs.declared.change.Change.{Change};
 ghost use Rattle.bureau_store.specs.Store.{greatest_number};
 ghost use Rattle.sql_texts.specs.Schema.{bureau};
-ghost use Rattle.sql_tables.specs.Changes.{is_under};
+ghost use Rattle.sql_tables.specs.Changes.{coming, is_under};
 ghost use Rattle.sql_tables.specs.Fit.{IsFitChange, IsHold};
-ghost use Rattle.sql_tables.specs.Stored.{is_of, is_of_both};
-ghost use Rattle.sql_rows.specs.Parts.{coming};
+ghost use Rattle.sql_tables.specs.Rows.{caller_row, change_row, hold_row};
+ghost use Rattle.sql_tables.specs.Stored.{caller_table, change_table, hold_table, is_of, of_table};
 ghost use Rattle.sql_writes.specs.Altering.{Alters, InsertsAlike, RefusesExcused, TakesRoom, Turns};
 ghost use Rattle.sql_writes.specs.Making.{AreFit, IsOpened};
 ghost use Rattle.sql_writes.specs.Many.{AreNew, MeansBy, insert_alike, parameters_to};
 ghost use Rattle.sql_writes.specs.Records.{AreNewRecords, record_rows, values_of, with_sysmods};
 ghost use Rattle.bureau_store.specs.declared.caller.CallerRow.{CallerRow};
-ghost use Rattle.sql_writes.specs.Room.{are_short, are_short_ids, is_short, is_short_change};
-ghost use Rattle.sql_writes.specs.Parts.{with_callers, with_head, with_hold, with_last, with_received};
+ghost use Rattle.sql_writes.specs.Room.{are_short, is_short, is_short_change};
 
 use crate::params::{count_of, params_of};
 use crate::records::SysmodRow;
 use crate::run::{run, run_prepared};
-use crate::table::{ByOne, Several};
+use crate::table::{ByOne, Joined, Several};
 use crate::texts;
 use crate::values::number_of;
 use bureau_store::CallerRow;
 use holddata::Hold;
 use mcs_reader::Id;
-use sql_rows::{All, Heads, Key, Received, Sysmods, Zone, id_of};
-use sql_tables::{
-    categories_value, date_value, hold_kind_value, joined_ids, joined_patterns, optional_id_value,
-    sysmod_kind_value,
-};
+use sql_rows::{All, Key, Sysmods, id_of};
+use sql_tables::{categories_value, date_value, hold_kind_value, optional_id_value};
 use sql_texts::write;
 use sql_texts::write::TableById;
 use sqlite::types::ValueRef;
 use sqlite::{Alter, Error, Statement, Transaction};
 use std::alloc::Global;
-use zone_lists::Pattern;
 
 /// Things come that belong to a key, all by one statement.
 pub(crate) fn rows<'a, K: Key, T: Several<K>, S: Alter>(
@@ -49,7 +44,7 @@ pub(crate) fn rows<'a, K: Key, T: Several<K>, S: Alter>(
         (parameters_to (K.parameters + T.own * length items.now)) }
     ensures same { tx.new.conn.ghost_name ≡ tx.old.conn.ghost_name }
     ensures changes { Alters S.Store tx.old.conn.now tx.new.conn.now result
-        (coming T.rows T.with_rows (map (T.row_of key.now) items.now)) }
+        (coming (of_table T.rows T.with_rows) (map (T.row_of key.now) items.now)) }
     ensures takes { AllByRecursion T.is_short items.now
         → TakesRoom S.Store tx.old.conn.now tx.new.conn.now result (length items.now)
         (λ stored. AreNew (T.is_same key.now) (T.row_of key.now) items.now (T.rows stored)) }
@@ -71,7 +66,7 @@ pub(crate) fn rows_by<'a, K: Key, T: Several<K>, S: Alter>(
         T.index K.parameters T.own (length items.now) }
     ensures same { tx.new.conn.ghost_name ≡ tx.old.conn.ghost_name }
     ensures changes { Alters S.Store tx.old.conn.now tx.new.conn.now result
-        (coming T.rows T.with_rows (map (T.row_of key.now) items.now)) }
+        (coming (of_table T.rows T.with_rows) (map (T.row_of key.now) items.now)) }
     ensures takes { AllByRecursion T.is_short items.now
         → TakesRoom S.Store tx.old.conn.now tx.new.conn.now result (length items.now)
         (λ stored. AreNew (T.is_same key.now) (T.row_of key.now) items.now (T.rows stored)) }
@@ -84,7 +79,8 @@ pub(crate) fn rows_by<'a, K: Key, T: Several<K>, S: Alter>(
 /// A caller with its token. `opened` and `excused` speak of tables that were made with the callers before it.
 pub(crate) fn caller<S: Alter>(tx: &mut Transaction<'_, S>, row: &CallerRow) -> Result<(), Error>
     ensures same { tx.new.conn.ghost_name ≡ tx.old.conn.ghost_name }
-    ensures changes { Alters S.Store tx.old.conn.now tx.new.conn.now result (with_callers (row.now ∷ [])) }
+    ensures changes { Alters S.Store tx.old.conn.now tx.new.conn.now result
+        (coming caller_table (caller_row row.now ∷ [])) }
     ensures opened { (before : List CallerRow)
         → Turns S.Store tx.old.conn.now tx.new.conn.now result
         (IsOpened before) (IsOpened (before ++ row.now ∷ [])) }
@@ -105,7 +101,7 @@ pub(crate) fn last_change<S: Alter>(
     requires { number ≤ greatest_number }
     ensures same { tx.new.conn.ghost_name ≡ tx.old.conn.ghost_name }
     ensures changes { Alters S.Store tx.old.conn.now tx.new.conn.now result
-        (with_last name.now (record { number = number; reply = reply.now })) }
+        (coming change_table (change_row name.now (record { number = number; reply = reply.now }) ∷ [])) }
     ensures takes { 0 < number → is_short reply.now ≡ true
         → TakesRoom S.Store tx.old.conn.now tx.new.conn.now result 1
         (λ stored. list_any (is_of name.now) stored.changes ≡ false) }
@@ -134,7 +130,8 @@ pub(crate) fn sysmods<'a, S: Alter>(
 /// A hold.
 pub(crate) fn hold<S: Alter>(tx: &mut Transaction<'_, S>, hold: &Hold) -> Result<(), Error>
     ensures same { tx.new.conn.ghost_name ≡ tx.old.conn.ghost_name }
-    ensures changes { Alters S.Store tx.old.conn.now tx.new.conn.now result (with_hold hold.now) }
+    ensures changes { Alters S.Store tx.old.conn.now tx.new.conn.now result
+        (coming hold_table (hold_row hold.now ∷ [])) }
     ensures takes { IsHold hold.now → are_short hold.now.categories ≡ true
         → TakesRoom S.Store tx.old.conn.now tx.new.conn.now result 1
         (λ stored. list_any (is_under hold.now.key) stored.holds ≡ false) }
@@ -152,45 +149,20 @@ pub(crate) fn hold<S: Alter>(tx: &mut Transaction<'_, S>, hold: &Hold) -> Result
     run(tx, write::insert_hold_row(), &params)
 }
 
-/// The head of a client's zone, with the patterns that the client asks for in it.
-pub(crate) fn head<S: Alter>(
+/// The row of a key, with a list that is written as one text.
+pub(crate) fn joined<K: Key, T: Joined<K>, S: Alter>(
     alloc: Global,
     tx: &mut Transaction<'_, S>,
-    client: &Id,
-    zone: &Id,
-    patterns: &[Pattern],
+    key: &K,
+    list: &[T::Part],
 ) -> Result<(), Error>
     ensures same { tx.new.conn.ghost_name ≡ tx.old.conn.ghost_name }
     ensures changes { Alters S.Store tx.old.conn.now tx.new.conn.now result
-        (with_head client.now zone.now patterns.now) }
-    ensures takes { are_short patterns.now ≡ true
+        (coming (of_table T.rows T.with_rows) (T.row_with key.now list.now ∷ [])) }
+    ensures takes { is_short (T.text list.now) ≡ true
         → TakesRoom S.Store tx.old.conn.now tx.new.conn.now result 1
-        (λ stored. list_any (is_of_both client.now zone.now) stored.heads ≡ false) }
+        (λ stored. list_any (K.has key.now) (T.rows stored) ≡ false) }
 {
-    let joined = [joined_patterns(alloc, patterns)?];
-    let key = Zone {
-        client: *client,
-        zone: *zone,
-    };
-    let text = <Heads as ByOne<Zone>>::insertion();
-    rows::<Zone, Heads, S>(tx, text, &key, &joined)
-}
-
-/// What a client has received.
-pub(crate) fn received<S: Alter>(
-    alloc: Global,
-    tx: &mut Transaction<'_, S>,
-    client: &Id,
-    ids: &[Id],
-) -> Result<(), Error>
-    ensures same { tx.new.conn.ghost_name ≡ tx.old.conn.ghost_name }
-    ensures changes { Alters S.Store tx.old.conn.now tx.new.conn.now result
-        (with_received client.now ids.now) }
-    ensures takes { are_short_ids ids.now ≡ true
-        → TakesRoom S.Store tx.old.conn.now tx.new.conn.now result 1
-        (λ stored. list_any (is_of client.now) stored.received ≡ false) }
-{
-    let joined = [joined_ids(alloc, ids)?];
-    let text = <Received as ByOne<Id>>::insertion();
-    rows::<Id, Received, S>(tx, text, client, &joined)
+    let item = [<T as Joined<K>>::joined(alloc, list)?];
+    rows::<K, T, S>(tx, <T as ByOne<K>>::insertion(), key, &item)
 }

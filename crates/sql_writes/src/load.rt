@@ -1,19 +1,21 @@
 //! Lists of rows that come, in place of those that stand there.
-ghost use Rattle.std.specs.Prelude.{◌≡◌, ◌⊎◌, ◌+◌, List, flat_map, length, map, true};
+ghost use Rattle.std.specs.Prelude.{◌≡◌, ◌⊎◌, ◌+◌, ◌∷◌, [], List, flat_map, length, map, true};
 ghost use Rattle.std.specs.List.{AllByRecursion, list_all};
 ghost use Rattle.catalogue.specs.declared.change.Change.{Change};
+ghost use Rattle.sql_tables.specs.Changes.{instead};
 ghost use Rattle.sql_tables.specs.Fit.{IsFitChange};
-ghost use Rattle.sql_rows.specs.Parts.{instead};
+ghost use Rattle.sql_tables.specs.Stored.{of_table};
 ghost use Rattle.sql_writes.specs.Altering.{Alters, InsertsAlike, TakesRoom};
 ghost use Rattle.sql_writes.specs.Many.{AreNewInPlace};
 ghost use Rattle.sql_writes.specs.Records.{AreNewMembers, AreNewRecords, record_rows, values_of, with_members, with_sysmods};
-ghost use Rattle.sql_writes.specs.Room.{is_short_change};
+ghost use Rattle.sql_writes.specs.Room.{is_short, is_short_change};
 
 use crate::insert;
 use crate::records::{SupRow, SysmodRow};
-use crate::table::{ByEights, ByOne, Leaves};
+use crate::table::{ByEights, ByOne, Joined, Leaves};
 use sql_rows::{All, Key, Sups};
 use sqlite::{Alter, Error, Statement, Transaction};
+use std::alloc::Global;
 
 /// Things of a key come in place of those that stand there, eight by one statement.
 pub(crate) fn replace<K: Key, T: ByEights<K> + Leaves<K>, S: Alter>(
@@ -23,7 +25,7 @@ pub(crate) fn replace<K: Key, T: ByEights<K> + Leaves<K>, S: Alter>(
 ) -> Result<(), Error>
     ensures same { tx.new.conn.ghost_name ≡ tx.old.conn.ghost_name }
     ensures changes { Alters S.Store tx.old.conn.now tx.new.conn.now result
-        (instead T.rows T.with_rows (K.has key.now) (map (T.row_of key.now) items.now)) }
+        (instead (of_table T.rows T.with_rows) (K.has key.now) (map (T.row_of key.now) items.now)) }
     ensures takes { AllByRecursion T.is_short items.now
         → AreNewInPlace (T.is_same key.now) (T.row_of key.now) items.now (K.has key.now) T.rows
         → TakesRoom S.Store tx.old.conn.now tx.new.conn.now result
@@ -50,7 +52,7 @@ pub(crate) fn replace_by<K: Key, T: ByOne<K> + Leaves<K>, S: Alter>(
     requires means { InsertsAlike S.Store tx.old.conn.now statement.now.text T.index K.parameters T.own 1 }
     ensures same { tx.new.conn.ghost_name ≡ tx.old.conn.ghost_name }
     ensures changes { Alters S.Store tx.old.conn.now tx.new.conn.now result
-        (instead T.rows T.with_rows (K.has key.now) (map (T.row_of key.now) items.now)) }
+        (instead (of_table T.rows T.with_rows) (K.has key.now) (map (T.row_of key.now) items.now)) }
     ensures takes { AllByRecursion T.is_short items.now
         → AreNewInPlace (T.is_same key.now) (T.row_of key.now) items.now (K.has key.now) T.rows
         → TakesRoom S.Store tx.old.conn.now tx.new.conn.now result
@@ -63,6 +65,23 @@ pub(crate) fn replace_by<K: Key, T: ByOne<K> + Leaves<K>, S: Alter>(
         at += 1;
     }
     Ok(())
+}
+
+/// The row of a key, with a list that is written as one text, comes in place of the one that stands there.
+pub(crate) fn replace_joined<K: Key, T: Joined<K> + Leaves<K>, S: Alter>(
+    alloc: Global,
+    tx: &mut Transaction<'_, S>,
+    key: &K,
+    list: &[T::Part],
+) -> Result<(), Error>
+    ensures same { tx.new.conn.ghost_name ≡ tx.old.conn.ghost_name }
+    ensures changes { Alters S.Store tx.old.conn.now tx.new.conn.now result
+        (instead (of_table T.rows T.with_rows) (K.has key.now) (T.row_with key.now list.now ∷ [])) }
+    ensures takes { is_short (T.text list.now) ≡ true
+        → TakesRoom S.Store tx.old.conn.now tx.new.conn.now result 1 (λ stored. Unit {0}) }
+{
+    <T as Leaves<K>>::leave(tx, key)?;
+    insert::joined::<K, T, S>(alloc, tx, key, list)
 }
 
 /// Records come: the row of one or those of eight, and then what they supersede, eight rows by one statement.

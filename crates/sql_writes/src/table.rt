@@ -1,6 +1,6 @@
 //! What is special to a table where its rows are written, one file a table: the texts and what they mean, and how a
 //! thing is a row.
-ghost use Rattle.std.specs.Prelude.{◌≡◌, ◌≤◌, ◌<◌, ◌+◌, ◌*◌, ◌∷◌, [], ℕ, Bool, List, false, length, take, true};
+ghost use Rattle.std.specs.Prelude.{◌≡◌, ◌≤◌, ◌<◌, ◌+◌, ◌*◌, ◌∷◌, [], ℕ, Bool, IfOk, List, false, length, take, true};
 ghost use Rattle.std.specs.List.{list_any};
 ghost use Rattle.sqlite.specs.Cast.{cast_row};
 ghost use Rattle.sqlite.specs.Tree.{Trees, put_row};
@@ -15,12 +15,14 @@ ghost use Rattle.sql_texts.specs.Meaning.{Means, Reads};
 ghost use Rattle.sql_texts.specs.Reads.{from_table};
 ghost use Rattle.sql_texts.specs.Schema.{bureau};
 ghost use Rattle.sql_texts.specs.Writes.{delete_of};
+ghost use Rattle.sql_tables.specs.Changes.{going};
 ghost use Rattle.sql_tables.specs.InTrees.{columns_of};
+ghost use Rattle.sql_tables.specs.Stored.{of_table};
 ghost use Rattle.sql_rows.specs.Fitting.{IsFitting};
-ghost use Rattle.sql_rows.specs.Parts.{going};
 ghost use Rattle.sql_writes.specs.Altering.{Alters, TakesRoom};
 ghost use Rattle.sql_writes.specs.Asking.{first_in};
 ghost use Rattle.sql_writes.specs.Many.{AreGiven, MeansBy, insert_alike, parameters_to, with_next};
+ghost use Rattle.sql_writes.specs.Room.{is_short};
 
 mod last_change;
 mod received_list;
@@ -31,8 +33,10 @@ mod zone_head;
 mod zone_row;
 
 use sql_rows::{Key, Table};
+use sql_tables::NoMemory;
 use sqlite::types::ValueRef;
 use sqlite::{Alter, Error, Transaction};
+use std::alloc::Global;
 
 /// A table from which the rows of a key go.
 pub trait Deletes<K: Key>: Table {
@@ -79,7 +83,7 @@ pub trait Leaves<K: Key>: Table {
     fn leave<S: Alter>(tx: &mut Transaction<'_, S>, key: &K) -> Result<(), Error>
         ensures same { tx.new.conn.ghost_name ≡ tx.old.conn.ghost_name }
         ensures changes { Alters S.Store tx.old.conn.now tx.new.conn.now result
-            (going Self.rows Self.with_rows (K.has key.now)) }
+            (going (of_table Self.rows Self.with_rows) (K.has key.now)) }
         ensures takes { TakesRoom S.Store tx.old.conn.now tx.new.conn.now result 0 (λ stored. Unit {0}) };
 }
 
@@ -168,4 +172,24 @@ pub trait ByOne<K: Key>: Several<K> {
 
     /// One may come.
     ghost one: { Self.counts 1 };
+}
+
+/// A table of which a key has one row, with a list that is written as one text.
+pub trait Joined<K: Key>: ByOne<K, Item = Vec<u8>> {
+    /// What the list has.
+    type Part;
+
+    /// The text of a list.
+    ghost text: { List Self.Part → List ℕ };
+
+    /// The row of a key with a list.
+    ghost row_with: { K → List Self.Part → Values };
+
+    /// A list as it is written.
+    fn joined(alloc: Global, list: &[Self::Part]) -> Result<Vec<u8>, NoMemory>
+        ensures row { IfOk result (λ made. (key : K) → Self.row_of key made ≡ row_with key list.now) }
+        ensures short { IfOk result (λ made. is_short (text list.now) ≡ true → Self.is_short made) };
+
+    /// A row has the key of the table where it has this key.
+    ghost alone: { (key : K) (made : _) → Self.is_same key made ≡ K.has key };
 }

@@ -28,5 +28,5 @@ pub(crate) fn keep_head<S: Alter>(
     if delete::has_rows_of::<Zone, Heads, S>(tx, &key)? {
         return Ok(());
     }
-    insert::head(alloc, tx, client, zone, &[])
+    insert::joined::<Zone, Heads, S>(alloc, tx, &key, &[])
 }

@@ -1,10 +1,14 @@
 //! The table `received_list`: what a client has received.
 #![tactic(auto, unfolding(sqlite::specs::Listing::understood, sqlite_tied::specs::Compute::everything))]
 
-use super::{Asked, ByOne, Deletes, Several};
+use super::{Asked, ByOne, Deletes, Joined, Leaves, Several};
+use crate::delete;
 use mcs_reader::Id;
 use sql_rows::Received;
+use sql_tables::{NoMemory, joined_ids};
 use sqlite::types::ValueRef;
+use sqlite::{Alter, Error, Transaction};
+use std::alloc::Global;
 
 impl Deletes<Id> for Received {
     ghost use Rattle.std.specs.Prelude.{refl};
@@ -26,6 +30,12 @@ impl Asked<Id> for Received {
     }
 
     ghost takes = { λ id. refl };
+}
+
+impl Leaves<Id> for Received {
+    fn leave<S: Alter>(tx: &mut Transaction<'_, S>, client: &Id) -> Result<(), Error> {
+        delete::rows_of::<Id, Received, S>(tx, client)
+    }
 }
 
 impl Several<Id> for Received {
@@ -95,4 +105,24 @@ impl ByOne<Id> for Received {
     }
 
     ghost one = { refl };
+}
+
+impl Joined<Id> for Received {
+    ghost use Rattle.std.specs.Prelude.{map, refl};
+    ghost use Rattle.std.specs.List.{join_with_byte};
+    ghost use Rattle.mcs_reader.specs.Id.{text_of};
+    ghost use Rattle.sql_tables.specs.Rows as spec;
+
+    type Part = Id;
+
+    ghost text = { λ ids. join_with_byte 0x2C (map text_of ids) };
+
+    ghost row_with = { spec.received_row };
+
+    #[tactic(auto, using(crate::proofs::RoomFacts::text_short))]
+    fn joined(alloc: Global, ids: &[Id]) -> Result<Vec<u8>, NoMemory> {
+        joined_ids(alloc, ids)
+    }
+
+    ghost alone = { λ client joined. refl };
 }

@@ -1,10 +1,15 @@
 //! The table `zone_head`: that a client has a zone, and the patterns that it asks for in it.
 #![tactic(auto, unfolding(sqlite::specs::Listing::understood, sqlite_tied::specs::Compute::everything))]
 
-use super::{Asked, ByOne, Deletes, Several};
+use super::{Asked, ByOne, Deletes, Joined, Leaves, Several};
+use crate::delete;
 use mcs_reader::Id;
 use sql_rows::{Heads, Zone};
+use sql_tables::{NoMemory, joined_patterns};
 use sqlite::types::ValueRef;
+use sqlite::{Alter, Error, Transaction};
+use std::alloc::Global;
+use zone_lists::Pattern;
 
 impl Deletes<Zone> for Heads {
     ghost use Rattle.std.specs.Prelude.{refl};
@@ -36,6 +41,12 @@ impl Asked<Zone> for Heads {
     }
 
     ghost takes = { λ key. refl };
+}
+
+impl Leaves<Zone> for Heads {
+    fn leave<S: Alter>(tx: &mut Transaction<'_, S>, key: &Zone) -> Result<(), Error> {
+        delete::any_of::<Zone, Heads, S>(tx, key)
+    }
 }
 
 impl Several<Zone> for Heads {
@@ -108,4 +119,23 @@ impl ByOne<Zone> for Heads {
     }
 
     ghost one = { refl };
+}
+
+impl Joined<Zone> for Heads {
+    ghost use Rattle.std.specs.Prelude.{refl};
+    ghost use Rattle.std.specs.List.{join_with_byte};
+    ghost use Rattle.sql_tables.specs.Rows as spec;
+
+    type Part = Pattern;
+
+    ghost text = { join_with_byte 0x2C };
+
+    ghost row_with = { λ key. spec.head_row key.client key.zone };
+
+    #[tactic(auto, using(crate::proofs::RoomFacts::text_short))]
+    fn joined(alloc: Global, patterns: &[Pattern]) -> Result<Vec<u8>, NoMemory> {
+        joined_patterns(alloc, patterns)
+    }
+
+    ghost alone = { λ key joined. refl };
 }

@@ -1,11 +1,11 @@
 use Rattle.std.proofs.Common.{◌+◌, Err, Ok, arith}
-use Rattle.sql_tables.specs.Changes.{changed}
-use Rattle.sql_writes.specs.Parts.{without_last}
+use Rattle.sql_tables.specs.Changes.{changed, going}
+use Rattle.sql_tables.specs.Stored.{change_table, is_of}
 use Rattle.sql_writes.specs.Room.{rows_made}
 use Rattle.sql_rows.proofs.ChangeFacts.{changes_then}
 use Rattle.bureau_store.specs.Effects.{effect_as, maker_of}
 use Rattle.sql_writes.proofs.LastFacts.{last_after}
-use Rattle.sql_writes.proofs.LeaveFacts.{none_last}
+use Rattle.sql_rows.proofs.AbsentFacts.{gone_now}
 use Rattle.sql_writes.proofs.TakeFacts.{stopped_first, takes_excuse, takes_then}
 use Rattle.sql_writes.proofs.change.write.Goals as goal
 
@@ -16,9 +16,9 @@ returns-clause-changes g c =
 
 pub returns-clause-excused : goal.returns-clause-excused
 returns-clause-excused g c most fit room = takes_excuse _ _ _ ((rows_made (effect_as c.args.effect.now) + 0) + 1) most (let few = room.few in omega (arith, few))
-    (takes_then _ _ _ tt _ (λ stored. without_last c.name-name.result (changed (maker_of c.args.effect.now) (effect_as c.args.effect.now) stored)) (rows_made (effect_as c.args.effect.now) + 0) 1 (λ stored. Unit {0}) _
-    (λ stored u. none_last c.name-name.result (changed (maker_of c.args.effect.now) (effect_as c.args.effect.now) stored))
-    (changes_then _ _ _ tt (Ok tt) (changed (maker_of c.args.effect.now) (effect_as c.args.effect.now)) (without_last c.name-name.result) c.in_ok-change.ensures.changes c.in_ok-rows_of.ensures.changes)
+    (takes_then _ _ _ tt _ (λ stored. going change_table (is_of c.name-name.result) (changed (maker_of c.args.effect.now) (effect_as c.args.effect.now) stored)) (rows_made (effect_as c.args.effect.now) + 0) 1 (λ stored. Unit {0}) _
+    (λ stored u. gone_now (is_of c.name-name.result) (is_of c.name-name.result) (λ row h. h) (changed (maker_of c.args.effect.now) (effect_as c.args.effect.now) stored).changes)
+    (changes_then _ _ _ tt (Ok tt) (changed (maker_of c.args.effect.now) (effect_as c.args.effect.now)) (going change_table (is_of c.name-name.result)) c.in_ok-change.ensures.changes c.in_ok-rows_of.ensures.changes)
     (takes_then _ _ _ tt (Ok tt) (changed (maker_of c.args.effect.now) (effect_as c.args.effect.now)) (rows_made (effect_as c.args.effect.now)) 0 (λ stored. Unit {0}) (λ stored. Unit {0}) (λ stored u. tt) c.in_ok-change.ensures.changes (c.in_ok-change.ensures.takes fit room.lists)
     c.rows_of.ensures.changes.survives c.in_ok-rows_of.ensures.takes)
     c.last_change.ensures.changes.survives (c.last_change.ensures.takes room.numbered room.reply))

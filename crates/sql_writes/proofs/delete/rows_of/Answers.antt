@@ -1,5 +1,6 @@
 use Rattle.std.proofs.Common.{◌∙◌, arith}
-use Rattle.sql_rows.specs.Parts.{going}
+use Rattle.sql_tables.specs.Changes.{going}
+use Rattle.sql_tables.specs.Stored.{of_table}
 use Rattle.sql_rows.proofs.ChangeFacts.{changes_then, refused}
 use Rattle.sql_writes.proofs.FindFacts.{spared}
 use Rattle.sql_writes.proofs.TakeFacts.{stopped_first, takes_then, takes_told}
@@ -16,7 +17,7 @@ returns-clause-changes g c =
 pub returns-then-branch-clause-changes : goal.returns-then-branch-clause-changes
 returns-then-branch-clause-changes g c =
     let t = g.T.Table in
-    changes_then _ _ _ _ _ (λ stored. stored) (going t.rows t.with_rows (g.K.Key.has c.args.key.now)) c.in_ok-has_rows_of.ensures.changes c.any_of.ensures.changes
+    changes_then _ _ _ _ _ (λ stored. stored) (going (of_table t.rows t.with_rows) (g.K.Key.has c.args.key.now)) c.in_ok-has_rows_of.ensures.changes c.any_of.ensures.changes
 
 pub returns-in_err-has_rows_of-clause-takes : goal.returns-in_err-has_rows_of-clause-takes
 returns-in_err-has_rows_of-clause-takes g c =

@@ -1,7 +1,8 @@
 use Rattle.std.proofs.Common.{◌≡◌, ◌+◌, ◌*◌, ℕ, Err, Ok, arith, length, map, subst, sym, take, ◌∙◌}
 use Rattle.sqlite.specs.Held.{state}
 use Rattle.sql_texts.specs.Schema.{bureau}
-use Rattle.sql_rows.specs.Parts.{coming, going, instead}
+use Rattle.sql_tables.specs.Changes.{coming, going, instead}
+use Rattle.sql_tables.specs.Stored.{of_table}
 use Rattle.sql_rows.proofs.ChangeFacts.{alike, stopped}
 use Rattle.sql_rows.proofs.TableFacts.{in_place}
 use Rattle.sql_writes.specs.Excused.{Takes}
@@ -20,7 +21,7 @@ loop-at-init g c =
     record {
       same = c.leave.ensures.same;
       within = omega arith;
-      changes = parts_begun (s.row_of key) t.rows (λ things. coming t.rows t.with_rows (map (s.row_of key) things)) (come_so t.index t.table t.rows t.with_rows t.stands (s.row_of key)) (going t.rows t.with_rows (g.K.Key.has key)) all _ _ _ c.in_ok-leave.ensures.changes;
+      changes = parts_begun (s.row_of key) t.rows (λ things. coming (of_table t.rows t.with_rows) (map (s.row_of key) things)) (come_so t.index t.table t.rows t.with_rows t.stands (s.row_of key)) (going (of_table t.rows t.with_rows) (g.K.Key.has key)) all _ _ _ c.in_ok-leave.ensures.changes;
       takes = λ short new. c.in_ok-leave.ensures.takes;
     }
 
@@ -51,7 +52,7 @@ returns-in_err-rows-clause-changes g c =
     let s = g.T.Several in
     let key = c.args.key.now in
     let all = c.args.items.now in
-    stopped _ _ _ tt _ _ (λ stored. coming t.rows t.with_rows (map (s.row_of key) (take c.loop-at.at all)) (going t.rows t.with_rows (g.K.Key.has key) stored)) _ _ c.from_residual-in_err-rows.ensures.0 c.loop-at.invariant.changes c.in_err-rows.ensures.changes
+    stopped _ _ _ tt _ _ (λ stored. coming (of_table t.rows t.with_rows) (map (s.row_of key) (take c.loop-at.at all)) (going (of_table t.rows t.with_rows) (g.K.Key.has key) stored)) _ _ c.from_residual-in_err-rows.ensures.0 c.loop-at.invariant.changes c.in_err-rows.ensures.changes
 
 pub loop-at-preserved : goal.loop-at-preserved
 loop-at-preserved g c =
@@ -64,8 +65,8 @@ loop-at-preserved g c =
     record {
       same = c.rows.ensures.same ∙ c.loop-at.invariant.same;
       within = low;
-      changes = parts_longer (s.row_of key) t.rows (λ things. coming t.rows t.with_rows (map (s.row_of key) things)) (come_so t.index t.table t.rows t.with_rows t.stands (s.row_of key)) (going t.rows t.with_rows (g.K.Key.has key)) all c.loop-at.at c.min-count.result _ _ _ (Ok tt) c.loop-at.invariant.changes c.in_ok-rows.ensures.changes;
-      takes = λ short new. parts_take (s.row_of key) t.rows (λ things. coming t.rows t.with_rows (map (s.row_of key) things)) (come_so t.index t.table t.rows t.with_rows t.stands (s.row_of key)) (going t.rows t.with_rows (g.K.Key.has key)) all (s.is_same key) (new_gone t.index t.table t.rows t.with_rows t.stands (s.row_of key) (s.is_same key) (g.K.Key.has key) all new) c.loop-at.at c.min-count.result _ _ _ (Ok tt) low
+      changes = parts_longer (s.row_of key) t.rows (λ things. coming (of_table t.rows t.with_rows) (map (s.row_of key) things)) (come_so t.index t.table t.rows t.with_rows t.stands (s.row_of key)) (going (of_table t.rows t.with_rows) (g.K.Key.has key)) all c.loop-at.at c.min-count.result _ _ _ (Ok tt) c.loop-at.invariant.changes c.in_ok-rows.ensures.changes;
+      takes = λ short new. parts_take (s.row_of key) t.rows (λ things. coming (of_table t.rows t.with_rows) (map (s.row_of key) things)) (come_so t.index t.table t.rows t.with_rows t.stands (s.row_of key)) (going (of_table t.rows t.with_rows) (g.K.Key.has key)) all (s.is_same key) (new_gone t.index t.table t.rows t.with_rows t.stands (s.row_of key) (s.is_same key) (g.K.Key.has key) all new) c.loop-at.at c.min-count.result _ _ _ (Ok tt) low
           c.loop-at.invariant.changes (c.loop-at.invariant.takes short new) c.rows.ensures.changes.survives (c.in_ok-rows.ensures.takes (part_all s.is_short c.loop-at.at c.min-count.result all short));
     }
 
@@ -77,8 +78,8 @@ returns-clause-changes g c =
     let all = c.args.items.now in
     let has = g.K.Key.has key in
     let news = map (s.row_of key) all in
-    alike _ _ (Ok tt) (λ stored. coming t.rows t.with_rows news (going t.rows t.with_rows has stored)) (instead t.rows t.with_rows has news) (in_place t.index t.table t.rows t.with_rows t.stands has news)
-    (parts_ended (s.row_of key) t.rows (λ things. coming t.rows t.with_rows (map (s.row_of key) things)) (come_so t.index t.table t.rows t.with_rows t.stands (s.row_of key)) (going t.rows t.with_rows (g.K.Key.has key)) all c.loop-at.at _ _ (omega (arith, c.loop-at-test.false)) c.loop-at.invariant.changes)
+    alike _ _ (Ok tt) (λ stored. coming (of_table t.rows t.with_rows) news (going (of_table t.rows t.with_rows) has stored)) (instead (of_table t.rows t.with_rows) has news) (in_place t.index t.table t.rows t.with_rows t.stands has news)
+    (parts_ended (s.row_of key) t.rows (λ things. coming (of_table t.rows t.with_rows) (map (s.row_of key) things)) (come_so t.index t.table t.rows t.with_rows t.stands (s.row_of key)) (going (of_table t.rows t.with_rows) (g.K.Key.has key)) all c.loop-at.at _ _ (omega (arith, c.loop-at-test.false)) c.loop-at.invariant.changes)
 
 pub returns-in_err-leave-clause-takes : goal.returns-in_err-leave-clause-takes
 returns-in_err-leave-clause-takes g c short new =
@@ -93,7 +94,7 @@ returns-in_err-rows-clause-takes g c short new =
     let is = part_is c.loop-at.at (length all) 8 c.min-count.result c.loop-at-test.true (omega arith) c.min-count.ensures in
     let low = is.2 in
     stopped_first _ _ c.in_err-rows.field-0.0 _ (c.loop-at.at + c.min-count.result) _ (λ stored. Unit {0}) (λ stored. Unit {0}) c.from_residual-in_err-rows.ensures.1 (λ stored u. tt)
-    (parts_take (s.row_of key) t.rows (λ things. coming t.rows t.with_rows (map (s.row_of key) things)) (come_so t.index t.table t.rows t.with_rows t.stands (s.row_of key)) (going t.rows t.with_rows (g.K.Key.has key)) all (s.is_same key) (new_gone t.index t.table t.rows t.with_rows t.stands (s.row_of key) (s.is_same key) (g.K.Key.has key) all new) c.loop-at.at c.min-count.result _ _ _ (Err c.in_err-rows.field-0.0) low
+    (parts_take (s.row_of key) t.rows (λ things. coming (of_table t.rows t.with_rows) (map (s.row_of key) things)) (come_so t.index t.table t.rows t.with_rows t.stands (s.row_of key)) (going (of_table t.rows t.with_rows) (g.K.Key.has key)) all (s.is_same key) (new_gone t.index t.table t.rows t.with_rows t.stands (s.row_of key) (s.is_same key) (g.K.Key.has key) all new) c.loop-at.at c.min-count.result _ _ _ (Err c.in_err-rows.field-0.0) low
     c.loop-at.invariant.changes (c.loop-at.invariant.takes short new) c.rows.ensures.changes.survives (c.in_err-rows.ensures.takes (part_all s.is_short c.loop-at.at c.min-count.result all short)))
     low
 

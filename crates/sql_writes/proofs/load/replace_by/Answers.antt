@@ -2,7 +2,8 @@ use Rattle.std.proofs.Common.{◌≡◌, ◌+◌, ◌*◌, ◌≤◌, ℕ, Err, 
 use Rattle.sqlite.specs.Held.{state}
 use Rattle.sql_texts.specs.Schema.{bureau}
 use Rattle.sql_state.proofs.StopFacts.{was_clean}
-use Rattle.sql_rows.specs.Parts.{coming, going, instead}
+use Rattle.sql_tables.specs.Changes.{coming, going, instead}
+use Rattle.sql_tables.specs.Stored.{of_table}
 use Rattle.sql_rows.proofs.ChangeFacts.{alike, stopped}
 use Rattle.sql_rows.proofs.TableFacts.{in_place}
 use Rattle.sql_writes.specs.Excused.{Takes}
@@ -21,7 +22,7 @@ loop-at-init g c =
     record {
       same = c.leave.ensures.same;
       within = omega arith;
-      changes = parts_begun (s.row_of key) t.rows (λ things. coming t.rows t.with_rows (map (s.row_of key) things)) (come_so t.index t.table t.rows t.with_rows t.stands (s.row_of key)) (going t.rows t.with_rows (g.K.Key.has key)) all _ _ _ c.in_ok-leave.ensures.changes;
+      changes = parts_begun (s.row_of key) t.rows (λ things. coming (of_table t.rows t.with_rows) (map (s.row_of key) things)) (come_so t.index t.table t.rows t.with_rows t.stands (s.row_of key)) (going (of_table t.rows t.with_rows) (g.K.Key.has key)) all _ _ _ c.in_ok-leave.ensures.changes;
       takes = λ short new. c.in_ok-leave.ensures.takes;
       clean = λ clean. was_clean _ _ _ c.leave.ensures.changes.survives clean;
     }
@@ -45,7 +46,7 @@ returns-in_err-rows_by-clause-changes g c =
     let s = g.T.Several in
     let key = c.args.key.now in
     let all = c.args.items.now in
-    stopped _ _ _ tt _ _ (λ stored. coming t.rows t.with_rows (map (s.row_of key) (take c.loop-at.at all)) (going t.rows t.with_rows (g.K.Key.has key) stored)) _ _ c.from_residual-in_err-rows_by.ensures.0 c.loop-at.invariant.changes c.in_err-rows_by.ensures.changes
+    stopped _ _ _ tt _ _ (λ stored. coming (of_table t.rows t.with_rows) (map (s.row_of key) (take c.loop-at.at all)) (going (of_table t.rows t.with_rows) (g.K.Key.has key) stored)) _ _ c.from_residual-in_err-rows_by.ensures.0 c.loop-at.invariant.changes c.in_err-rows_by.ensures.changes
 
 pub loop-at-preserved : goal.loop-at-preserved
 loop-at-preserved g c =
@@ -57,8 +58,8 @@ loop-at-preserved g c =
     record {
       same = c.rows_by.ensures.same ∙ c.loop-at.invariant.same;
       within = low;
-      changes = parts_longer (s.row_of key) t.rows (λ things. coming t.rows t.with_rows (map (s.row_of key) things)) (come_so t.index t.table t.rows t.with_rows t.stands (s.row_of key)) (going t.rows t.with_rows (g.K.Key.has key)) all c.loop-at.at 1 _ _ _ (Ok tt) c.loop-at.invariant.changes c.in_ok-rows_by.ensures.changes;
-      takes = λ short new. parts_take (s.row_of key) t.rows (λ things. coming t.rows t.with_rows (map (s.row_of key) things)) (come_so t.index t.table t.rows t.with_rows t.stands (s.row_of key)) (going t.rows t.with_rows (g.K.Key.has key)) all (s.is_same key) (new_gone t.index t.table t.rows t.with_rows t.stands (s.row_of key) (s.is_same key) (g.K.Key.has key) all new) c.loop-at.at 1 _ _ _ (Ok tt) low
+      changes = parts_longer (s.row_of key) t.rows (λ things. coming (of_table t.rows t.with_rows) (map (s.row_of key) things)) (come_so t.index t.table t.rows t.with_rows t.stands (s.row_of key)) (going (of_table t.rows t.with_rows) (g.K.Key.has key)) all c.loop-at.at 1 _ _ _ (Ok tt) c.loop-at.invariant.changes c.in_ok-rows_by.ensures.changes;
+      takes = λ short new. parts_take (s.row_of key) t.rows (λ things. coming (of_table t.rows t.with_rows) (map (s.row_of key) things)) (come_so t.index t.table t.rows t.with_rows t.stands (s.row_of key)) (going (of_table t.rows t.with_rows) (g.K.Key.has key)) all (s.is_same key) (new_gone t.index t.table t.rows t.with_rows t.stands (s.row_of key) (s.is_same key) (g.K.Key.has key) all new) c.loop-at.at 1 _ _ _ (Ok tt) low
           c.loop-at.invariant.changes (c.loop-at.invariant.takes short new) c.rows_by.ensures.changes.survives (c.in_ok-rows_by.ensures.takes (part_all s.is_short c.loop-at.at 1 all short));
       clean = λ clean. c.loop-at.invariant.clean (was_clean _ _ _ c.rows_by.ensures.changes.survives clean);
     }
@@ -71,8 +72,8 @@ returns-clause-changes g c =
     let all = c.args.items.now in
     let has = g.K.Key.has key in
     let news = map (s.row_of key) all in
-    alike _ _ (Ok tt) (λ stored. coming t.rows t.with_rows news (going t.rows t.with_rows has stored)) (instead t.rows t.with_rows has news) (in_place t.index t.table t.rows t.with_rows t.stands has news)
-    (parts_ended (s.row_of key) t.rows (λ things. coming t.rows t.with_rows (map (s.row_of key) things)) (come_so t.index t.table t.rows t.with_rows t.stands (s.row_of key)) (going t.rows t.with_rows (g.K.Key.has key)) all c.loop-at.at _ _ (omega (arith, c.loop-at-test.false)) c.loop-at.invariant.changes)
+    alike _ _ (Ok tt) (λ stored. coming (of_table t.rows t.with_rows) news (going (of_table t.rows t.with_rows) has stored)) (instead (of_table t.rows t.with_rows) has news) (in_place t.index t.table t.rows t.with_rows t.stands has news)
+    (parts_ended (s.row_of key) t.rows (λ things. coming (of_table t.rows t.with_rows) (map (s.row_of key) things)) (come_so t.index t.table t.rows t.with_rows t.stands (s.row_of key)) (going (of_table t.rows t.with_rows) (g.K.Key.has key)) all c.loop-at.at _ _ (omega (arith, c.loop-at-test.false)) c.loop-at.invariant.changes)
 
 pub returns-in_err-leave-clause-takes : goal.returns-in_err-leave-clause-takes
 returns-in_err-leave-clause-takes g c short new =
@@ -86,7 +87,7 @@ returns-in_err-rows_by-clause-takes g c short new =
     let all = c.args.items.now in
     let low : c.loop-at.at + 1 ≤ length all = omega (arith, c.loop-at-test.true) in
     stopped_first _ _ c.in_err-rows_by.field-0.0 _ (c.loop-at.at + 1) _ (λ stored. Unit {0}) (λ stored. Unit {0}) c.from_residual-in_err-rows_by.ensures.1 (λ stored u. tt)
-    (parts_take (s.row_of key) t.rows (λ things. coming t.rows t.with_rows (map (s.row_of key) things)) (come_so t.index t.table t.rows t.with_rows t.stands (s.row_of key)) (going t.rows t.with_rows (g.K.Key.has key)) all (s.is_same key) (new_gone t.index t.table t.rows t.with_rows t.stands (s.row_of key) (s.is_same key) (g.K.Key.has key) all new) c.loop-at.at 1 _ _ _ (Err c.in_err-rows_by.field-0.0) low
+    (parts_take (s.row_of key) t.rows (λ things. coming (of_table t.rows t.with_rows) (map (s.row_of key) things)) (come_so t.index t.table t.rows t.with_rows t.stands (s.row_of key)) (going (of_table t.rows t.with_rows) (g.K.Key.has key)) all (s.is_same key) (new_gone t.index t.table t.rows t.with_rows t.stands (s.row_of key) (s.is_same key) (g.K.Key.has key) all new) c.loop-at.at 1 _ _ _ (Err c.in_err-rows_by.field-0.0) low
     c.loop-at.invariant.changes (c.loop-at.invariant.takes short new) c.rows_by.ensures.changes.survives (c.in_err-rows_by.ensures.takes (part_all s.is_short c.loop-at.at 1 all short)))
     low
 

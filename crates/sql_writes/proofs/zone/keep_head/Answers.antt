@@ -9,7 +9,7 @@ returns-in_err-has_rows_of-clause-changes g c = refused _ _ _ _ (λ stored. stor
 
 pub returns-clause-changes : goal.returns-clause-changes
 returns-clause-changes g c =
-    head_added _ _ _ c.args.client.now c.args.zone.now _ _ c.in_ok-has_rows_of.ensures.changes (λ clean known. c.in_ok-has_rows_of.ensures.found clean known ∙ c.if-branch.false) c.head.ensures.changes
+    head_added _ _ _ c.args.client.now c.args.zone.now _ _ c.in_ok-has_rows_of.ensures.changes (λ clean known. c.in_ok-has_rows_of.ensures.found clean known ∙ c.if-branch.false) c.joined.ensures.changes
 
 pub returns-in_err-has_rows_of-clause-takes : goal.returns-in_err-has_rows_of-clause-takes
 returns-in_err-has_rows_of-clause-takes g c =
@@ -17,7 +17,7 @@ returns-in_err-has_rows_of-clause-takes g c =
 
 pub returns-clause-takes : goal.returns-clause-takes
 returns-clause-takes g c =
-    takes_here _ _ _ _ _ (λ stored. stored) 0 1 (λ stored. Unit {0}) _ (λ clean known u. c.in_ok-has_rows_of.ensures.found clean known ∙ c.if-branch.false) c.in_ok-has_rows_of.ensures.changes c.in_ok-has_rows_of.ensures.takes c.head.ensures.changes.survives (c.head.ensures.takes refl)
+    takes_here _ _ _ _ _ (λ stored. stored) 0 1 (λ stored. Unit {0}) _ (λ clean known u. c.in_ok-has_rows_of.ensures.found clean known ∙ c.if-branch.false) c.in_ok-has_rows_of.ensures.changes c.in_ok-has_rows_of.ensures.takes c.joined.ensures.changes.survives (c.joined.ensures.takes refl)
 
 pub returns-then-branch-clause-takes : goal.returns-then-branch-clause-takes
 returns-then-branch-clause-takes g c =
