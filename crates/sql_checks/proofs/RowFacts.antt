@@ -18,7 +18,8 @@ use Rattle.sql_tables.specs.Rows.{caller_row, hold_found, hold_row, hold_with, k
 use Rattle.sql_tables.specs.Stored.{shown}
 use Rattle.sql_tables.specs.Values.{categories_in, date_in, hold_kind_in, id_in, id_value, optional_id_in, state_in, sysmod_kind_in, text_in}
 use Rattle.sql_tables.specs.Whole.{Head, IsCondition, IsHead, IsMember, IsZoneSysmod, Listed, ZoneSysmod, condition_row, member_row, row_of_head, row_of_zone_sysmod}
-use Rattle.sql_checks.specs.Kept.{IsIdColumn, KeepsTo, indices_in, is_any_text, table_of}
+use Rattle.sql_checks.specs.Kept.{KeepsTo, indices_in, table_of}
+use Rattle.sql_checks.specs.Known.{IsIdColumn, is_any_text}
 use Rattle.sql_checks.specs.declared.table.StoreTable.{StoreTable}
 use Rattle.sql_checks.specs.declared.table.StoreTable.TheVariants as table
 use Rattle.sql_checks.proofs.SaidFacts.{categories_said, date_said, hold_kind_said, id_said, ids_said, optional_said, patterns_said, state_said, sysmod_kind_said}

@@ -31,7 +31,8 @@ use Rattle.sql_checks.proofs.OursFacts.{ours}
 use Rattle.sql_checks.specs.Checked.{Finds, IsFound, IsRowSeen, IsSeen, Looks, TellsVersion2, WrongIn}
 use Rattle.sql_checks.specs.declared.checking.Finding.{Finding}
 use Rattle.sql_checks.specs.declared.checking.Finding.TheVariants.{Whole, OtherTables, OtherVersion, WrongRow}
-use Rattle.sql_checks.specs.Kept.{KeepTo, KeepsTo, all_of, indices_in, names_in, rows_in, table_of}
+use Rattle.sql_checks.specs.Kept.{KeepTo}
+use Rattle.sql_checks.specs.Known.{AllKeep, Known, indices_of, names_of, query_of}
 use Rattle.sql_checks.specs.declared.table.StoreTable.{StoreTable}
 
 -- ---- one look after another
@@ -74,36 +75,36 @@ every [] = refl
 every (row ∷ rows) = ap (λ others. row ∷ others) (every rows)
 
 -- A row keeps to a table just where its columns do, as they are shown; and its rows are those of its tree.
-module _ (table : StoreTable) (as_shown : (row : Row) → KeepsTo table (shown (indices_in table) row) ↔ KeepsTo table row)
-    (here : (trees : Trees) → columns_of (trees (table_of table).tree) ≡ rows_in table (stored_in trees)) where
-  shown_keep : (rows : List Row) → AllByRecursion (KeepsTo table) (map (shown (map suc (indices_in table))) rows) → AllByRecursion (KeepsTo table) (columns_of rows)
+module _ (known : Known) (as_shown : (row : Row) → known.Keeps (shown (indices_of known) row) ↔ known.Keeps row)
+    (here : (trees : Trees) → columns_of (trees known.table.tree) ≡ known.rows (stored_in trees)) where
+  shown_keep : (rows : List Row) → AllByRecursion known.Keeps (map (shown (map suc (indices_of known))) rows) → AllByRecursion known.Keeps (columns_of rows)
   shown_keep [] all = tt
-  shown_keep (row ∷ rows) all = ((as_shown (drop 1 row)).0 (subst (KeepsTo table) (sym (shown_after (indices_in table) row)) all.0), shown_keep rows all.1)
+  shown_keep (row ∷ rows) all = ((as_shown (drop 1 row)).0 (subst known.Keeps (sym (shown_after (indices_of known) row)) all.0), shown_keep rows all.1)
 
-  keep_shown : (rows : List Row) → AllByRecursion (KeepsTo table) (columns_of rows) → AllByRecursion (KeepsTo table) (map (shown (map suc (indices_in table))) rows)
+  keep_shown : (rows : List Row) → AllByRecursion known.Keeps (columns_of rows) → AllByRecursion known.Keeps (map (shown (map suc (indices_of known))) rows)
   keep_shown [] all = tt
-  keep_shown (row ∷ rows) all = (subst (KeepsTo table) (shown_after (indices_in table) row) ((as_shown (drop 1 row)).1 all.0), keep_shown rows all.1)
+  keep_shown (row ∷ rows) all = (subst known.Keeps (shown_after (indices_of known) row) ((as_shown (drop 1 row)).1 all.0), keep_shown rows all.1)
 
-  all_keep : (trees : Trees) (rows : List Row) → IsAnswer (all_of table) trees [] rows → AllByRecursion (KeepsTo table) rows ↔ KeepTo table (stored_in trees)
+  all_keep : (trees : Trees) (rows : List Row) → IsAnswer (query_of known) trees [] rows → AllByRecursion known.Keeps rows ↔ AllKeep known (stored_in trees)
   all_keep trees rows answer =
-      let tree = (table_of table).tree in
-      let there : IsPermutation (map (shown (map suc (indices_in table))) (trees tree)) rows =
-      subst (λ kept. IsPermutation (map (shown (map suc (indices_in table))) kept) rows) (every (trees tree)) (table_answer tree [] (map suc (indices_in table)) [] trees [] rows answer) in (
-        λ all. subst (AllByRecursion (KeepsTo table)) (here trees)
-            (shown_keep (trees tree) (all_there (KeepsTo table) rows (map (shown (map suc (indices_in table))) (trees tree)) (IsPermutation-sym _ rows there) all)),
-        λ all. all_there (KeepsTo table) (map (shown (map suc (indices_in table))) (trees tree)) rows there
-            (keep_shown (trees tree) (subst (AllByRecursion (KeepsTo table)) (sym (here trees)) all)),
+      let tree = known.table.tree in
+      let there : IsPermutation (map (shown (map suc (indices_of known))) (trees tree)) rows =
+      subst (λ kept. IsPermutation (map (shown (map suc (indices_of known))) kept) rows) (every (trees tree)) (table_answer tree [] (map suc (indices_of known)) [] trees [] rows answer) in (
+        λ all. subst (AllByRecursion known.Keeps) (here trees)
+            (shown_keep (trees tree) (all_there known.Keeps rows (map (shown (map suc (indices_of known))) (trees tree)) (IsPermutation-sym _ rows there) all)),
+        λ all. all_there known.Keeps (map (shown (map suc (indices_of known))) (trees tree)) rows there
+            (keep_shown (trees tree) (subst (AllByRecursion known.Keeps) (sym (here trees)) all)),
       )
 
-  pub kept_told : {Fault : Type 0} (text : List ℕ) → Reads bureau text (all_of table) (names_in table) 0 → (old new : State) (rows : Vec Row Global) (seen : List Row) → seen ≡ rows.items
-      → Answers {Fault = Fault} text [] old new (Ok rows) → (result : Result Bool Fault) → IfOk result (λ keeps. IsTrue keeps ↔ AllByRecursion (KeepsTo table) seen)
-      → Looks old new result (λ database keeps. IsTrue keeps ↔ KeepTo table (held_by database))
+  pub kept_told : {Fault : Type 0} (text : List ℕ) → Reads bureau text (query_of known) (names_of known) 0 → (old new : State) (rows : Vec Row Global) (seen : List Row) → seen ≡ rows.items
+      → Answers {Fault = Fault} text [] old new (Ok rows) → (result : Result Bool Fault) → IfOk result (λ keeps. IsTrue keeps ↔ AllByRecursion known.Keeps seen)
+      → Looks old new result (λ database keeps. IsTrue keeps ↔ AllKeep known (held_by database))
   kept_told text reads old new rows seen same answers (Err e) is = record { reads = answers.reads; is_open = tt; told = tt }
   kept_told text reads old new rows seen same answers (Ok keeps) is = record {
     reads = answers.reads;
     is_open = λ clean is_open. answers.is_open clean;
     told = λ clean is_open has.
-        let answer = subst (IsAnswer (all_of table) old.committed.trees []) (sym same) (answers.told clean bureau has (all_of table) (names_in table) 0 reads) in
+        let answer = subst (IsAnswer (query_of known) old.committed.trees []) (sym same) (answers.told clean bureau has (query_of known) (names_of known) 0 reads) in
         let all = all_keep old.committed.trees seen answer in
         (λ keeps. all.0 (is.0 keeps), λ kept. is.1 (all.1 kept));
   }

@@ -1,5 +1,6 @@
 pub mod Checked
 pub mod Kept
+pub mod Known
 pub mod Looked
 pub mod Refused
 pub mod Shapes

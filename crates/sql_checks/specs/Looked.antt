@@ -5,11 +5,10 @@ use Rattle.sql_reads.specs.declared.fault.ReadFault.{ReadFault}
 use Rattle.sql_reads.specs.declared.fault.ReadFault.TheVariants.{Device}
 use Rattle.sql_state.specs.Ours.{held_by}
 use Rattle.sql_checks.specs.Checked.{Looks}
-use Rattle.sql_checks.specs.Kept.{KeepTo}
-use Rattle.sql_checks.specs.Refused.{IsCausedBy, IsUnshown, of_rows}
-use Rattle.sql_checks.specs.declared.table.StoreTable.{StoreTable}
+use Rattle.sql_checks.specs.Known.{AllKeep, Known}
+use Rattle.sql_checks.specs.Refused.{IsCausedBy, IsUnshown, of_known}
 
 -- It is told whether all rows of the table keep to it; or its rows aren't shown.
-pub record IsLooked (table : StoreTable) (old new : State) (result : Result Bool ReadFault) : Type 0 where
-  pub looks : Looks old new result (λ database keeps. IsTrue keeps ↔ KeepTo table (held_by database))
-  pub cause : IfErr result (λ fault. fault ≡ Device → HasCleanDisk new → IsCausedBy (IsUnshown (of_rows table)) old new)
+pub record IsLooked (known : Known) (old new : State) (result : Result Bool ReadFault) : Type 0 where
+  pub looks : Looks old new result (λ database keeps. IsTrue keeps ↔ AllKeep known (held_by database))
+  pub cause : IfErr result (λ fault. fault ≡ Device → HasCleanDisk new → IsCausedBy (IsUnshown (of_known known)) old new)

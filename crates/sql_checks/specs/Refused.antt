@@ -17,7 +17,8 @@ use Rattle.sql_tables.specs.Values.{number_in}
 use Rattle.sql_texts.specs.Meaning.{Reads}
 use Rattle.sql_texts.specs.Reads as read
 use Rattle.sql_texts.specs.Schema.{bureau}
-use Rattle.sql_checks.specs.Kept.{all_of, names_in}
+use Rattle.sql_checks.specs.Kept.{known_of}
+use Rattle.sql_checks.specs.Known.{Known, names_of, query_of}
 use Rattle.sql_checks.specs.declared.table.StoreTable.{StoreTable}
 
 -- The device has failed, or the connection was shut; or there is this cause in what is committed, under the limit of steps.
@@ -37,8 +38,11 @@ abbrev pub of_version : Question
 of_version = record { query = read.version; names = codes "version" ∷ []; params = [] }
 
 -- all rows of a table
+abbrev pub of_known : Known → Question
+of_known known = record { query = query_of known; names = names_of known; params = [] }
+
 abbrev pub of_rows : StoreTable → Question
-of_rows table = record { query = all_of table; names = names_in table; params = [] }
+of_rows table = of_known (known_of table)
 
 -- all callers, each with its token
 abbrev pub of_callers : Question

@@ -18,6 +18,7 @@ mod asked;
 mod checked;
 mod checking;
 pub mod law;
+mod looking;
 mod rules;
 mod said;
 mod scan;

@@ -1,11 +1,6 @@
 //! The tables of a store, each with all that a check knows of it in a file of its own.
-ghost use Rattle.std.specs.Prelude.{◌≡◌, false, map};
-ghost use Rattle.std.specs.List.{AllByRecursion};
-ghost use Rattle.sqlite.specs.Held.{state};
-ghost use Rattle.sql_checks.specs.Kept.{AreKept, KeepTo, table_name};
-ghost use Rattle.sql_checks.specs.Looked.{IsLooked};
+ghost use Rattle.std.specs.Prelude.{◌≡◌, map};
 ghost use Rattle.sql_checks.specs.Shapes.{index_of_shape, table_of_shape};
-ghost use Rattle.sql_tables.specs.Stored.{Stored};
 ghost use Rattle.sql_texts.specs.Schema as made;
 
 mod bureau_version;
@@ -19,7 +14,8 @@ mod sysmod_sup;
 mod zone_head;
 mod zone_row;
 
-use crate::checked::{Checked, rows_keep};
+use crate::checked::{Checked, Listed};
+use crate::looking::rows_keep;
 use crate::shapes::{IndexShape, TableShape};
 use caller::Callers;
 use hold_row::HoldRows;
@@ -70,7 +66,30 @@ const TABLES: [StoreTable; 9] = [
     StoreTable::ReceivedList,
 ];
 
+impl Listed for StoreTable {
+    ghost use Rattle.sql_checks.specs.declared.table.StoreTable.TheVariants.{Caller, LastChange, Sysmod, SysmodSup, SysmodCond, HoldRow, ZoneHead, ZoneRow, ReceivedList};
+
+    ghost known = { elim [
+      | Caller ↦ ⟦<Callers as Checked>⟧.known
+      | LastChange ↦ ⟦<LastChanges as Checked>⟧.known
+      | Sysmod ↦ ⟦<Sysmods as Checked>⟧.known
+      | SysmodSup ↦ ⟦<SysmodSups as Checked>⟧.known
+      | SysmodCond ↦ ⟦<SysmodConds as Checked>⟧.known
+      | HoldRow ↦ ⟦<HoldRows as Checked>⟧.known
+      | ZoneHead ↦ ⟦<ZoneHeads as Checked>⟧.known
+      | ZoneRow ↦ ⟦<ZoneRows as Checked>⟧.known
+      | ReceivedList ↦ ⟦<ReceivedLists as Checked>⟧.known
+    ] };
+}
+
 impl StoreTable {
+    ghost use Rattle.std.specs.Prelude.{false};
+    ghost use Rattle.std.specs.List.{AllByRecursion};
+    ghost use Rattle.sqlite.specs.Held.{state};
+    ghost use Rattle.sql_checks.specs.Kept.{AreKept, KeepTo, known_of, table_name};
+    ghost use Rattle.sql_checks.specs.Looked.{IsLooked};
+    ghost use Rattle.sql_tables.specs.Stored.{Stored};
+
     /// All of them.
     pub(crate) fn all() -> [StoreTable; 9]
         ensures { (stored : Stored) → AllByRecursion (λ table. KeepTo table stored) result → AreKept stored }
@@ -107,7 +126,7 @@ impl StoreTable {
     ) -> Result<bool, ReadFault>
         requires rest { conn.old.in_transaction ≡ false }
         ensures mode { conn.new.in_transaction ≡ false }
-        ensures looked { IsLooked self (state S.Store conn.old) (state S.Store conn.new) result }
+        ensures looked { IsLooked (known_of self) (state S.Store conn.old) (state S.Store conn.new) result }
     {
         match self {
             StoreTable::Caller => rows_keep::<Callers, S>(alloc, conn),

@@ -2,7 +2,7 @@
 ghost use Rattle.std.specs.Prelude.{◌≡◌, ◌↔◌, IfOk, IsSome, IsTrue};
 ghost use Rattle.sqlite_value.specs.Order as order;
 ghost use Rattle.sqlite_value.specs.Value.{owned};
-ghost use Rattle.sql_checks.specs.Kept.{AreIdsColumn, ArePatternsColumn, IsIdColumn, is_any_text};
+ghost use Rattle.sql_checks.specs.Known.{AreIdsColumn, ArePatternsColumn, IsIdColumn, is_any_text};
 ghost use Rattle.sql_tables.specs.Values as value;
 
 use catalogue::Ids;

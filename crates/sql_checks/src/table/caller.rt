@@ -12,10 +12,16 @@ use std::alloc::Global;
 pub(crate) enum Callers {}
 
 impl Checked for Callers {
-    ghost use Rattle.std.specs.Prelude.{refl};
-    ghost use Rattle.sql_checks.specs.declared.table.StoreTable.TheVariants.{Caller};
+    ghost use Rattle.std.specs.Prelude.{IsTrue, refl};
+    ghost use Rattle.sqlite_value.specs.Order.{column};
+    ghost use Rattle.sql_checks.specs.Known.{IsIdColumn, is_any_text};
+    ghost use Rattle.sql_texts.specs.Schema as made;
 
-    ghost table = { Caller };
+    ghost known = { record {
+      table = made.caller;
+      rows = λ stored. stored.callers;
+      Keeps = λ row. IsIdColumn row 0 × IsTrue (is_any_text (column row 1));
+    } };
 
     fn shape() -> TableShape {
         TableShape {

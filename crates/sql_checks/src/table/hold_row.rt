@@ -11,10 +11,15 @@ use std::alloc::Global;
 pub(crate) enum HoldRows {}
 
 impl Checked for HoldRows {
-    ghost use Rattle.std.specs.Prelude.{refl};
-    ghost use Rattle.sql_checks.specs.declared.table.StoreTable.TheVariants.{HoldRow};
+    ghost use Rattle.std.specs.Prelude.{IsSome, refl};
+    ghost use Rattle.sql_tables.specs.Rows.{hold_found};
+    ghost use Rattle.sql_texts.specs.Schema as made;
 
-    ghost table = { HoldRow };
+    ghost known = { record {
+      table = made.hold_row;
+      rows = λ stored. stored.holds;
+      Keeps = λ row. IsSome (hold_found row);
+    } };
 
     fn shape() -> TableShape {
         TableShape {

@@ -13,10 +13,17 @@ use std::alloc::Global;
 pub(crate) enum LastChanges {}
 
 impl Checked for LastChanges {
-    ghost use Rattle.std.specs.Prelude.{refl};
-    ghost use Rattle.sql_checks.specs.declared.table.StoreTable.TheVariants.{LastChange};
+    ghost use Rattle.std.specs.Prelude.{IsSome, refl};
+    ghost use Rattle.sqlite_value.specs.Order.{column};
+    ghost use Rattle.sql_checks.specs.Known.{IsIdColumn};
+    ghost use Rattle.sql_tables.specs.Values.{bytes_in, number_in};
+    ghost use Rattle.sql_texts.specs.Schema as made;
 
-    ghost table = { LastChange };
+    ghost known = { record {
+      table = made.last_change;
+      rows = λ stored. stored.changes;
+      Keeps = λ row. IsIdColumn row 0 × IsSome (number_in (column row 1)) × IsSome (bytes_in (column row 2));
+    } };
 
     fn shape() -> TableShape {
         TableShape {

@@ -13,9 +13,14 @@ pub(crate) enum ReceivedLists {}
 
 impl Checked for ReceivedLists {
     ghost use Rattle.std.specs.Prelude.{refl};
-    ghost use Rattle.sql_checks.specs.declared.table.StoreTable.TheVariants.{ReceivedList};
+    ghost use Rattle.sql_checks.specs.Known.{AreIdsColumn, IsIdColumn};
+    ghost use Rattle.sql_texts.specs.Schema as made;
 
-    ghost table = { ReceivedList };
+    ghost known = { record {
+      table = made.received_list;
+      rows = λ stored. stored.received;
+      Keeps = λ row. IsIdColumn row 0 × AreIdsColumn row 1;
+    } };
 
     fn shape() -> TableShape {
         TableShape {

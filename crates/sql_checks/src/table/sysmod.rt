@@ -12,10 +12,18 @@ use std::alloc::Global;
 pub(crate) enum Sysmods {}
 
 impl Checked for Sysmods {
-    ghost use Rattle.std.specs.Prelude.{refl};
-    ghost use Rattle.sql_checks.specs.declared.table.StoreTable.TheVariants.{Sysmod};
+    ghost use Rattle.std.specs.Prelude.{IsSome, refl};
+    ghost use Rattle.sqlite_value.specs.Order.{column};
+    ghost use Rattle.sql_checks.specs.Known.{AreIdsColumn, IsIdColumn};
+    ghost use Rattle.sql_tables.specs.Values.{sysmod_kind_in};
+    ghost use Rattle.sql_texts.specs.Schema as made;
 
-    ghost table = { Sysmod };
+    ghost known = { record {
+      table = made.sysmod;
+      rows = λ stored. stored.sysmods;
+      Keeps = λ row. IsIdColumn row 0 × IsSome (sysmod_kind_in (column row 1))
+          × AreIdsColumn row 2 × AreIdsColumn row 3 × AreIdsColumn row 4;
+    } };
 
     fn shape() -> TableShape {
         TableShape {

@@ -13,9 +13,14 @@ pub(crate) enum SysmodConds {}
 
 impl Checked for SysmodConds {
     ghost use Rattle.std.specs.Prelude.{refl};
-    ghost use Rattle.sql_checks.specs.declared.table.StoreTable.TheVariants.{SysmodCond};
+    ghost use Rattle.sql_checks.specs.Known.{IsIdColumn};
+    ghost use Rattle.sql_texts.specs.Schema as made;
 
-    ghost table = { SysmodCond };
+    ghost known = { record {
+      table = made.sysmod_cond;
+      rows = λ stored. stored.conds;
+      Keeps = λ row. IsIdColumn row 0 × IsIdColumn row 1 × IsIdColumn row 2;
+    } };
 
     fn shape() -> TableShape {
         TableShape {

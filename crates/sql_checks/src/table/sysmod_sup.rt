@@ -13,9 +13,14 @@ pub(crate) enum SysmodSups {}
 
 impl Checked for SysmodSups {
     ghost use Rattle.std.specs.Prelude.{refl};
-    ghost use Rattle.sql_checks.specs.declared.table.StoreTable.TheVariants.{SysmodSup};
+    ghost use Rattle.sql_checks.specs.Known.{IsIdColumn};
+    ghost use Rattle.sql_texts.specs.Schema as made;
 
-    ghost table = { SysmodSup };
+    ghost known = { record {
+      table = made.sysmod_sup;
+      rows = λ stored. stored.sups;
+      Keeps = λ row. IsIdColumn row 0 × IsIdColumn row 1;
+    } };
 
     fn shape() -> TableShape {
         TableShape {

@@ -13,9 +13,14 @@ pub(crate) enum ZoneHeads {}
 
 impl Checked for ZoneHeads {
     ghost use Rattle.std.specs.Prelude.{refl};
-    ghost use Rattle.sql_checks.specs.declared.table.StoreTable.TheVariants.{ZoneHead};
+    ghost use Rattle.sql_checks.specs.Known.{ArePatternsColumn, IsIdColumn};
+    ghost use Rattle.sql_texts.specs.Schema as made;
 
-    ghost table = { ZoneHead };
+    ghost known = { record {
+      table = made.zone_head;
+      rows = λ stored. stored.heads;
+      Keeps = λ row. IsIdColumn row 0 × IsIdColumn row 1 × ArePatternsColumn row 2;
+    } };
 
     fn shape() -> TableShape {
         TableShape {

@@ -12,10 +12,17 @@ use std::alloc::Global;
 pub(crate) enum ZoneRows {}
 
 impl Checked for ZoneRows {
-    ghost use Rattle.std.specs.Prelude.{refl};
-    ghost use Rattle.sql_checks.specs.declared.table.StoreTable.TheVariants.{ZoneRow};
+    ghost use Rattle.std.specs.Prelude.{IsSome, refl};
+    ghost use Rattle.sqlite_value.specs.Order.{column};
+    ghost use Rattle.sql_checks.specs.Known.{IsIdColumn};
+    ghost use Rattle.sql_tables.specs.Values.{state_in};
+    ghost use Rattle.sql_texts.specs.Schema as made;
 
-    ghost table = { ZoneRow };
+    ghost known = { record {
+      table = made.zone_row;
+      rows = λ stored. stored.rows;
+      Keeps = λ row. IsIdColumn row 0 × IsIdColumn row 1 × IsIdColumn row 2 × IsSome (state_in (column row 3));
+    } };
 
     fn shape() -> TableShape {
         TableShape {

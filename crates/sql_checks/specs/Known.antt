@@ -1,0 +1,59 @@
+-- What stands in the columns of a row, and what is known of a table: the file of each table has that of its own.
+use Rattle.std.specs.Prelude.{◌≡◌, ℕ, suc, Bool, true, false, List, [], length, map, IsSome, Some}
+use Rattle.std.specs.List.{AllByRecursion, range_with_len}
+use Rattle.bureau_store.specs.Tables.{PatternsAscend}
+use Rattle.catalogue.specs.Ids.{Ascend}
+use Rattle.sqlite.specs.Query.{Query}
+use Rattle.sqlite.specs.Table.{Table}
+use Rattle.sqlite_value.specs.Order.{Row, column}
+use Rattle.sqlite_value.specs.declared.value.Value.{Value}
+use Rattle.sqlite_value.specs.declared.value.Value.TheVariants.{Null, Int, Real, Text, Blob}
+use Rattle.sql_tables.specs.Stored.{Stored}
+use Rattle.sql_tables.specs.Values.{id_in, ids_in, patterns_in}
+use Rattle.sql_texts.specs.Reads.{from_table}
+use Rattle.sql_texts.specs.Schema.{columns_of}
+
+-- ---- what stands in a column
+
+abbrev pub is_any_text : Value → Bool
+is_any_text (Text t) = true
+is_any_text (Blob b) = false
+is_any_text (Int n) = false
+is_any_text (Real x) = false
+is_any_text Null = false
+
+abbrev pub IsIdColumn : Row → ℕ → Type 0
+IsIdColumn row index = IsSome (id_in (column row index))
+
+-- a list of ids that ascend, each once
+abbrev pub AreIdsColumn : Row → ℕ → Type 0
+AreIdsColumn row index = (ids : List (List ℕ)) × (ids_in (column row index) ≡ Some ids) × Ascend ids
+
+-- a list of patterns of fix categories that ascend, each once
+abbrev pub ArePatternsColumn : Row → ℕ → Type 0
+ArePatternsColumn row index = (patterns : List (List ℕ)) × (patterns_in (column row index) ≡ Some patterns) × PatternsAscend patterns
+
+-- ---- a table
+
+pub record Known : Type 1 where
+  -- as the database makes it
+  pub table : Table
+  -- its rows
+  pub rows : Stored → List Row
+  -- what each of them keeps to
+  pub Keeps : Row → Type 0
+
+-- its columns, from 0 on
+abbrev pub indices_of : Known → List ℕ
+indices_of known = range_with_len 0 (length known.table.columns)
+
+abbrev pub names_of : Known → List (List ℕ)
+names_of known = columns_of known.table
+
+-- the query of all its rows, with all columns
+abbrev pub query_of : Known → Query
+query_of known = from_table known.table.tree [] (map suc (indices_of known)) []
+
+-- all its rows keep to it
+abbrev pub AllKeep : Known → Stored → Type 0
+AllKeep known stored = AllByRecursion known.Keeps (known.rows stored)
