@@ -1,5 +1,5 @@
--- What each row of a store keeps to, so that it is one that the bureau writes, and that a read takes. What stands in its columns is said
--- where the table is.
+-- What each row of a store keeps to, so that it is one that the bureau writes, and that a read takes. Each table's file in `src/table/`
+-- says what stands in the columns of its rows (`known`).
 use Rattle.std.specs.Prelude.{ℕ, List}
 use Rattle.std.specs.List.{AllByRecursion}
 use Rattle.sqlite.specs.Query.{Query}
@@ -10,7 +10,7 @@ use Rattle.sql_checks.specs.Known.{AllKeep, Known, indices_of, names_of, query_o
 use Rattle.sql_checks.specs.contracts.table.StoreTableListed.TheImpl.{known-value}
 use Rattle.sql_checks.specs.declared.table.StoreTable.{StoreTable}
 
--- what is known of a table, by its file
+-- what is known of a table
 abbrev pub known_of : StoreTable → Known
 known_of = known-value.it
 
