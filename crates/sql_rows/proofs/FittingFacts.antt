@@ -1,6 +1,6 @@
 -- The rows that the bureau writes break no rule that speaks of one row, and can be stored: by the kinds of their table's
 -- columns, and by how many bytes each value has at most.
-use Rattle.std.proofs.Common.{◌≡◌, ◌≤◌, ◌<◌, ◌+◌, ◌^◌, ◌&&◌, ◌==◌, ℕ, ℤ, zero, suc, pos, negsuc, Bool, true, false, List, [], ◌∷◌, Some, length, refl, sym, ◌∙◌, ap, ap₂, subst, arith, int_cmp}
+use Rattle.std.proofs.Common.{◌≡◌, ◌≤◌, ◌<◌, ◌+◌, ◌^◌, ◌&&◌, ◌==◌, ℕ, ℤ, zero, suc, pos, negsuc, Bool, true, List, [], ◌∷◌, Some, length, refl, sym, ◌∙◌, ap, ap₂, subst, arith, int_cmp}
 use Rattle.std.specs.Prelude.{filter, nat_le, nat_lt, not, slice_index_or, sum_by}
 use Rattle.std.specs.Float.{NotNan}
 use Rattle.std.specs.Int.{bit_at}
