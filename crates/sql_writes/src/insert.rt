@@ -19,7 +19,7 @@ ghost use Rattle.sql_writes.specs.Parts.{with_callers, with_head, with_hold, wit
 use crate::params::{count_of, params_of};
 use crate::records::SysmodRow;
 use crate::run::{run, run_prepared};
-use crate::table::{ByOne, Several};
+use crate::table::{self, ByOne, Several};
 use crate::texts;
 use crate::values::number_of;
 use bureau_store::CallerRow;
@@ -31,7 +31,6 @@ use sql_tables::{
     sysmod_kind_value,
 };
 use sql_texts::write;
-use sql_texts::write::TableById;
 use sqlite::types::ValueRef;
 use sqlite::{Alter, Error, Statement, Transaction};
 use std::alloc::Global;
@@ -111,7 +110,7 @@ pub(crate) fn last_change<S: Alter>(
         (λ stored. list_any (is_of name.now) stored.changes ≡ false) }
 {
     let params = [id_of(name), number_of(number), ValueRef::Blob(reply)];
-    run(tx, TableById::LastChange.insertion(), &params)
+    run(tx, table::last_change::insertion(), &params)
 }
 
 /// The row of a record of the catalogue, or those of eight.
