@@ -1,7 +1,7 @@
 -- What is looked at before a connection is taken for a store leaves it as it was, and says why it isn't.
 use Rattle.std.proofs.Common.{◌≡◌, ◌⊎◌, ◌≢◌, ◌+◌, ◌<◌, ◌≤◌, ℕ, Bor, List, [], Err, IfErr, IsTrue, Ok, OnOk, Result, Some, ap, arith, get_or, inl, inr, length, refl, subst, sym, take}
 use Rattle.std.specs.List.{AllByRecursion, Contains}
-use Rattle.std.specs.Prelude.{◌∷◌, Option, codes, unwrap_or}
+use Rattle.std.specs.Prelude.{◌∷◌, Option, map, unwrap_or}
 use Rattle.std.proofs.lemmas.Bool.{cases_Bool}
 use Rattle.lemmas.proofs.ListFacts.{first_inside, inside_cases, none_inside, rest_inside, get_any, all_in}
 use Rattle.bureau_store.specs.Store.{IsOfRead}
@@ -15,20 +15,21 @@ use Rattle.sqlite.specs.Outline.{Outline}
 use Rattle.sqlite.specs.State.{HasCleanDisk, IsUnchanged, KeepsCommit, State}
 use Rattle.sqlite.specs.Steps.{Outlines}
 use Rattle.sqlite.specs.Query.{Query}
+use Rattle.sqlite.specs.Table.{Table}
 use Rattle.sqlite_resolve.specs.declared.compiled.Compiled.{Compiled}
 use Rattle.sqlite_resolve.specs.declared.error.CompileError.{CompileError}
 use Rattle.sqlite_trees.specs.declared.store.Store.{Ghosts}
 use Rattle.sql_state.specs.Earlier.{IsOfVersion1}
 use Rattle.sql_state.specs.Ours.{AreOurs, IsOurs, held_by}
 use Rattle.sql_state.specs.Reading.{HasFailed, OnlyReads}
+use Rattle.sql_reads.specs.Columns.{ShowEach, ShowsAll, tables_of_version_1}
 use Rattle.sql_reads.specs.Version.{MeansNothing, Withholds, WithholdsVersion}
 use Rattle.sql_tables.specs.Stored.{tables_of}
 use Rattle.sql_texts.specs.Meaning.{MakesTable, Reads}
-use Rattle.sql_texts.specs.Reads as read
 use Rattle.sql_texts.specs.Schema.{bureau, bureau_1, sysmod_cond}
 use Rattle.sql_state.proofs.StopFacts.{failed_after, was_clean}
 pub use Rattle.sql_state.proofs.StopFacts.{no_read, read_on}
-use Rattle.bureau_sql.specs.Opening.{Asked, CanAsk, CanMakeConditions, CannotAsk, CannotMakeConditions, HasConditions, HasOtherShape, HasTables, IsAskedBy, IsNoStore, IsNotEarlier, IsNotMigrated, IsNotOf, IsOfBureau, IsOneStatement, IsOther, IsSeen, IsUnderstood, LacksConditions, LacksMore, LacksTables, LacksText, LacksVersion, TellsVersion, of_conditions, of_tables, of_version}
+use Rattle.bureau_sql.specs.Opening.{Asked, CanAsk, CanMakeConditions, CannotAsk, CannotMakeConditions, HasConditions, HasOtherShape, HasTables, IsAskedBy, IsNoStore, IsNotEarlier, IsNotMigrated, IsNotOf, IsOfBureau, IsOneStatement, IsOther, IsSeen, IsUnderstood, LacksConditions, LacksMore, LacksTables, LacksText, LacksVersion, TellsVersion, of_conditions, of_table, of_version}
 use Rattle.bureau_sql.specs.SqlState.{SqlState}
 use Rattle.bureau_sql.specs.SqlView.{IsAtRest, IsOurStore, shown, sql_view}
 use Rattle.bureau_sql.proofs.FitFacts.{all_seen, all_so_far}
@@ -177,48 +178,47 @@ seen_so Shaped Versioned Shape_there Version_there at new Version shape version 
 pub one_of_asked : (schema : Schema) (text : List ℕ) (query : Query) (names : List (List ℕ)) (parameters : ℕ) → Reads schema text query names parameters → IsOneStatement schema text
 one_of_asked schema text query names parameters reads = (_, reads.statement, omega arith, refl)
 
--- these texts ask these things, one each
-abbrev pub AreAskedBy : List Asked → List (Bor (List ℕ)) → Type 0
-AreAskedBy [] [] = Unit {0}
-AreAskedBy [] (text ∷ texts) = ⊥
-AreAskedBy (what ∷ more) [] = ⊥
-AreAskedBy (what ∷ more) (text ∷ texts) = IsAskedBy what text.now × AreAskedBy more texts
+-- texts that show all columns of these tables, one each, are statements
+all_one : (schema : Schema) (tables : List Table) (texts : List (Bor (List ℕ))) → ShowEach schema tables texts → AllByRecursion (λ text. IsOneStatement schema text.now) texts
+all_one schema [] [] each = tt
+all_one schema [] (text ∷ texts) each = absurd each
+all_one schema (one ∷ more) [] each = absurd each
+all_one schema (one ∷ more) (text ∷ texts) each = (one_of_asked schema text.now _ _ _ each.0, all_one schema more texts each.1)
 
-pub all_asked : (schema : Schema) (what : List Asked) (texts : List (Bor (List ℕ))) → AreAskedBy what texts → AllByRecursion (λ text. IsUnderstood schema text.now) texts
-    → AllByRecursion (CanAsk schema) what
-all_asked schema [] [] asked all = tt
-all_asked schema [] (text ∷ texts) asked all = absurd asked
-all_asked schema (one ∷ more) [] asked all = absurd asked
-all_asked schema (one ∷ more) (text ∷ texts) asked all = ((text.now, asked.0, all.0), all_asked schema more texts asked.1 all.1)
+pub all_asked : (schema : Schema) (tables : List Table) (texts : List (Bor (List ℕ))) → ShowEach bureau tables texts → AllByRecursion (λ text. IsUnderstood schema text.now) texts
+    → AllByRecursion (CanAsk schema) (map of_table tables)
+all_asked schema [] [] each all = tt
+all_asked schema [] (text ∷ texts) each all = absurd each
+all_asked schema (one ∷ more) [] each all = absurd each
+all_asked schema (one ∷ more) (text ∷ texts) each all = ((text.now, each.0, all.0), all_asked schema more texts each.1 all.1)
 
-one_not_asked : (schema : Schema) (what : List Asked) (texts : List (Bor (List ℕ))) → AreAskedBy what texts → (text : Bor (List ℕ)) → Contains texts text
-    → (IsOneStatement schema text.now → ⊥) → (one : Asked) × Contains what one × CannotAsk schema one
-one_not_asked schema [] [] asked text inside none = absurd (none_inside text inside)
-one_not_asked schema [] (first ∷ texts) asked text inside none = absurd asked
-one_not_asked schema (one ∷ more) [] asked text inside none = absurd asked
-one_not_asked schema (one ∷ more) (first ∷ texts) asked text inside none = elim (inside_cases first text texts inside) [
-  | inl same ↦ (one, first_inside one more, (text.now, subst (λ (t : Bor (List ℕ)). IsAskedBy one t.now) same asked.0, none))
-  | inr later ↦ let it = one_not_asked schema more texts asked.1 text later none in (it.0, rest_inside one it.0 more it.1, it.2)
+one_not_asked : (schema : Schema) (tables : List Table) (texts : List (Bor (List ℕ))) → ShowEach bureau tables texts → (text : Bor (List ℕ)) → Contains texts text
+    → (IsOneStatement schema text.now → ⊥) → (one : Asked) × Contains (map of_table tables) one × CannotAsk schema one
+one_not_asked schema [] [] each text inside none = absurd (none_inside text inside)
+one_not_asked schema [] (first ∷ texts) each text inside none = absurd each
+one_not_asked schema (one ∷ more) [] each text inside none = absurd each
+one_not_asked schema (one ∷ more) (first ∷ texts) each text inside none = elim (inside_cases first text texts inside) [
+  | inl same ↦ (of_table one, first_inside (of_table one) (map of_table more), (text.now, subst (λ (t : Bor (List ℕ)). ShowsAll bureau one t.now) same each.0, none))
+  | inr later ↦ let it = one_not_asked schema more texts each.1 text later none in (it.0, rest_inside (of_table one) it.0 (map of_table more) it.1, it.2)
 ]
 
 -- one of the texts is no statement, so one of the tables lacks, and the tables are the bureau's of no version
-table_lacks : (texts : List (Bor (List ℕ))) → AreAskedBy of_tables texts → AllByRecursion (λ text. IsOneStatement bureau text.now) texts
-    → AllByRecursion (λ text. IsOneStatement bureau_1 text.now) texts → (database : Database) → LacksText texts database → LacksTables database
-table_lacks texts asked here before database lacks = (
+table_lacks : (tables : List Table) (texts : List (Bor (List ℕ))) → ShowEach bureau tables texts → ShowEach bureau_1 tables texts → (database : Database) → LacksText texts database
+    → (IsOfBureau database.schema → ⊥) × ((what : Asked) × Contains (map of_table tables) what × CannotAsk database.schema what)
+table_lacks tables texts here before database lacks = (
   λ of. lacks.2 (elim of [
-    | inl is ↦ subst (λ s. IsOneStatement s lacks.0.now) (sym is) (all_in (λ text. IsOneStatement bureau text.now) texts here lacks.0 lacks.1)
-    | inr is ↦ subst (λ s. IsOneStatement s lacks.0.now) (sym is) (all_in (λ text. IsOneStatement bureau_1 text.now) texts before lacks.0 lacks.1)
+    | inl is ↦ subst (λ s. IsOneStatement s lacks.0.now) (sym is) (all_in (λ text. IsOneStatement bureau text.now) texts (all_one bureau tables texts here) lacks.0 lacks.1)
+    | inr is ↦ subst (λ s. IsOneStatement s lacks.0.now) (sym is) (all_in (λ text. IsOneStatement bureau_1 text.now) texts (all_one bureau_1 tables texts before) lacks.0 lacks.1)
   ]),
-  one_not_asked database.schema of_tables texts asked lacks.0 lacks.1 lacks.2,
+  one_not_asked database.schema tables texts here lacks.0 lacks.1 lacks.2,
 )
 
 pub seen_tables : {A : Type 0} (texts : List (Bor (List ℕ))) (old new : State) (result : Result A StoreFault)
-    → IfErr result (λ fault. HasCleanDisk new → IsSeen (LacksText texts) (λ database. ⊥) old new fault) → AreAskedBy of_tables texts
-    → AllByRecursion (λ text. IsOneStatement bureau text.now) texts → AllByRecursion (λ text. IsOneStatement bureau_1 text.now) texts
-    → IfErr result (λ fault. HasCleanDisk new → IsSeen LacksTables (λ database. ⊥) old new fault)
-seen_tables texts old new (Ok a) seen asked here before = tt
-seen_tables texts old new (Err fault) seen asked here before = λ clean.
-    seen_so (LacksText texts) (λ database. ⊥) LacksTables (λ database. ⊥) old new fault (table_lacks texts asked here before) (λ database none. none) (seen clean)
+    → IfErr result (λ fault. HasCleanDisk new → IsSeen (LacksText texts) (λ database. ⊥) old new fault) → ShowEach bureau tables_of_version_1 texts
+    → ShowEach bureau_1 tables_of_version_1 texts → IfErr result (λ fault. HasCleanDisk new → IsSeen LacksTables (λ database. ⊥) old new fault)
+seen_tables texts old new (Ok a) seen here before = tt
+seen_tables texts old new (Err fault) seen here before = λ clean.
+    seen_so (LacksText texts) (λ database. ⊥) LacksTables (λ database. ⊥) old new fault (table_lacks tables_of_version_1 texts here before) (λ database none. none) (seen clean)
 
 -- a text that asks for the version of the bureau's tables, of either version, is no statement
 pub version_lacks : (text : List ℕ) → IsAskedBy of_version text → IsOneStatement bureau_1 text → (database : Database) → (IsOneStatement database.schema text → ⊥) → LacksVersion database
@@ -231,8 +231,7 @@ version_lacks text asks before database none = (
 )
 
 -- what `open` found: the text that it looked at asks for the requisites under a condition
-pub conditions_found : (text : List ℕ) (schema : Schema) → HasTables schema → IsUnderstood schema text
-    → Reads bureau text read.conditional (codes "fmid" ∷ codes "member" ∷ []) 1 → HasTables schema × HasConditions schema
+pub conditions_found : (text : List ℕ) (schema : Schema) → HasTables schema → IsUnderstood schema text → ShowsAll bureau sysmod_cond text → HasTables schema × HasConditions schema
 conditions_found text schema tables means reads = (tables, (text, reads, means))
 
 -- what `migrate` found: the text that makes their table means something

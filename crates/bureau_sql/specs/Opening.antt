@@ -1,5 +1,5 @@
 -- Why a connection isn't taken for a store, or its file not made one of version 2.
-use Rattle.std.specs.Prelude.{◌≡◌, ◌≢◌, ◌≤◌, ◌⊎◌, ℕ, IsTrue, List, [], ◌∷◌, Ok, Option, Some, codes, length}
+use Rattle.std.specs.Prelude.{◌≡◌, ◌≢◌, ◌≤◌, ◌⊎◌, ℕ, IsTrue, List, [], ◌∷◌, Ok, Option, Some, codes, length, map}
 use Rattle.std.specs.Borrow.{Bor}
 use Rattle.std.specs.List.{AllByRecursion, Contains}
 use Rattle.bureau_store.specs.declared.fault.StoreFault.{StoreFault}
@@ -9,10 +9,12 @@ use Rattle.sqlite.specs.Listing.{understood}
 use Rattle.sqlite.specs.Query.{Query}
 use Rattle.sqlite.specs.Schema.{Schema}
 use Rattle.sqlite.specs.State.{State, store_error}
+use Rattle.sqlite.specs.Table.{Table}
 use Rattle.sqlite.specs.declared.error.Error.{Error}
 use Rattle.sqlite_resolve.specs.declared.compiled.Compiled.{Compiled}
 use Rattle.sqlite_trees.specs.declared.error.StoreError.{StoreError}
 use Rattle.sqlite_trees.specs.declared.error.StoreError.TheVariants.{Broken, Corrupt, Full, Io, OutOfMemory, Unstorable}
+use Rattle.sql_reads.specs.Columns.{all_of, tables_of_version_1}
 use Rattle.sql_reads.specs.Version.{HasVersion, WithholdsVersion}
 use Rattle.bureau_sql.specs.Failing.{CannotWrite}
 use Rattle.sql_state.specs.Earlier.{IsOfVersion1}
@@ -20,7 +22,7 @@ use Rattle.sql_state.specs.Ours.{IsOurs}
 use Rattle.sql_state.specs.Reading.{HasFailed}
 use Rattle.sql_texts.specs.Meaning.{MakesTable, Reads}
 use Rattle.sql_texts.specs.Reads as read
-use Rattle.sql_texts.specs.Schema.{bureau, bureau_1, hold_columns, sysmod_columns, sysmod_cond}
+use Rattle.sql_texts.specs.Schema.{bureau, bureau_1, columns_of, sysmod_cond}
 
 -- ---- what is there where a connection is taken
 
@@ -58,24 +60,19 @@ CannotAsk schema what = (text : List ℕ) × IsAskedBy what text × (IsOneStatem
 abbrev pub of_version : Asked
 of_version = asked read.version (codes "version" ∷ []) 0
 
--- of each other table of version 1 what a store asks of it, with all columns that a store reads
+-- all columns of a table
+abbrev pub of_table : Table → Asked
+of_table table = asked (all_of table) (columns_of table) 0
+
+-- of each other table of version 1 all its columns
 abbrev pub of_tables : List Asked
-of_tables =
-    asked read.caller_with_token (codes "name" ∷ []) 1
-    ∷ asked read.last_change (codes "number" ∷ codes "body" ∷ []) 1
-    ∷ asked read.sysmod sysmod_columns 1
-    ∷ asked read.superseded (codes "member" ∷ []) 1
-    ∷ asked read.holds_on hold_columns 1
-    ∷ asked read.patterns (codes "patterns" ∷ []) 2
-    ∷ asked read.zone_rows (codes "sysmod" ∷ codes "state" ∷ []) 2
-    ∷ asked read.received (codes "ids" ∷ []) 1
-    ∷ []
+of_tables = map of_table tables_of_version_1
 
 -- and of that of version 2, of requisites under a condition
 abbrev pub of_conditions : Asked
-of_conditions = asked read.conditional (codes "fmid" ∷ codes "member" ∷ []) 1
+of_conditions = of_table sysmod_cond
 
--- The tables of version 1 are there besides that of the version itself, each with the columns that a store reads.
+-- The tables of version 1 are there besides that of the version itself, each with all its columns.
 abbrev pub HasTables : Schema → Type 0
 HasTables schema = AllByRecursion (CanAsk schema) of_tables
 

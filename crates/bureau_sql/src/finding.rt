@@ -16,7 +16,7 @@ ghost use Rattle.bureau_sql.specs.SqlView.{IsAtRest};
 
 use crate::probe::look;
 use bureau_store::StoreFault;
-use sql_reads::{ReadFault, version};
+use sql_reads::{ReadFault, columns_of_conditions, columns_of_tables, version};
 use sql_texts::read;
 use sqlite::{Connection, Error, ErrorCode};
 use sqlite_trees::store::Alter;
@@ -107,7 +107,7 @@ fn can_read_all<S: Alter>(conn: &mut Connection<S>, texts: &[&str]) -> Result<()
     Ok(())
 }
 
-// Whether the connection has the tables and the columns that a store of version 1 reads.
+// Whether the connection has the tables of version 1, each with all its columns.
 fn has_tables<S: Alter>(conn: &mut Connection<S>) -> Result<(), StoreFault>
     requires rest { conn.old.in_transaction ≡ false }
     ensures reads { OnlyReads (state S.Store conn.old) (state S.Store conn.new) }
@@ -118,19 +118,7 @@ fn has_tables<S: Alter>(conn: &mut Connection<S>) -> Result<(), StoreFault>
     ensures cause { IfErr result (λ fault. HasCleanDisk (state S.Store conn.new)
         → IsSeen LacksTables (λ database. ⊥) (state S.Store conn.old) (state S.Store conn.new) fault) }
 {
-    can_read_all(
-        conn,
-        &[
-            read::caller_with_token(),
-            read::last_change(),
-            read::sysmod(),
-            read::superseded(),
-            read::holds_on(),
-            read::patterns(),
-            read::zone_rows(),
-            read::received(),
-        ],
-    )
+    can_read_all(conn, &columns_of_tables())
 }
 
 // Whether the table of the version is there, with this one.
@@ -204,7 +192,7 @@ pub fn find_store<S: Alter>(conn: &mut Connection<S>) -> Result<(), StoreFault>
     ensures mode { conn.new.in_transaction ≡ false }
     ensures rests { IsAtRest (state S.Store conn.new) }
 {
-    let found = holds(conn, 2, read::conditional());
+    let found = holds(conn, 2, columns_of_conditions());
     let _settled = conn.is_autocommit();
     found
 }

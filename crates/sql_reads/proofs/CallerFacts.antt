@@ -37,7 +37,7 @@ tokens_alike : (token : List ℕ) (rows : List Row) → AreRowsOf caller_row (λ
 tokens_alike token [] all = tt
 tokens_alike token (row ∷ rows) all = (rw all.0.2 refl, tokens_alike token rows all.1)
 
-pub caller_told : (trees : Trees) (token : List ℕ) (rows : List Row) (found : Option Caller) → IsWhole (stored_in trees) → IsAnswer read.caller_with_token trees (Text token ∷ []) rows
+pub caller_told : (trees : Trees) (token : List ℕ) (rows : List Row) (found : Option Caller) → IsWhole (stored_in trees) → IsAnswer (read.from_table 1 (read.is_given 2 0 ∷ []) (1 ∷ []) (1 ∷ [])) trees (Text token ∷ []) rows
     → one_of name_shown rows ≡ Some found → found ≡ caller_with (tables_of (stored_in trees)).callers token
 caller_told trees token rows found whole answer one =
     let callers = columns_of (trees 1) in

@@ -1,4 +1,5 @@
 pub mod Answering
+pub mod Columns
 pub mod Orders
 pub mod Rows
 pub mod Runs

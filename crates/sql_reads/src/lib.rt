@@ -9,6 +9,7 @@
 //! - [`ids`], [`sysmod`], [`superseders`], [`holds_on`], [`counts`]: what is published
 //! - [`seen`], [`is_run`]: the records and holds of many SYSMODs at once
 //! - [`each_zone`], [`names_ascend`]: what the rows of a client's zones say
+//! - [`columns_of_tables`], [`columns_of_conditions`]: the texts by which it is seen whether the tables are there
 //! - [`rows_of`]: what any text that reads the tables finds
 //! - [`each`], [`entries`]: what its rows say, each an [`Entry`]; [`are_ascending`]: whether these are in order
 //! - [`ReadFault`]: why a read is refused
@@ -45,5 +46,6 @@ pub use table::received_list::received;
 pub use table::sysmod::{ids, sysmod};
 pub use table::zone_head::{has_zone, patterns};
 pub use table::zone_row::zone_rows;
+pub use table::{columns_of_conditions, columns_of_tables};
 pub use tables_version::version;
 pub use zone_counts::{each_zone, names_ascend, zones};

@@ -1,4 +1,6 @@
 //! The tables of a store, each with all that is read of it alone.
+ghost use Rattle.sql_reads.specs.Columns.{ShowEach, ShowsAll, tables_of_version_1};
+ghost use Rattle.sql_texts.specs.Schema as schema;
 
 pub(crate) mod caller;
 pub(crate) mod hold_row;
@@ -9,3 +11,28 @@ pub(crate) mod sysmod_cond;
 pub(crate) mod sysmod_sup;
 pub(crate) mod zone_head;
 pub(crate) mod zone_row;
+
+/// Of each table of version 1, apart from that of the version itself, the text that shows all its columns. In a file of either
+/// version it means the same.
+pub fn columns_of_tables() -> [&'static str; 8]
+    ensures here { ShowEach schema.bureau tables_of_version_1 result }
+    ensures version_1 { ShowEach schema.bureau_1 tables_of_version_1 result }
+{
+    [
+        caller::all_columns(),
+        last_change::all_columns(),
+        sysmod::all_columns(),
+        sysmod_sup::all_columns(),
+        hold_row::all_columns(),
+        zone_head::all_columns(),
+        zone_row::all_columns(),
+        received_list::all_columns(),
+    ]
+}
+
+/// The same of the table that version 2 has besides, that of requisites under a condition.
+pub fn columns_of_conditions() -> &'static str
+    ensures { ShowsAll schema.bureau schema.sysmod_cond result.now }
+{
+    sysmod_cond::all_columns()
+}

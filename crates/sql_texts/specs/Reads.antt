@@ -1,4 +1,5 @@
--- What is read, as queries over the trees of the tables. Slot 0 has the parameters, and slot 1 a row.
+-- Queries over the trees of the tables: their forms, and those that join, that count or that several crates ask. Slot 0 has the
+-- parameters, and slot 1 a row.
 use Rattle.std.specs.Prelude.{ℕ, List, [], ◌∷◌, map, None, Some, false, pos, negsuc}
 use Rattle.sqlite.specs.Collation.TheVariants.{Binary}
 use Rattle.sqlite.specs.Query.{Join, Query, counted, end, inner}
@@ -49,10 +50,6 @@ count_of tree filter = record (query_of (inner tree end) filter (col 1 0 ∷ [])
 abbrev pub version : Query
 version = from_table 0 [] (2 ∷ []) (0 ∷ [])
 
--- the name of the caller with a token
-abbrev pub caller_with_token : Query
-caller_with_token = from_table 1 (is_given 2 0 ∷ []) (1 ∷ []) (1 ∷ [])
-
 -- all callers, each with its token
 abbrev pub callers : Query
 callers = from_table 1 [] (1 ∷ 2 ∷ []) (1 ∷ [])
@@ -61,29 +58,10 @@ callers = from_table 1 [] (1 ∷ 2 ∷ []) (1 ∷ [])
 abbrev pub last_change : Query
 last_change = from_table 4 (is_given 1 0 ∷ []) (2 ∷ 3 ∷ []) (1 ∷ [])
 
-abbrev pub sysmod_ids : Query
-sysmod_ids = from_table 6 [] (1 ∷ []) (1 ∷ [])
-
--- the record of an id, without what it supersedes and what it requires under a condition
-abbrev pub sysmod : Query
-sysmod = from_table 6 (is_given 1 0 ∷ []) (1 ∷ 2 ∷ 3 ∷ 4 ∷ 5 ∷ []) (1 ∷ [])
-
--- what an id supersedes
-abbrev pub superseded : Query
-superseded = from_table 8 (is_given 1 0 ∷ []) (2 ∷ []) (2 ∷ [])
-
--- what an id requires under a condition: the function, and what is required where it is installed
-abbrev pub conditional : Query
-conditional = from_table 19 (is_given 1 0 ∷ []) (2 ∷ 3 ∷ []) (2 ∷ 3 ∷ [])
-
 -- the catalogued ids that supersede an id: slot 2 is their record
 abbrev pub superseders : Query
 superseders = query_of (inner 8 (inner 6 end))
     (same (col 2 1) (col 1 1) ∷ is_given 2 0 ∷ []) (col 1 1 ∷ []) (col 1 1 ∷ [])
-
--- the holds on an id
-abbrev pub holds_on : Query
-holds_on = from_table 11 (is_given 1 0 ∷ []) (1 ∷ 2 ∷ 3 ∷ 4 ∷ 5 ∷ 6 ∷ 7 ∷ 8 ∷ []) (1 ∷ 2 ∷ 3 ∷ [])
 
 abbrev pub sysmod_count : Query
 sysmod_count = count_of 6 []
@@ -107,17 +85,6 @@ zones = query_of (inner 13 (counted most_rows (inner 15 end) in_the_zone end)) (
 -- how many zones a client has
 abbrev pub zone_count : Query
 zone_count = count_of 13 (is_given 1 0 ∷ [])
-
--- the patterns of a client's zone, where the zone is there
-abbrev pub patterns : Query
-patterns = from_table 13 (is_given 1 0 ∷ is_given 2 1 ∷ []) (3 ∷ []) (2 ∷ [])
-
--- the rows of a client's zone
-abbrev pub zone_rows : Query
-zone_rows = from_table 15 (is_given 1 0 ∷ is_given 2 1 ∷ []) (3 ∷ 4 ∷ []) (3 ∷ [])
-
-abbrev pub received : Query
-received = from_table 17 (is_given 1 0 ∷ []) (2 ∷ []) (1 ∷ [])
 
 -- the holds of a kind on what is installed in a client's zone: slot 2 is the hold on what slot 1 has
 abbrev pub held_in : Query

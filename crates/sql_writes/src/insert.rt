@@ -18,7 +18,7 @@ ghost use Rattle.sql_writes.specs.Room.{are_short, is_short, is_short_change};
 use crate::params::{count_of, params_of};
 use crate::records::SysmodRow;
 use crate::run::{run, run_prepared};
-use crate::table::{ByOne, Joined, Several};
+use crate::table::{self, ByOne, Joined, Several};
 use crate::texts;
 use crate::values::number_of;
 use bureau_store::CallerRow;
@@ -27,7 +27,6 @@ use mcs_reader::Id;
 use sql_rows::{All, Key, Sysmods, id_of};
 use sql_tables::{categories_value, date_value, hold_kind_value, optional_id_value};
 use sql_texts::write;
-use sql_texts::write::TableById;
 use sqlite::types::ValueRef;
 use sqlite::{Alter, Error, Statement, Transaction};
 use std::alloc::Global;
@@ -107,7 +106,7 @@ pub(crate) fn last_change<S: Alter>(
         (λ stored. list_any (is_of name.now) stored.changes ≡ false) }
 {
     let params = [id_of(name), number_of(number), ValueRef::Blob(reply)];
-    run(tx, TableById::LastChange.insertion(), &params)
+    run(tx, table::last_change::insertion(), &params)
 }
 
 /// The row of a record of the catalogue, or those of eight.

@@ -24,7 +24,7 @@ ghost use Rattle.sql_writes.specs.Asking.{first_in};
 ghost use Rattle.sql_writes.specs.Many.{AreGiven, MeansBy, insert_alike, parameters_to, with_next};
 ghost use Rattle.sql_writes.specs.Room.{is_short};
 
-mod last_change;
+pub(crate) mod last_change;
 mod received_list;
 mod sysmod;
 mod sysmod_cond;

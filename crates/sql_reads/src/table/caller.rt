@@ -1,5 +1,5 @@
 //! The table `caller`: the callers with their tokens.
-ghost use Rattle.std.specs.Prelude.{◌≡◌, false, map, option_map, IfOk, IfSome, Some};
+ghost use Rattle.std.specs.Prelude.{◌≡◌, ◌∷◌, [], codes, false, map, option_map, IfOk, IfSome, Some};
 ghost use Rattle.std.specs.List.Sorted.{IsPermutation};
 ghost use Rattle.bureau_store.specs.Caller.{IsProper, caller_named, caller_with, is_publisher};
 ghost use Rattle.bureau_store.specs.Tables.{NamesAscend};
@@ -9,6 +9,10 @@ ghost use Rattle.sql_reads.specs.Answering.{one_of};
 ghost use Rattle.sql_state.specs.Reading.{Finds};
 ghost use Rattle.sql_tables.specs.Stored.{tables_of};
 ghost use Rattle.sql_tables.specs.Values as value;
+ghost use Rattle.sql_reads.specs.Columns.{ShowsAll};
+ghost use Rattle.sql_texts.specs.Meaning.{Reads};
+ghost use Rattle.sql_texts.specs.Reads.{from_table, is_given};
+ghost use Rattle.sql_texts.specs.Schema as schema;
 
 use crate::ReadFault;
 use crate::entry::{Entry, Ordered, ascending};
@@ -124,8 +128,17 @@ pub fn caller_of<S: Alter>(
     ensures proper { IfOk result (λ found. IfSome found IsProper) }
 {
     let params = [ValueRef::Text(token)];
-    let rows = rows_of(conn, read::caller_with_token(), &params)?;
+    let rows = rows_of(conn, name_by_token(), &params)?;
     caller_in_rows(rows.as_slice())
+}
+
+// The text that shows the name of the caller with the token ?1.
+#[tactic(auto, unfolding(sqlite::specs::Listing::understood, sqlite_tied::specs::Compute::everything))]
+fn name_by_token() -> &'static str
+    ensures { Reads schema.bureau result.now (from_table 1 (is_given 2 0 ∷ []) (1 ∷ []) (1 ∷ []))
+        (codes "name" ∷ []) 1 }
+{
+    "SELECT name FROM caller WHERE token = ?1 ORDER BY name"
 }
 
 // The caller with the name in the one row.
@@ -162,4 +175,13 @@ fn is_publisher(name: &Id) -> bool
         Some(publisher) => *name == publisher,
         None => false,
     }
+}
+
+/// The text that shows all columns.
+#[tactic(auto, unfolding(sqlite::specs::Listing::understood, sqlite_tied::specs::Compute::everything))]
+pub(crate) fn all_columns() -> &'static str
+    ensures here { ShowsAll schema.bureau schema.caller result.now }
+    ensures version_1 { ShowsAll schema.bureau_1 schema.caller result.now }
+{
+    "SELECT name, token FROM caller"
 }

@@ -5,6 +5,8 @@ ghost use Rattle.catalogue.specs.Content.{holds_on};
 ghost use Rattle.holddata.specs.HoldBook.{IsInKeyOrder};
 ghost use Rattle.sql_state.specs.Reading.{Finds};
 ghost use Rattle.sql_tables.specs.Stored.{tables_of};
+ghost use Rattle.sql_reads.specs.Columns.{ShowsAll};
+ghost use Rattle.sql_texts.specs.Schema as schema;
 
 use crate::ReadFault;
 use crate::entry::{Entry, Ordered, entries};
@@ -14,7 +16,6 @@ use holddata::{Hold, key_cmp};
 use mcs_reader::Id;
 use sql_rows::Holds;
 use sql_tables::{NoMemory, hold_in};
-use sql_texts::read;
 use sqlite::{Alter, Connection, Row};
 use std::alloc::Global;
 
@@ -57,8 +58,10 @@ impl Selection<Id> for Holds {
 
     ghost order = { 1 ∷ 2 ∷ 3 ∷ [] };
 
+    #[tactic(auto, unfolding(sqlite::specs::Listing::understood, sqlite_tied::specs::Compute::everything))]
     fn text() -> &'static str {
-        read::holds_on()
+        "SELECT sysmod, kind, reason, fmid, class, dated, resolver, categories FROM hold_row \
+         WHERE sysmod = ?1 ORDER BY sysmod, kind, reason"
     }
 }
 
@@ -105,4 +108,13 @@ pub fn holds_on<S: Alter>(
 {
     let rows = select::<Id, Holds, S>(conn, id)?;
     entries(alloc, rows.as_slice())
+}
+
+/// The text that shows all columns.
+#[tactic(auto, unfolding(sqlite::specs::Listing::understood, sqlite_tied::specs::Compute::everything))]
+pub(crate) fn all_columns() -> &'static str
+    ensures here { ShowsAll schema.bureau schema.hold_row result.now }
+    ensures version_1 { ShowsAll schema.bureau_1 schema.hold_row result.now }
+{
+    "SELECT sysmod, kind, reason, fmid, class, dated, resolver, categories FROM hold_row"
 }

@@ -8,6 +8,8 @@ ghost use Rattle.sql_reads.specs.Answering.{IsNameOf, one_of};
 ghost use Rattle.sql_state.specs.Reading.{Finds};
 ghost use Rattle.sql_tables.specs.Rows.{change_found};
 ghost use Rattle.sql_tables.specs.Stored.{tables_of};
+ghost use Rattle.sql_reads.specs.Columns.{ShowsAll};
+ghost use Rattle.sql_texts.specs.Schema as schema;
 
 use crate::ReadFault;
 use crate::one::only;
@@ -72,4 +74,13 @@ fn change(alloc: Global, rows: &[Row]) -> Result<Option<(u64, Vec<u8>)>, ReadFau
     };
     let change = change_in(alloc, row)?.ok_or(ReadFault::Device)?;
     Ok(Some(change))
+}
+
+/// The text that shows all columns.
+#[tactic(auto, unfolding(sqlite::specs::Listing::understood, sqlite_tied::specs::Compute::everything))]
+pub(crate) fn all_columns() -> &'static str
+    ensures here { ShowsAll schema.bureau schema.last_change result.now }
+    ensures version_1 { ShowsAll schema.bureau_1 schema.last_change result.now }
+{
+    "SELECT caller, number, body FROM last_change"
 }

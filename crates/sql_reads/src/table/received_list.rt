@@ -6,6 +6,8 @@ ghost use Rattle.sqlite_value.specs.Order.{column};
 ghost use Rattle.sql_state.specs.Reading.{Finds};
 ghost use Rattle.sql_tables.specs.Stored.{tables_of};
 ghost use Rattle.sql_tables.specs.Values.{ids_in};
+ghost use Rattle.sql_reads.specs.Columns.{ShowsAll};
+ghost use Rattle.sql_texts.specs.Schema as schema;
 
 use crate::ReadFault;
 use crate::entry::ascending;
@@ -14,7 +16,6 @@ use crate::selection::Selection;
 use mcs_reader::Id;
 use sql_rows::Received;
 use sql_tables::ids_row_in;
-use sql_texts::read;
 use sqlite::{Alter, Connection, Row};
 use std::alloc::Global;
 
@@ -27,8 +28,9 @@ impl Selection<Id> for Received {
 
     ghost order = { 1 ∷ [] };
 
+    #[tactic(auto, unfolding(sqlite::specs::Listing::understood, sqlite_tied::specs::Compute::everything))]
     fn text() -> &'static str {
-        read::received()
+        "SELECT ids FROM received_list WHERE client = ?1 ORDER BY client"
     }
 }
 
@@ -84,4 +86,13 @@ pub fn received<S: Alter>(
     ensures ascend { IfOk result (λ ids. Ascend ids.items) }
 {
     read_one::<Id, Received, S>(alloc, conn, client)
+}
+
+/// The text that shows all columns.
+#[tactic(auto, unfolding(sqlite::specs::Listing::understood, sqlite_tied::specs::Compute::everything))]
+pub(crate) fn all_columns() -> &'static str
+    ensures here { ShowsAll schema.bureau schema.received_list result.now }
+    ensures version_1 { ShowsAll schema.bureau_1 schema.received_list result.now }
+{
+    "SELECT client, ids FROM received_list"
 }

@@ -7,6 +7,8 @@ ghost use Rattle.sql_state.specs.Reading.{Finds};
 ghost use Rattle.sql_reads.specs.Answering.{one_of};
 ghost use Rattle.sql_tables.specs.Rows.{sysmod_found};
 ghost use Rattle.sql_tables.specs.Stored.{beside_of, tables_of};
+ghost use Rattle.sql_reads.specs.Columns.{ShowsAll};
+ghost use Rattle.sql_texts.specs.Schema as schema;
 
 use crate::ReadFault;
 use crate::entry::entries;
@@ -18,7 +20,6 @@ use catalogue::{CondNeeds, Ids, Sysmod};
 use mcs_reader::Id;
 use sql_rows::{All, Conds, Sups, Sysmods};
 use sql_tables::sysmod_in;
-use sql_texts::read;
 use sqlite::{Alter, Connection, Row};
 use std::alloc::Global;
 
@@ -32,8 +33,9 @@ impl Selection<All> for Sysmods {
 
     ghost order = { 1 ∷ [] };
 
+    #[tactic(auto, unfolding(sqlite::specs::Listing::understood, sqlite_tied::specs::Compute::everything))]
     fn text() -> &'static str {
-        read::sysmod_ids()
+        "SELECT id FROM sysmod ORDER BY id"
     }
 }
 
@@ -48,8 +50,9 @@ impl Selection<Id> for Sysmods {
 
     ghost order = { 1 ∷ [] };
 
+    #[tactic(auto, unfolding(sqlite::specs::Listing::understood, sqlite_tied::specs::Compute::everything))]
     fn text() -> &'static str {
-        read::sysmod()
+        "SELECT id, kind, fmids, pre, req FROM sysmod WHERE id = ?1 ORDER BY id"
     }
 }
 
@@ -149,4 +152,13 @@ pub(crate) fn record_in(
     };
     let sysmod = sysmod_in(alloc, row, conds, sup)?.ok_or(ReadFault::Device)?;
     Ok(Some(sysmod))
+}
+
+/// The text that shows all columns.
+#[tactic(auto, unfolding(sqlite::specs::Listing::understood, sqlite_tied::specs::Compute::everything))]
+pub(crate) fn all_columns() -> &'static str
+    ensures here { ShowsAll schema.bureau schema.sysmod result.now }
+    ensures version_1 { ShowsAll schema.bureau_1 schema.sysmod result.now }
+{
+    "SELECT id, kind, fmids, pre, req FROM sysmod"
 }

@@ -1,4 +1,6 @@
 //! The table `sysmod_cond`: what a SYSMOD requires under a condition.
+ghost use Rattle.sql_reads.specs.Columns.{ShowsAll};
+ghost use Rattle.sql_texts.specs.Schema as schema;
 
 use crate::entry::{Entry, Ordered};
 use crate::listed::Listed;
@@ -8,7 +10,6 @@ use catalogue::{CondNeed, CondNeeds};
 use mcs_reader::Id;
 use sql_rows::Conds;
 use sql_tables::{NoMemory, cond_in};
-use sql_texts::read;
 use sqlite::Row;
 use std::alloc::Global;
 
@@ -48,8 +49,9 @@ impl Selection<Id> for Conds {
 
     ghost order = { 2 ∷ 3 ∷ [] };
 
+    #[tactic(auto, unfolding(sqlite::specs::Listing::understood, sqlite_tied::specs::Compute::everything))]
     fn text() -> &'static str {
-        read::conditional()
+        "SELECT fmid, member FROM sysmod_cond WHERE id = ?1 ORDER BY fmid, member"
     }
 }
 
@@ -99,4 +101,12 @@ impl Scanned for Conds {
     }
 
     ghost placed = { λ row. refl };
+}
+
+/// The text that shows all columns.
+#[tactic(auto, unfolding(sqlite::specs::Listing::understood, sqlite_tied::specs::Compute::everything))]
+pub(crate) fn all_columns() -> &'static str
+    ensures { ShowsAll schema.bureau schema.sysmod_cond result.now }
+{
+    "SELECT id, fmid, member FROM sysmod_cond"
 }

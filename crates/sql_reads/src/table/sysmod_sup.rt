@@ -1,4 +1,6 @@
 //! The table `sysmod_sup`: what a SYSMOD supersedes.
+ghost use Rattle.sql_reads.specs.Columns.{ShowsAll};
+ghost use Rattle.sql_texts.specs.Schema as schema;
 
 use crate::listed::Listed;
 use crate::scan::Scanned;
@@ -6,7 +8,6 @@ use crate::selection::Selection;
 use catalogue::Ids;
 use mcs_reader::Id;
 use sql_rows::Sups;
-use sql_texts::read;
 
 impl Selection<Id> for Sups {
     ghost use Rattle.std.specs.Prelude.{◌∷◌, [], codes};
@@ -17,8 +18,9 @@ impl Selection<Id> for Sups {
 
     ghost order = { 2 ∷ [] };
 
+    #[tactic(auto, unfolding(sqlite::specs::Listing::understood, sqlite_tied::specs::Compute::everything))]
     fn text() -> &'static str {
-        read::superseded()
+        "SELECT member FROM sysmod_sup WHERE id = ?1 ORDER BY member"
     }
 }
 
@@ -67,4 +69,13 @@ impl Scanned for Sups {
     }
 
     ghost placed = { λ row. refl };
+}
+
+/// The text that shows all columns.
+#[tactic(auto, unfolding(sqlite::specs::Listing::understood, sqlite_tied::specs::Compute::everything))]
+pub(crate) fn all_columns() -> &'static str
+    ensures here { ShowsAll schema.bureau schema.sysmod_sup result.now }
+    ensures version_1 { ShowsAll schema.bureau_1 schema.sysmod_sup result.now }
+{
+    "SELECT id, member FROM sysmod_sup"
 }

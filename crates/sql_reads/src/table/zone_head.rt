@@ -7,6 +7,8 @@ ghost use Rattle.sqlite_value.specs.Order.{column};
 ghost use Rattle.sql_state.specs.Reading.{Finds};
 ghost use Rattle.sql_tables.specs.Stored.{tables_of};
 ghost use Rattle.sql_tables.specs.Values.{patterns_in};
+ghost use Rattle.sql_reads.specs.Columns.{ShowsAll};
+ghost use Rattle.sql_texts.specs.Schema as schema;
 
 use crate::ReadFault;
 use crate::entry::{Ordered, ascending};
@@ -15,7 +17,6 @@ use crate::selection::{Selection, select};
 use mcs_reader::Id;
 use sql_rows::{Heads, Zone};
 use sql_tables::patterns_row_in;
-use sql_texts::read;
 use sqlite::{Alter, Connection, Row};
 use std::alloc::Global;
 use zone_lists::Pattern;
@@ -46,8 +47,9 @@ impl Selection<Zone> for Heads {
 
     ghost order = { 2 ∷ [] };
 
+    #[tactic(auto, unfolding(sqlite::specs::Listing::understood, sqlite_tied::specs::Compute::everything))]
     fn text() -> &'static str {
-        read::patterns()
+        "SELECT patterns FROM zone_head WHERE client = ?1 AND zone = ?2 ORDER BY zone"
     }
 }
 
@@ -134,4 +136,13 @@ pub fn has_zone<S: Alter>(
     };
     let rows = select::<Zone, Heads, S>(conn, &key)?;
     Ok(any(rows.as_slice()))
+}
+
+/// The text that shows all columns.
+#[tactic(auto, unfolding(sqlite::specs::Listing::understood, sqlite_tied::specs::Compute::everything))]
+pub(crate) fn all_columns() -> &'static str
+    ensures here { ShowsAll schema.bureau schema.zone_head result.now }
+    ensures version_1 { ShowsAll schema.bureau_1 schema.zone_head result.now }
+{
+    "SELECT client, zone, patterns FROM zone_head"
 }

@@ -4,6 +4,8 @@ ghost use Rattle.sqlite.specs.Held.{state};
 ghost use Rattle.sql_state.specs.Reading.{Finds};
 ghost use Rattle.sql_tables.specs.Stored.{zone_rows_of};
 ghost use Rattle.zone_lists.specs.ZoneList.{RowsAscend};
+ghost use Rattle.sql_reads.specs.Columns.{ShowsAll};
+ghost use Rattle.sql_texts.specs.Schema as schema;
 
 use crate::ReadFault;
 use crate::entry::{Entry, Ordered, ascending};
@@ -12,7 +14,6 @@ use crate::selection::Selection;
 use mcs_reader::Id;
 use sql_rows::{Zone, ZoneRows};
 use sql_tables::{NoMemory, zone_row_in};
-use sql_texts::read;
 use sqlite::{Alter, Connection, Row};
 use std::alloc::Global;
 use zone_lists::ZoneRow;
@@ -55,8 +56,9 @@ impl Selection<Zone> for ZoneRows {
 
     ghost order = { 3 ∷ [] };
 
+    #[tactic(auto, unfolding(sqlite::specs::Listing::understood, sqlite_tied::specs::Compute::everything))]
     fn text() -> &'static str {
-        read::zone_rows()
+        "SELECT sysmod, state FROM zone_row WHERE client = ?1 AND zone = ?2 ORDER BY sysmod"
     }
 }
 
@@ -103,4 +105,13 @@ pub fn zone_rows<S: Alter>(
         zone: *zone,
     };
     read_list::<Zone, ZoneRows, S>(alloc, conn, &key)
+}
+
+/// The text that shows all columns.
+#[tactic(auto, unfolding(sqlite::specs::Listing::understood, sqlite_tied::specs::Compute::everything))]
+pub(crate) fn all_columns() -> &'static str
+    ensures here { ShowsAll schema.bureau schema.zone_row result.now }
+    ensures version_1 { ShowsAll schema.bureau_1 schema.zone_row result.now }
+{
+    "SELECT client, zone, sysmod, state FROM zone_row"
 }

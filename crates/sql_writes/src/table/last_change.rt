@@ -1,6 +1,10 @@
 //! The table `last_change`: the last change of a caller.
 #![tactic(auto, unfolding(sqlite::specs::Listing::understood, sqlite_tied::specs::Compute::everything))]
 
+ghost use Rattle.sql_texts.specs.Meaning.{Means};
+ghost use Rattle.sql_texts.specs.Schema.{bureau};
+ghost use Rattle.sql_texts.specs.Writes.{insert_given};
+
 use super::{Asked, Deletes};
 use mcs_reader::Id;
 use sql_rows::LastChanges;
@@ -25,4 +29,11 @@ impl Asked<Id> for LastChanges {
     }
 
     ghost takes = { λ id. refl };
+}
+
+/// The text by which a last change comes, with the columns ?1 to ?3 in the order of the table.
+pub(crate) fn insertion() -> &'static str
+    ensures { Means bureau result.now (insert_given 2 3) 3 }
+{
+    "INSERT INTO last_change (caller, number, body) VALUES (?1, ?2, ?3)"
 }

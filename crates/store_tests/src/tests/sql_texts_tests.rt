@@ -1,6 +1,8 @@
 //! A database in memory takes each text, and each finds its row.
+use super::insertions::{
+    INTO_LAST_CHANGE, INTO_SYSMOD, INTO_SYSMOD_SUP, INTO_ZONE_HEAD, INTO_ZONE_ROW,
+};
 use super::tables::{ALPHA, BASE, FIX, FIXED, NOTHING, ONE, ZERO, ZONE, of_version_2};
-use sql_texts::write::{TableById, TableByZone};
 use sql_texts::{read, write};
 use sqlite::types::ValueRef;
 use sqlite::{Connection, Error, MemStore};
@@ -46,71 +48,34 @@ static HOLD: [ValueRef<'static>; 8] = [FIX, ZERO, FIXED, BASE, NOTHING, NO_DATE,
 fn fill_published(conn: &mut Connection<MemStore>) -> Result<(), Fail> {
     write_one(conn, write::insert_version(), &[])?;
     write_one(conn, write::insert_hold_row(), &HOLD)?;
-    write_one(conn, TableById::Sysmod.insertion(), &RECORD)?;
-    write_one(conn, TableById::SysmodSup.insertion(), &[FIX, FIXED])?;
-    write_one(conn, TableById::SysmodCond.insertion(), &[FIX, BASE, FIXED])
+    write_one(conn, INTO_SYSMOD, &RECORD)?;
+    write_one(conn, INTO_SYSMOD_SUP, &[FIX, FIXED])
 }
 
 fn fill_of_client(conn: &mut Connection<MemStore>) -> Result<(), Fail> {
     write_one(conn, write::insert_caller(), &[ALPHA, TOKEN])?;
-    write_one(conn, TableById::LastChange.insertion(), &CHANGE)?;
-    write_one(conn, TableById::ReceivedList.insertion(), &[ALPHA, FIX])?;
-    write_one(
-        conn,
-        TableByZone::ZoneHead.insertion(),
-        &[ALPHA, ZONE, NOTHING],
-    )?;
-    write_one(
-        conn,
-        TableByZone::ZoneRow.insertion(),
-        &[ALPHA, ZONE, FIX, ZERO],
-    )
+    write_one(conn, INTO_LAST_CHANGE, &CHANGE)?;
+    write_one(conn, INTO_ZONE_HEAD, &[ALPHA, ZONE, NOTHING])?;
+    write_one(conn, INTO_ZONE_ROW, &[ALPHA, ZONE, FIX, ZERO])
 }
 
 fn look_published(conn: &mut Connection<MemStore>) -> Result<(), Fail> {
-    let of_all = [
-        read::version(),
-        read::sysmod_ids(),
-        read::sysmod_count(),
-        read::hold_count(),
-    ];
-    let of_fix = [
-        read::sysmod(),
-        read::superseded(),
-        read::conditional(),
-        read::holds_on(),
-    ];
+    let of_all = [read::version(), read::sysmod_count(), read::hold_count()];
     read_each(conn, &of_all, &[])?;
-    read_each(conn, &of_fix, &[FIX])?;
     read_each(conn, &[read::superseders()], &[FIXED])
 }
 
 fn look_of_client(conn: &mut Connection<MemStore>) -> Result<(), Fail> {
-    let of_client = [
-        read::last_change(),
-        read::zones(),
-        read::zone_count(),
-        read::received(),
-    ];
-    read_each(conn, &[read::caller_with_token()], &[TOKEN])?;
+    let of_client = [read::last_change(), read::zones(), read::zone_count()];
+    read_each(conn, &[read::callers()], &[])?;
     read_each(conn, &of_client, &[ALPHA])?;
-    read_each(conn, &[read::patterns(), read::zone_rows()], &[ALPHA, ZONE])?;
     read_each(conn, &[read::held_in()], &[ALPHA, ZONE, ZERO])
 }
 
-fn clear_published(conn: &mut Connection<MemStore>) -> Result<(), Fail> {
+fn clear(conn: &mut Connection<MemStore>) -> Result<(), Fail> {
     write_one(conn, write::delete_version(), &[])?;
     write_one(conn, write::delete_hold(), &[FIX, ZERO, FIXED])?;
-    write_one(conn, TableById::Sysmod.deletion(), &[FIX])?;
-    write_one(conn, TableById::SysmodSup.deletion(), &[FIX])?;
-    write_one(conn, TableById::SysmodCond.deletion(), &[FIX])
-}
-
-fn clear_of_client(conn: &mut Connection<MemStore>) -> Result<(), Fail> {
-    write_one(conn, TableById::LastChange.deletion(), &[ALPHA])?;
-    write_one(conn, TableById::ReceivedList.deletion(), &[ALPHA])?;
-    write_one(conn, TableByZone::ZoneHead.deletion(), &[ALPHA, ZONE])?;
-    write_one(conn, TableByZone::ZoneRow.deletion(), &[ALPHA, ZONE])
+    write_one(conn, write::delete_callers(), &[])
 }
 
 fn find_each(conn: &mut Connection<MemStore>) -> Result<(), Fail> {
@@ -118,8 +83,7 @@ fn find_each(conn: &mut Connection<MemStore>) -> Result<(), Fail> {
     fill_of_client(conn)?;
     look_published(conn)?;
     look_of_client(conn)?;
-    clear_published(conn)?;
-    clear_of_client(conn)
+    clear(conn)
 }
 
 #[test]

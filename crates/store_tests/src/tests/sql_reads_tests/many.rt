@@ -2,10 +2,10 @@
 use super::reads::many;
 use super::rows::{publish, publish_more};
 use super::{assert_device, id};
+use crate::tests::insertions::INTO_SYSMOD;
 use crate::tests::tables::{BASE, NOTHING, ONE, in_memory, make_version_2, put};
 use catalogue::Seen;
 use mcs_reader::Id;
-use sql_texts::write::TableById;
 use sqlite::types::ValueRef;
 use sqlite::{Alter, Connection};
 use std::alloc::Global;
@@ -111,7 +111,7 @@ static WRONG: [ValueRef<'static>; 5] = [ValueRef::Text(b"UA10004"), ONE, BASE, C
 
 // A record whose PRE doesn't ascend is a fault where it is asked for, and passed over where it isn't.
 fn assert_wrong<S: Alter>(alloc: Global, conn: &mut Connection<S>) -> Result<(), Fail> {
-    put(conn, TableById::Sysmod.insertion(), &WRONG)?;
+    put(conn, INTO_SYSMOD, &WRONG)?;
     assert_run(alloc, conn, &RUNS[0])?;
     let sysmods = ids(alloc, RUNS[1].0)?;
     assert_device(many(alloc, conn, sysmods.as_slice()))

@@ -2,9 +2,9 @@
 use super::reads::{all_ids, held, received_ids, zone_names};
 use super::rows::{put_received, put_zone};
 use super::{assert_device, id};
+use crate::tests::insertions::INTO_SYSMOD;
 use crate::tests::tables::{BASE, FIX, FIXED, NOTHING, ONE, ZERO, in_memory, make_version_2, put};
 use sql_texts::write;
-use sql_texts::write::TableById;
 use sqlite::types::ValueRef;
 use sqlite::{Alter, Connection};
 use std::alloc::Global;
@@ -24,7 +24,7 @@ fn assert_falling_is_none<S: Alter>(alloc: Global, conn: &mut Connection<S>) -> 
 }
 
 fn assert_no_sysmod_is_none<S: Alter>(alloc: Global, conn: &mut Connection<S>) -> Result<(), Fail> {
-    put(conn, TableById::Sysmod.insertion(), &SMALL_RECORD)?;
+    put(conn, INTO_SYSMOD, &SMALL_RECORD)?;
     assert_device(all_ids(alloc, conn))
 }
 

@@ -1,7 +1,10 @@
 //! Rows of what is published, and of what a client has.
+use crate::tests::insertions::{
+    INTO_LAST_CHANGE, INTO_RECEIVED_LIST, INTO_SYSMOD, INTO_SYSMOD_COND, INTO_SYSMOD_SUP,
+    INTO_ZONE_HEAD, INTO_ZONE_ROW,
+};
 use crate::tests::tables::{ALPHA, BASE, FIX, FIXED, NOTHING, ONE, ZERO, ZONE, put};
 use sql_texts::write;
-use sql_texts::write::{TableById, TableByZone};
 use sqlite::types::ValueRef;
 use sqlite::{Alter, Connection, Error};
 
@@ -50,11 +53,7 @@ pub(crate) fn put_cond<S: Alter>(
     fmid: ValueRef<'static>,
     need: ValueRef<'static>,
 ) -> Result<(), Error> {
-    put(
-        conn,
-        TableById::SysmodCond.insertion(),
-        &[sysmod, fmid, need],
-    )
+    put(conn, INTO_SYSMOD_COND, &[sysmod, fmid, need])
 }
 
 /// A zone of ALPHA's, with the patterns that are asked for in it.
@@ -64,7 +63,7 @@ pub(crate) fn put_zone<S: Alter>(
     patterns: ValueRef<'static>,
 ) -> Result<(), Error> {
     let head = [ALPHA, name, patterns];
-    put(conn, TableByZone::ZoneHead.insertion(), &head)
+    put(conn, INTO_ZONE_HEAD, &head)
 }
 
 /// ALPHA's received list.
@@ -72,13 +71,13 @@ pub(crate) fn put_received<S: Alter>(
     conn: &mut Connection<S>,
     ids: ValueRef<'static>,
 ) -> Result<(), Error> {
-    put(conn, TableById::ReceivedList.insertion(), &[ALPHA, ids])
+    put(conn, INTO_RECEIVED_LIST, &[ALPHA, ids])
 }
 
 // A PTF that supersedes an APAR and requires two under a condition.
 fn put_record<S: Alter>(conn: &mut Connection<S>) -> Result<(), Error> {
-    put(conn, TableById::Sysmod.insertion(), &RECORD)?;
-    put(conn, TableById::SysmodSup.insertion(), &[FIX, FIXED])?;
+    put(conn, INTO_SYSMOD, &RECORD)?;
+    put(conn, INTO_SYSMOD_SUP, &[FIX, FIXED])?;
     put_cond(conn, FIX, BASE, OTHER)?;
     put_cond(conn, FIX, BASE, FIXED)
 }
@@ -92,7 +91,7 @@ pub(crate) fn publish<S: Alter>(conn: &mut Connection<S>) -> Result<(), Error> {
 
 /// Publishes a PTF with nothing beside, after that one, and a hold on a SYSMOD between that isn't catalogued.
 pub(crate) fn publish_more<S: Alter>(conn: &mut Connection<S>) -> Result<(), Error> {
-    put(conn, TableById::Sysmod.insertion(), &LATER_RECORD)?;
+    put(conn, INTO_SYSMOD, &LATER_RECORD)?;
     put(conn, write::insert_hold_row(), &HOLD_ALONE)
 }
 
@@ -109,7 +108,7 @@ fn put_lists<S: Alter>(conn: &mut Connection<S>) -> Result<(), Error> {
     put_zone(conn, ZONE, ASKED)?;
     put_zone(conn, EMPTY, NOTHING)?;
     let row = [ALPHA, ZONE, FIX, ZERO];
-    put(conn, TableByZone::ZoneRow.insertion(), &row)?;
+    put(conn, INTO_ZONE_ROW, &row)?;
     put_received(conn, RECEIVED)
 }
 
@@ -117,6 +116,6 @@ fn put_lists<S: Alter>(conn: &mut Connection<S>) -> Result<(), Error> {
 pub(crate) fn fill<S: Alter>(conn: &mut Connection<S>) -> Result<(), Error> {
     put_caller(conn, ALPHA, ALPHA_TOKEN)?;
     put_caller(conn, PUBLISHER, PUBLISHER_TOKEN)?;
-    put(conn, TableById::LastChange.insertion(), &SEVENTH)?;
+    put(conn, INTO_LAST_CHANGE, &SEVENTH)?;
     put_lists(conn)
 }

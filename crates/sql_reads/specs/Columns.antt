@@ -1,0 +1,29 @@
+-- The texts by which it is seen whether the tables are there.
+use Rattle.std.specs.Prelude.{ℕ, List, [], ◌∷◌, drop, length}
+use Rattle.std.specs.Borrow.{Bor}
+use Rattle.std.specs.List.{range_with_len}
+use Rattle.sqlite.specs.Query.{Query}
+use Rattle.sqlite.specs.Schema.{Schema}
+use Rattle.sqlite.specs.Table.{Table}
+use Rattle.sql_texts.specs.Meaning.{Reads}
+use Rattle.sql_texts.specs.Reads.{from_table}
+use Rattle.sql_texts.specs.Schema.{bureau_1, columns_of}
+
+-- the tables of version 1, apart from that of the version itself
+abbrev pub tables_of_version_1 : List Table
+tables_of_version_1 = drop 1 bureau_1.tables
+
+-- the query of all rows of a table, with all its columns
+abbrev pub all_of : Table → Query
+all_of table = from_table table.tree [] (range_with_len 1 (length table.columns)) []
+
+-- under this schema the text shows all columns of a table
+abbrev pub ShowsAll : Schema → Table → List ℕ → Type 0
+ShowsAll schema table text = Reads schema text (all_of table) (columns_of table) 0
+
+-- each of these texts shows all columns of one of these tables, in the same order
+abbrev pub ShowEach : Schema → List Table → List (Bor (List ℕ)) → Type 0
+ShowEach schema [] [] = Unit {0}
+ShowEach schema [] (text ∷ texts) = ⊥
+ShowEach schema (table ∷ tables) [] = ⊥
+ShowEach schema (table ∷ tables) (text ∷ texts) = ShowsAll schema table text.now × ShowEach schema tables texts
