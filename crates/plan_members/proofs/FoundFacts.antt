@@ -1,9 +1,8 @@
 -- What is found of the members is what is said of them.
-use Rattle.std.proofs.Common.{◌≡◌, ◌∙◌, ◌<◌, ℕ, zero, suc, List, [], ◌∷◌, Bool, true, false, ◌||◌, ◌&&◌, cond, Some, None, length, get_or, map, refl, sym, ap, subst, arith}
+use Rattle.std.proofs.Common.{◌≡◌, ◌∙◌, ◌<◌, ℕ, List, [], ◌∷◌, Bool, true, false, ◌||◌, ◌&&◌, cond, Some, None, length, get_or, map, refl, sym, ap, subst}
 use Rattle.std.specs.Prelude.{not}
-use Rattle.std.specs.List.{Contains, filter, flat_map, list_any}
+use Rattle.std.specs.List.{Contains, filter, list_any}
 use Rattle.std.proofs.lemmas.List.{length-map}
-use Rattle.std.proofs.lemmas.List.Elements.{Contains-append_left, Contains-append_right}
 use Rattle.lemmas.proofs.ListFacts.{flat_inside, kept_from, kept_inside, map_inside, get_any}
 use Rattle.lemmas.proofs.TestFacts.{same_test}
 use Rattle.report_holds.specs.declared.holds.HoldOn.{HoldOn}
@@ -25,7 +24,8 @@ use Rattle.chains.proofs.PartFacts.{at_map}
 use Rattle.zone_plans.specs.Members.{joined, needs_id}
 use Rattle.zone_plans.specs.declared.holds.ChosenResolver.{ChosenResolver}
 use Rattle.zone_plans.proofs.PlannedFacts.{answer_has, answer_says}
-use Rattle.plan_members.specs.Found.{AreFound, FoundLists, IsTold, ReadingLists, absent_givers, all_needs, gives_one, holds_at, is_needed_at, no_resolver, nothing_read, or_none, others_at, picked, places, reading_at, reading_of, resolver_at, resolvers_in}
+use Rattle.zone_plans.specs.Readings.{ReadingLists, nothing_read, reading_of}
+use Rattle.plan_members.specs.Found.{AreFound, FoundLists, IsTold, absent_givers, gives_one, holds_at, is_needed_at, no_resolver, or_none, others_at, picked, places, reading_at, resolver_at, resolvers_in}
 use Rattle.plan_members.specs.Members.{MemberLists, holds_for, member_at, needed_by_of}
 use Rattle.plan_members.proofs.PlaceFacts.{filter_twice, places_kept, places_same}
 
@@ -41,17 +41,6 @@ filter_alike p q (x ∷ xs) same =
     ap (λ b. cond b (x ∷ filter p xs) (filter p xs)) (same x) ∙ ap (λ l. cond (q x) (x ∷ l) l) (filter_alike p q xs same)
 
 -- ---- what is asked for
-
-need_in : (readings : List ReadingLists) (k : ℕ) (d : ReadingLists) (need : List ℕ) → k < length readings → Contains (get_or readings k d).needs need → Contains (flat_map (λ (r : ReadingLists). r.needs) readings) need
-need_in [] k d need below inside = absurd (omega arith)
-need_in (r ∷ rs) zero d need below inside = Contains-append_left r.needs (flat_map (λ (r : ReadingLists). r.needs) rs) need inside
-need_in (r ∷ rs) (suc k) d need below inside = Contains-append_right r.needs (flat_map (λ (r : ReadingLists). r.needs) rs) need (need_in rs k d need (omega arith) inside)
-
-pub need_asked : (readings : List ReadingLists) (asked : List (List ℕ)) (k : ℕ) (reading : ReadingLists) (need : List ℕ) → asked ≡ all_needs readings → k < length readings → reading ≡ get_or readings k reading → Contains reading.needs need → has asked need ≡ true
-need_asked readings asked k reading need are below at inside =
-    let N : ReadingLists → Type 0 = λ r. Contains r.needs need in
-    let P : List (List ℕ) → Type 0 = λ l. has l need ≡ true in
-    subst P (sym are) (has_from (all_needs readings) need ((in_order_has (flat_map (λ (r : ReadingLists). r.needs) readings) need).1 (need_in readings k reading need below (subst N at inside))))
 
 pub resolver_asked : (resolved : List ChosenResolver) (asked : List (List ℕ)) (k : ℕ) (one : ChosenResolver) → asked ≡ resolvers_in resolved → k < length resolved → one ≡ get_or resolved k one → has asked one.resolver ≡ true
 resolver_asked resolved asked k one are below at =

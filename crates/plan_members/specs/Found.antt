@@ -1,54 +1,23 @@
 -- No part of what is promised: private contracts cite it. How what is said of each member is found.
 use Rattle.std.specs.Prelude.{◌≡◌, ◌<◌, ◌++◌, ◌==◌, ℕ, zero, suc, Bool, false, not, List, [], ◌∷◌, Option, Some, None, filter, length, map, if◌then◌else◌, slice_index_or, ◌-◌}
 use Rattle.std.specs.Global.{Vec}
-use Rattle.std.specs.List.{filter_map, flat_map, list_any, slice_get}
+use Rattle.std.specs.List.{filter_map, list_any, slice_get}
 use Rattle.mcs_reader.specs.declared.id.Id.{Id}
-use Rattle.holddata.specs.declared.hold.Hold.{Hold}
-use Rattle.holddata.specs.declared.key.Kind.TheVariants.{ErrorHold, SystemHold, UserHold}
 use Rattle.zone_lists.specs.declared.zones.ZoneRow.{ZoneRow}
-use Rattle.catalogue.specs.Content.{Content, holds_on, record_of}
+use Rattle.catalogue.specs.Content.{Content}
 use Rattle.catalogue.specs.Ids.{in_order, same_id}
-use Rattle.catalogue.specs.declared.sysmod.Sysmod.{Sysmod}
-use Rattle.supersede.specs.Giving.{conds_of, fmids_of, givers_of, needs_where, requisites_of}
+use Rattle.supersede.specs.Giving.{givers_of}
 use Rattle.supersede.specs.Reach.{has}
 use Rattle.requisites.specs.Nodes.{row}
 use Rattle.chains.specs.Candidates.{candidates_unless_there}
 use Rattle.chains.specs.Cuts.{id_at}
 use Rattle.chains.specs.Indices.{RowsAre}
-use Rattle.reports.specs.ChainText.{reasons_in}
 use Rattle.report_holds.specs.declared.holds.HoldOn.{HoldOn}
+use Rattle.zone_plans.specs.Readings.{ReadingLists, nothing_read, reading_of}
 use Rattle.zone_plans.specs.declared.holds.ChosenResolver.{ChosenResolver}
 use Rattle.plan_members.specs.Members.{MemberLists}
 
--- ---- what is read
-
--- What is read of a member: its functions, what it needs in the zone, and the reasons of the SYSTEM and USER holds on it.
-pub record ReadingLists : Type 0 where
-  pub fmids : List (List ℕ)
-  pub needs : List (List ℕ)
-  pub system : List (List ℕ)
-  pub user : List (List ℕ)
-
--- by a record and the holds
-abbrev pub reading_from : List ZoneRow → Option Sysmod → List Hold → ReadingLists
-reading_from rows found holds = record {
-  fmids = fmids_of found;
-  needs = requisites_of found ++ reasons_in ErrorHold holds ++ needs_where rows (conds_of found);
-  system = reasons_in SystemHold holds;
-  user = reasons_in UserHold holds;
-}
-
-abbrev pub reading_of : Content → List ZoneRow → List ℕ → ReadingLists
-reading_of content rows id = reading_from rows (record_of content id) (holds_on content id)
-
--- all that is needed
-abbrev pub all_needs : List ReadingLists → List (List ℕ)
-all_needs readings = in_order (flat_map (λ reading. reading.needs) readings)
-
 -- what is read of the member at an index
-abbrev pub nothing_read : ReadingLists
-nothing_read = record { fmids = []; needs = []; system = []; user = [] }
-
 abbrev pub reading_at : List ReadingLists → ℕ → ReadingLists
 reading_at readings p = slice_index_or readings p nothing_read
 

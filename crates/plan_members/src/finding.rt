@@ -8,7 +8,6 @@ ghost use Rattle.plan_members.specs.Found.{AreFound, AreNeeding, AreResolving, a
 
 use crate::listing::resolvers_in;
 use crate::placing::{needing_rows, resolving_rows};
-use crate::reading::{Reading, needs_of_all, readings};
 use catalogue::{Published, SourceFault};
 use chains::candidates_for;
 use faults::NoMemory;
@@ -16,7 +15,7 @@ use mcs_reader::Id;
 use std::alloc::Global;
 use std::marker::Model;
 use supersede::{Zone, givers};
-use zone_plans::ChosenResolver;
+use zone_plans::{ChosenResolver, Reading, needs_of_all, readings};
 
 /// What is found of the members.
 #[derive(Debug, Drop)]

@@ -24,7 +24,6 @@ mod listing;
 mod member;
 mod members;
 mod placing;
-mod reading;
 mod telling;
 
 pub use member::Member;

@@ -1,11 +1,13 @@
 //! Which SYSMODs a plan has: members of its steps and chosen resolvers, ascending, each once.
-ghost use Rattle.std.specs.Prelude.{◌≡◌, IfOk, OnOk};
-ghost use Rattle.catalogue.specs.Ids.{Ascend, in_order, put_among};
+ghost use Rattle.std.specs.Prelude.{◌≡◌, IfOk};
+ghost use Rattle.catalogue.specs.Ids.{Ascend, in_order};
 ghost use Rattle.zone_plans.specs.Members.{joined};
 ghost use Rattle.plan_members.specs.Found.{resolvers_in};
 
+use chains::listed;
 use faults::NoMemory;
 use mcs_reader::Id;
+use reports::put_all;
 use std::alloc::Global;
 use std::collections::BTreeSet;
 use zone_plans::{ChosenResolver, Steps};
@@ -33,22 +35,4 @@ pub(crate) fn resolvers_in(alloc: Global, resolved: &[ChosenResolver]) -> Result
         found.insert(one.resolver)?;
     }
     listed(alloc, found)
-}
-
-/// The ids of a set, in order.
-pub(crate) fn listed(alloc: Global, ids: BTreeSet<Id>) -> Result<Vec<Id>, NoMemory>
-    ensures ids { IfOk result (λ list. list.items ≡ ids.keys) }
-    ensures ascend { IfOk result (λ list. Ascend list.items) }
-{
-    ids.into_iter().collect(alloc)
-}
-
-/// Puts ids among others, in order.
-pub(crate) fn put_all(found: &mut BTreeSet<Id>, ids: &[Id]) -> Result<(), NoMemory>
-    ensures { OnOk result (found.new.keys ≡ put_among found.old.keys ids.now) }
-{
-    for id in ids {
-        found.insert(*id)?;
-    }
-    Ok(())
 }

@@ -1,20 +1,17 @@
 //! For each member the places of what it gives.
-ghost use Rattle.std.specs.Prelude.{◌≡◌, ◌<◌, [], ℕ, List, Some, true, Contains, IfNone, IfOk, IfSome, OnOk, length, map, slice_set};
-ghost use Rattle.std.specs.Global.{Vec};
-ghost use Rattle.std.specs.List.{slice_get};
-ghost use Rattle.mcs_reader.specs.declared.id.Id.{Id};
+ghost use Rattle.std.specs.Prelude.{◌≡◌, ◌<◌, [], ℕ, List, true, Contains, IfOk, OnOk, length, map, slice_set};
 ghost use Rattle.catalogue.specs.Ids.{Ascend, same_id};
 ghost use Rattle.supersede.specs.Reach.{has};
 ghost use Rattle.requisites.specs.Nodes.{row};
-ghost use Rattle.chains.specs.Indices.{IsAt};
-ghost use Rattle.plan_members.specs.Found.{AreNeeding, ArePut, AreResolving, all_needs, ends_with, gives_one, lists_of, places_of, resolvers_in, with_once};
+ghost use Rattle.zone_plans.specs.Readings.{all_needs};
+ghost use Rattle.plan_members.specs.Found.{AreNeeding, ArePut, AreResolving, ends_with, gives_one, lists_of, places_of, resolvers_in, with_once};
 
-use crate::reading::Reading;
 use faults::NoMemory;
+use listings::index_of;
 use mcs_reader::Id;
+use reports::list_among;
 use std::alloc::Global;
-use supersede::index_among;
-use zone_plans::ChosenResolver;
+use zone_plans::{ChosenResolver, Reading};
 
 /// For each member the members that need it, by their places: those that need what it gives. Handed is what gives each
 /// need.
@@ -171,15 +168,6 @@ fn put_one(rows: &mut [Vec<usize>], ids: &[Id], id: &Id, place: usize) -> Result
     Ok(())
 }
 
-/// Where an id stands, if it stands there.
-pub(crate) fn index_of(ids: &[Id], id: &Id) -> Option<usize>
-    requires { Ascend ids.now }
-    ensures some { IfSome result (λ index. IsAt ids.now id.now index) }
-    ensures none { IfNone result (Contains ids.now id.now → ⊥) }
-{
-    index_among(ids, id)
-}
-
 fn put_at(rows: &mut [Vec<usize>], index: usize, place: usize) -> Result<(), NoMemory>
     requires { index < length rows.old }
     ensures put { OnOk result (places_of rows.new
@@ -206,26 +194,5 @@ fn ends_with(places: &[usize], place: usize) -> bool
     match places.last() {
         Some(last) => *last == place,
         None => false,
-    }
-}
-
-// What gives an id, by what is known, or what is handed for another.
-fn list_among<'a>(asked: &[Id], lists: &'a [Vec<Id>], other: &'a Vec<Id>, id: &Id) -> &'a Vec<Id>
-    requires { Ascend asked.now }
-    ensures { (f : List ℕ → List (List ℕ)) → lists_of lists.now ≡ map f asked.now
-        → has asked.now id.now ≡ true → result.now.items ≡ f id.now }
-{
-    match index_among(asked, id) {
-        Some(at) => list_at(lists, other, at),
-        None => other,
-    }
-}
-
-fn list_at<'a>(lists: &'a [Vec<Id>], other: &'a Vec<Id>, at: usize) -> &'a Vec<Id>
-    ensures { (list : Vec Id) → slice_get lists.now at ≡ Some list → result.now ≡ list }
-{
-    match lists.get(at) {
-        Some(list) => list,
-        None => other,
     }
 }

@@ -2,7 +2,6 @@
 ghost use Rattle.std.specs.Prelude.{◌≡◌, ◌++◌, [], ℕ, List, Contains, IfOk, OnOk, filter, map, not, slice_index_or};
 ghost use Rattle.std.specs.List.{cons_option, slice_get};
 ghost use Rattle.catalogue.specs.Ids.{Ascend, in_order, same_id};
-ghost use Rattle.supersede.specs.Reach.{has};
 ghost use Rattle.requisites.specs.Nodes.{row};
 ghost use Rattle.chains.specs.Indices.{IsAt};
 ghost use Rattle.zone_plans.specs.Members.{joined};
@@ -11,14 +10,13 @@ ghost use Rattle.plan_members.specs.Members.{MemberLists, members_from};
 
 use crate::finding::Found;
 use crate::member::Member;
-use crate::placing::index_of;
-use crate::reading::{Reading, copied};
 use faults::NoMemory;
+use listings::index_of;
 use mcs_reader::Id;
 use report_holds::HoldOn;
+use reports::is_among;
 use std::alloc::Global;
-use supersede::index_among;
-use zone_plans::{ChosenResolver, Steps};
+use zone_plans::{ChosenResolver, Reading, Steps};
 
 /// The members of some steps, in their order, the steps numbered from 1.
 pub(crate) fn told_members(
@@ -126,17 +124,10 @@ fn with_reading(alloc: Global, member: Member, reading: &Reading) -> Result<Memb
       user = reading.now.user;
     }) }
 {
-    let fmids = copied(alloc, reading.fmids())?;
-    let system = copied(alloc, reading.system())?;
-    let user = copied(alloc, reading.user())?;
+    let fmids = Vec::from_slice(alloc, reading.fmids())?;
+    let system = Vec::from_slice(alloc, reading.system())?;
+    let user = Vec::from_slice(alloc, reading.user())?;
     Ok(member.with_fmids(fmids).with_holds_to_heed(system, user))
-}
-
-fn is_among(ids: &[Id], id: &Id) -> bool
-    requires { Ascend ids.now }
-    ensures { result ≡ has ids.now id.now }
-{
-    index_among(ids, id).is_some()
 }
 
 // The row of a member.

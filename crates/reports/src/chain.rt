@@ -1,12 +1,12 @@
 //! A verdict as JSON.
-ghost use Rattle.std.specs.Prelude.{◌≡◌, IfOk, false};
+ghost use Rattle.std.specs.Prelude.{◌≡◌, IfOk};
 ghost use Rattle.serde_json.specs.View.{items_view, view};
-ghost use Rattle.serde_json.specs.Written.{compact_text, has_float};
 ghost use Rattle.catalogue.specs.View.{MayAsk, Tells};
 ghost use Rattle.catalogue.specs.declared.fault.SourceFault.TheVariants.{Device};
 ghost use Rattle.chains.specs.Judge.{judged_by};
 ghost use Rattle.reports.specs.ChainText.{chain_data, chain_text_of, good_data, held_data, lack_data, member_with, plan_items, reasons_in, texts};
 
+use crate::json::compact;
 use catalogue::{Published, SourceFault};
 use chains::Verdict;
 use faults::NoMemory;
@@ -59,14 +59,6 @@ fn verdict_value<P: Published>(
         Verdict::Held(need) => Ok(held_value(alloc, zone, sysmod, need)?),
         Verdict::Lack => Ok(lack_value(alloc, zone, sysmod)?),
     }
-}
-
-// The text of a value.
-fn compact(alloc: Global, value: &Value) -> Result<Vec<u8>, NoMemory>
-    ensures { IfOk result
-        (λ text. has_float (view value.now) ≡ false → text.items ≡ compact_text (view value.now)) }
-{
-    Ok(value.to_string(alloc)?.into_bytes())
 }
 
 fn good_value(alloc: Global, zone: &Id, sysmod: &Id, members: Vec<Value>) -> Result<Value, NoMemory>

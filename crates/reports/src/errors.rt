@@ -6,7 +6,8 @@ ghost use Rattle.catalogue.specs.declared.fault.SourceFault.TheVariants.{Device}
 ghost use Rattle.reports.specs.ErrRows.{ErrRowsAscend, err_rows_of};
 ghost use Rattle.reports.specs.Found.{error_found, error_named, error_resolved, error_row, held_in_order};
 
-use crate::resolvers::{Answer, Reported, Resolved, answer_among, copied, rows_of};
+use crate::among::answer_among;
+use crate::resolvers::{Answer, Reported, Resolved, copied, rows_of};
 use crate::{ErrRow, Status};
 use catalogue::{Published, SourceFault};
 use chains::Judge;

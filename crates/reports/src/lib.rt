@@ -4,7 +4,10 @@
 //! - [`ErrRow`], [`MissingRow`]: a row of each report; [`MissingCategory`]: a fix category of its row
 //! - [`Status`]: what is said of a resolver: which verdict it has
 //! - [`err_text`], [`missing_text`]: the reports in print
-//! - [`plan_json`]: a verdict as JSON
+//! - [`titled`]: a title that ends with a zone's name
+//! - [`plan_json`]: a verdict as JSON; [`text_values`]: texts of ids as such; [`compact`]: the text of a value
+//! - [`answer_among`], [`list_among`]: what was told of one of the SYSMODs that were asked for; [`is_among`]: whether it is one
+//!   of them; [`put_all`]: puts ids among others
 //!
 //! ```
 //! // what isn't named here is of catalogue, chains, mcs_reader, supersede and zone_lists
@@ -21,16 +24,20 @@
 //! ```
 #![tactic(auto)]
 
+mod among;
 mod chain;
 mod errors;
+mod json;
 mod missing;
 mod resolvers;
 mod rows;
 mod text;
 
+pub use among::{answer_among, is_among, list_among, put_all};
 pub use chain::plan_json;
 pub use chains::Status;
 pub use errors::err_rows;
+pub use json::{compact, text_values};
 pub use missing::missing_rows;
 pub use rows::{ErrRow, MissingCategory, MissingRow};
-pub use text::{err_text, missing_text};
+pub use text::{err_text, missing_text, titled};

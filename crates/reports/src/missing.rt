@@ -4,7 +4,7 @@ ghost use Rattle.std.specs.List.{list_any};
 ghost use Rattle.zone_lists.specs.Pattern.{does_match};
 ghost use Rattle.zone_lists.specs.declared.zones.ZoneRow.{ZoneRow};
 ghost use Rattle.catalogue.specs.Content.{Content};
-ghost use Rattle.catalogue.specs.Ids.{Ascend, in_order, put_among};
+ghost use Rattle.catalogue.specs.Ids.{Ascend, in_order};
 ghost use Rattle.catalogue.specs.View.{MayAsk, Tells};
 ghost use Rattle.catalogue.specs.declared.fault.SourceFault.TheVariants.{Device};
 ghost use Rattle.supersede.specs.Reach.{has};
@@ -12,7 +12,8 @@ ghost use Rattle.reports.specs.MissingRows.{MissingRowsAscend, categories_asked,
 ghost use Rattle.reports.specs.Resolvers.{AreAnswers};
 ghost use Rattle.reports.specs.MissingFound.{both_of, held_in_order, missing_held, missing_resolved, named_by, put_held, row_found, row_told, unless_resolver_there};
 
-use crate::resolvers::{Answer, Reported, Resolved, answer_among, put_any, rows_of};
+use crate::among::{answer_among, put_all};
+use crate::resolvers::{Answer, Reported, Resolved, put_any, rows_of};
 use crate::{MissingCategory, MissingRow, Status};
 use catalogue::{Published, SourceFault};
 use chains::Judge;
@@ -173,15 +174,6 @@ fn union(alloc: Global, ids: &[Id], more: &[Id]) -> Result<Vec<Id>, NoMemory>
     put_all(&mut all, ids)?;
     put_all(&mut all, more)?;
     all.into_iter().collect(alloc)
-}
-
-fn put_all(all: &mut BTreeSet<Id>, ids: &[Id]) -> Result<(), NoMemory>
-    ensures { OnOk result (all.new.keys ≡ put_among all.old.keys ids.now) }
-{
-    for id in ids {
-        all.insert(*id)?;
-    }
-    Ok(())
 }
 
 impl Reported<MissingRow> for MissingHeld {

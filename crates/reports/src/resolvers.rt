@@ -1,24 +1,23 @@
 //! What resolves a hold, and what is said of it.
 ghost use Rattle.std.specs.Prelude.{◌≡◌, ◌++◌, true, [], ℕ, Bool, List, Option, Some, filter_map, map, option_map, IfOk, IfSome, OnOk};
-ghost use Rattle.std.specs.List.{cons_option, flat_map, list_any, slice_get};
-ghost use Rattle.std.specs.Global.{Vec};
-ghost use Rattle.mcs_reader.specs.declared.id.Id.{Id};
+ghost use Rattle.std.specs.List.{cons_option, flat_map};
 ghost use Rattle.zone_lists.specs.declared.zones.ZoneRow.{ZoneRow};
 ghost use Rattle.catalogue.specs.Content.{Content};
-ghost use Rattle.catalogue.specs.Ids.{Ascend, in_order, put_among, same_id};
+ghost use Rattle.catalogue.specs.Ids.{Ascend, in_order, put_among};
 ghost use Rattle.catalogue.specs.View.{MayAsk, Tells};
 ghost use Rattle.catalogue.specs.declared.fault.SourceFault.TheVariants.{Device};
 ghost use Rattle.supersede.specs.Reach.{has};
 ghost use Rattle.chains.specs.declared.verdict.Status.{Status};
 ghost use Rattle.reports.specs.Resolvers.{AreAmong, AreAnswers, all_found, found_by, row_by, status_in};
 
+use crate::among::{is_among, status_among};
 use catalogue::{Published, SourceFault};
 use chains::{Judge, Status};
 use faults::NoMemory;
 use mcs_reader::Id;
 use std::alloc::Global;
 use std::collections::BTreeSet;
-use supersede::{Zone, index_among};
+use supersede::Zone;
 
 /// The candidates that give a SYSMOD, ascending, unless it is there.
 pub(crate) type Answer = Option<Vec<Id>>;
@@ -216,24 +215,6 @@ pub(crate) fn put_any(ids: &mut BTreeSet<Id>, id: Option<Id>) -> Result<(), NoMe
     Ok(())
 }
 
-// The candidates that were found for one of the SYSMODs that were asked for, or what is handed for another.
-pub(crate) fn answer_among<'a>(
-    asked: &[Id],
-    answers: &'a [Answer],
-    other: &'a Answer,
-    id: &Id,
-) -> &'a Answer
-    requires { Ascend asked.now }
-    ensures { (f : List ℕ → Option (List (List ℕ)))
-        → map (option_map (λ ids. ids.items)) answers.now ≡ map f asked.now
-        → has asked.now id.now ≡ true → option_map (λ ids. ids.items) result.now ≡ f id.now }
-{
-    match index_among(asked, id) {
-        Some(at) => answer_at(answers, other, at),
-        None => other,
-    }
-}
-
 /// A copy of what was answered.
 pub(crate) fn copied(answer: &Answer) -> Result<Answer, NoMemory>
     ensures { IfOk result
@@ -243,42 +224,4 @@ pub(crate) fn copied(answer: &Answer) -> Result<Answer, NoMemory>
         Some(ids) => Ok(Some(ids.clone()?)),
         None => Ok(None),
     }
-}
-
-fn answer_at<'a>(answers: &'a [Answer], other: &'a Answer, at: usize) -> &'a Answer
-    ensures { (answer : Option (Vec Id)) → slice_get answers.now at ≡ Some answer → result.now ≡ answer }
-{
-    match answers.get(at) {
-        Some(answer) => answer,
-        None => other,
-    }
-}
-
-// What was answered for one of the SYSMODs that were asked for.
-pub(crate) fn status_among(asked: &[Id], statuses: &[Status], id: &Id) -> Status
-    requires { Ascend asked.now }
-    ensures { (f : List ℕ → Status) → statuses.now ≡ map f asked.now
-        → list_any (same_id id.now) asked.now ≡ true → result ≡ f id.now }
-{
-    match index_among(asked, id) {
-        Some(at) => status_at(statuses, at),
-        None => Status::Lack,
-    }
-}
-
-fn status_at(statuses: &[Status], at: usize) -> Status
-    ensures { (status : Status) → slice_get statuses.now at ≡ Some status → result ≡ status }
-{
-    match statuses.get(at) {
-        Some(status) => *status,
-        None => Status::Lack,
-    }
-}
-
-// Whether a SYSMOD stands among others.
-pub(crate) fn is_among(ids: &[Id], id: &Id) -> bool
-    requires { Ascend ids.now }
-    ensures { result ≡ list_any (same_id id.now) ids.now }
-{
-    index_among(ids, id).is_some()
 }

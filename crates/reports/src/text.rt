@@ -107,8 +107,12 @@ pub fn missing_text(alloc: Global, zone: &Id, rows: &[MissingRow]) -> Result<Vec
     table.finish()
 }
 
-// A title that ends with the zone's name.
-fn titled(alloc: Global, title: &[u8], zone: &Id) -> Result<Vec<u8>, NoMemory>
+/// A title that ends with the zone's name.
+///
+/// # Errors
+///
+/// Memory ran out.
+pub fn titled(alloc: Global, title: &[u8], zone: &Id) -> Result<Vec<u8>, NoMemory>
     ensures { IfOk result (λ titled. titled.items ≡ title.now ++ text_of zone.now) }
 {
     let mut titled = Vec::from_slice(alloc, title)?;

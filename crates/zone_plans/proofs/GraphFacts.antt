@@ -1,6 +1,7 @@
 -- Members by their indices.
 use Rattle.std.proofs.Common.{◌≡◌, ◌∙◌, ◌+◌, ◌<◌, ℕ, zero, suc, List, [], ◌∷◌, ◌++◌, Bool, true, false, Option, Some, None, length, get_or, take, map, refl, sym, ap, subst, inl, inr, arith}
 use Rattle.std.specs.Bool.{OnFalse, OnTrue}
+use Rattle.std.specs.Prelude.{◌↔◌}
 use Rattle.std.specs.List.{Contains, flat_map}
 use Rattle.std.proofs.lemmas.Bool.{cases_lt}
 use Rattle.std.proofs.lemmas.List.{get_or_past, take_more}
@@ -18,7 +19,8 @@ use Rattle.chains.specs.Indices.{IsAt, MarksAre}
 use Rattle.chains.proofs.AnswerFacts.{index_is}
 use Rattle.chains.proofs.IndexFacts.{indexed_inside}
 use Rattle.chains.proofs.PartFacts.{at_map}
-use Rattle.zone_plans.specs.Graphs.{AreAnswered, AreGivenIndices, ArePushed, AreSourced, AreStarts, IsGivenIndex, IsLeftAmong, IsStart, ReadingLists, all_needs}
+use Rattle.zone_plans.specs.Graphs.{AreAnswered, AreGivenIndices, ArePushed, AreSourced, AreStarts, IsGivenIndex, IsLeftAmong, IsStart}
+use Rattle.zone_plans.specs.Readings.{ReadingLists, all_needs}
 
 -- a mark is that of a fact
 pub record IsMarkOf (P : Type 0) (mark : Bool) : Type 0 where
@@ -29,6 +31,9 @@ pub record IsMarkOf (P : Type 0) (mark : Bool) : Type 0 where
 pub mark_by : (P : Type 0) (mark : Bool) → OnTrue mark P → OnFalse mark (P → ⊥) → IsMarkOf P mark
 mark_by P true here none = record { on = λ e. here; off = λ e. absurd (cc) }
 mark_by P false here none = record { on = λ e. absurd (cc); off = λ e. none }
+
+pub mark_of_test : (P : Type 0) (mark : Bool) → (mark ≡ true) ↔ P → IsMarkOf P mark
+mark_of_test P mark is = record { on = is.0; off = λ e p. let on : mark ≡ true = is.1 p in cc }
 
 on_from : (P : Type 0) (b : Bool) → IsMarkOf P b → b ≡ true → P
 on_from P b is e = is.on e

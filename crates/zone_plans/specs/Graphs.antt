@@ -1,14 +1,12 @@
 -- No part of what is promised: private contracts cite it. Members by their indices in a list that ascends.
-use Rattle.std.specs.Prelude.{◌≡◌, ◌<◌, ◌++◌, ◌&&◌, ◌⊎◌, ℕ, Bool, true, filter, not, List, [], Option, Some, None, length, map, Contains, slice_index_or}
+use Rattle.std.specs.Prelude.{◌≡◌, ◌<◌, ◌&&◌, ◌⊎◌, ℕ, Bool, true, filter, not, List, [], Option, Some, None, length, map, Contains, slice_index_or}
 use Rattle.std.specs.Global.{Vec}
-use Rattle.std.specs.List.{flat_map, list_any}
+use Rattle.std.specs.List.{list_any}
 use Rattle.mcs_reader.specs.declared.id.Id.{Id}
-use Rattle.holddata.specs.declared.hold.Hold.{Hold}
 use Rattle.zone_lists.specs.declared.zones.ZoneRow.{ZoneRow}
-use Rattle.catalogue.specs.Content.{Content, holds_on, record_of}
-use Rattle.catalogue.specs.Ids.{in_order, same_id}
-use Rattle.catalogue.specs.declared.sysmod.Sysmod.{Sysmod}
-use Rattle.supersede.specs.Giving.{conds_of, givers_of, needs_where, requisites_of}
+use Rattle.catalogue.specs.Content.{Content}
+use Rattle.catalogue.specs.Ids.{same_id}
+use Rattle.supersede.specs.Giving.{givers_of}
 use Rattle.supersede.specs.Reach.{has}
 use Rattle.requisites.specs.Leads.{Leads}
 use Rattle.requisites.specs.Nodes.{IsMarked, Links}
@@ -17,21 +15,10 @@ use Rattle.chains.specs.Candidates.{candidates_unless_there}
 use Rattle.chains.specs.Cuts.{id_at}
 use Rattle.chains.specs.Indices.{RowsAre}
 use Rattle.chains.specs.Judge.{status_of}
-use Rattle.chains.specs.Sights.{reasons_in}
 use Rattle.chains.specs.Verdicts.{verdict_of}
 use Rattle.report_holds.specs.Holds.{HoldLists}
 use Rattle.report_holds.specs.declared.holds.Resolver.{Resolver}
-
--- What is read of a member: what it needs in the zone.
-pub record ReadingLists : Type 0 where
-  pub needs : List (List ℕ)
-
--- by a record and the holds
-abbrev pub reading_from : List ZoneRow → Option Sysmod → List Hold → ReadingLists
-reading_from rows found holds = record { needs = requisites_of found ++ reasons_in holds ++ needs_where rows (conds_of found) }
-
-abbrev pub reading_of : Content → List ZoneRow → List ℕ → ReadingLists
-reading_of content rows id = reading_from rows (record_of content id) (holds_on content id)
+use Rattle.zone_plans.specs.Readings.{ReadingLists}
 
 -- what is answered for a SYSMOD, or all that give it
 abbrev pub givers_or : Option (List (List ℕ)) → List (List ℕ) → List (List ℕ)
@@ -63,10 +50,6 @@ not_given f among ids = filter (λ id. not (is_given_by (f id) among id)) ids
 abbrev pub MayPlace : Content → List ZoneRow → List (List ℕ) → HoldLists → Type 0
 MayPlace content rows known hold =
     (resolver : Resolver) → Contains hold.resolvers resolver → (has known resolver.id ≡ true) × (resolver.status ≡ status_of (verdict_of content rows resolver.id))
-
--- all that is needed
-abbrev pub all_needs : List ReadingLists → List (List ℕ)
-all_needs readings = in_order (flat_map (λ reading. reading.needs) readings)
 
 -- the index of a member that is left and stands among some givers
 pub record IsLeftAmong (ids : List (List ℕ)) (left : List Bool) (givers : List (List ℕ)) (q : ℕ) : Type 0 where

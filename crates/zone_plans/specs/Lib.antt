@@ -1,4 +1,5 @@
 pub mod Choices
 pub mod Members
+pub mod Readings
 pub mod Graphs
 pub mod Plans

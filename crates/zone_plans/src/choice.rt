@@ -1,11 +1,8 @@
 //! Which of the SYSMODs that resolve a hold is chosen.
-ghost use Rattle.std.specs.Prelude.{◌≡◌, ◌&&◌, ◌++◌, ◌∷◌, [], List, ℕ, Some, true, filter, map, not, Contains, IfOk, OnOk, if◌then◌else◌};
-ghost use Rattle.std.specs.Global.{Vec};
-ghost use Rattle.std.specs.List.{slice_get};
-ghost use Rattle.mcs_reader.specs.declared.id.Id.{Id};
+ghost use Rattle.std.specs.Prelude.{◌≡◌, ◌&&◌, ◌++◌, ◌∷◌, [], List, ℕ, true, filter, map, not, Contains, IfOk, OnOk, if◌then◌else◌};
 ghost use Rattle.zone_lists.specs.declared.zones.ZoneRow.{ZoneRow};
 ghost use Rattle.catalogue.specs.Content.{Content};
-ghost use Rattle.catalogue.specs.Ids.{Ascend, in_order, put_among, same_id};
+ghost use Rattle.catalogue.specs.Ids.{Ascend, in_order, same_id};
 ghost use Rattle.supersede.specs.Reach.{has};
 ghost use Rattle.chains.specs.declared.verdict.Status.TheVariants.{Lack};
 ghost use Rattle.zone_plans.specs.Choices.{choice, greatest_of, last_of, of_status, or_all, received_or_all, same_status};
@@ -15,9 +12,9 @@ use chains::{Status, listed};
 use faults::NoMemory;
 use mcs_reader::Id;
 use report_holds::{HoldResolvers, Resolver};
+use reports::{is_among, list_among, put_all};
 use std::alloc::Global;
 use std::collections::BTreeSet;
-use supersede::index_among;
 
 /// The resolver of a kind that is chosen for a hold, by what gives each resolver.
 pub(crate) fn choice(
@@ -182,27 +179,6 @@ fn is_other_among(among: &[Id], giver: &Id, id: &Id) -> bool
     *giver != *id && is_among(among, giver)
 }
 
-// What gives an id, by what is known, or what is handed for another.
-fn list_among<'a>(known: &[Id], lists: &'a [Vec<Id>], other: &'a Vec<Id>, id: &Id) -> &'a Vec<Id>
-    requires { Ascend known.now }
-    ensures { (f : List ℕ → List (List ℕ)) → lists_of lists.now ≡ map f known.now
-        → has known.now id.now ≡ true → result.now.items ≡ f id.now }
-{
-    match index_among(known, id) {
-        Some(at) => list_at(lists, other, at),
-        None => other,
-    }
-}
-
-fn list_at<'a>(lists: &'a [Vec<Id>], other: &'a Vec<Id>, at: usize) -> &'a Vec<Id>
-    ensures { (list : Vec Id) → slice_get lists.now at ≡ Some list → result.now ≡ list }
-{
-    match lists.get(at) {
-        Some(list) => list,
-        None => other,
-    }
-}
-
 // Some ids in order, each once.
 fn ordered(alloc: Global, ids: &[Id]) -> Result<Vec<Id>, NoMemory>
     ensures ids { IfOk result (λ list. list.items ≡ in_order ids.now) }
@@ -211,24 +187,6 @@ fn ordered(alloc: Global, ids: &[Id]) -> Result<Vec<Id>, NoMemory>
     let mut found = BTreeSet::new(alloc);
     put_all(&mut found, ids)?;
     listed(alloc, found)
-}
-
-/// Puts ids among others, in order.
-pub(crate) fn put_all(found: &mut BTreeSet<Id>, ids: &[Id]) -> Result<(), NoMemory>
-    ensures { OnOk result (found.new.keys ≡ put_among found.old.keys ids.now) }
-{
-    for id in ids {
-        found.insert(*id)?;
-    }
-    Ok(())
-}
-
-/// Whether an id stands among others.
-pub(crate) fn is_among(ids: &[Id], id: &Id) -> bool
-    requires { Ascend ids.now }
-    ensures { result ≡ has ids.now id.now }
-{
-    index_among(ids, id).is_some()
 }
 
 // The greatest of some ids, in whatever order they stand.

@@ -6,11 +6,12 @@ ghost use Rattle.catalogue.specs.declared.fault.SourceFault.TheVariants.{Device}
 ghost use Rattle.supersede.specs.Giving.{givers_of};
 ghost use Rattle.zone_plans.specs.Graphs.{givers_or, known_givers, lists_of};
 
-use crate::graph::{Answer, answer_among};
+use crate::graph::Answer;
 use catalogue::{Published, SourceFault};
 use chains::Judge;
 use faults::NoMemory;
 use mcs_reader::Id;
+use reports::answer_among;
 use std::alloc::Global;
 use supersede::{Zone, givers};
 

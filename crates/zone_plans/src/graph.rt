@@ -1,19 +1,18 @@
 //! Members by their indices: what gives each, and what gives what it needs.
-ghost use Rattle.std.specs.Prelude.{◌≡◌, ◌<◌, ◌∷◌, [], ℕ, List, Option, true, Some, Contains, IfNone, IfOk, IfSome, OnOk, length, map, option_map};
-ghost use Rattle.std.specs.Global.{Vec};
-ghost use Rattle.std.specs.List.{slice_get};
-ghost use Rattle.mcs_reader.specs.declared.id.Id.{Id};
+ghost use Rattle.std.specs.Prelude.{◌≡◌, ◌<◌, ◌∷◌, [], ℕ, List, Option, true, Contains, IfOk, OnOk, length, map, option_map};
 ghost use Rattle.catalogue.specs.Ids.{Ascend};
 ghost use Rattle.supersede.specs.Reach.{has};
-ghost use Rattle.chains.specs.Indices.{AreIndicesOf, IsAt, RowsAre};
-ghost use Rattle.zone_plans.specs.Graphs.{AreGiven, AreGivenIndices, AreAnswered, ArePushed, all_needs, list_at, lists_of};
+ghost use Rattle.chains.specs.Indices.{AreIndicesOf, RowsAre};
+ghost use Rattle.zone_plans.specs.Graphs.{AreGiven, AreGivenIndices, AreAnswered, ArePushed, list_at, lists_of};
+ghost use Rattle.zone_plans.specs.Readings.{all_needs};
 
 use crate::reading::Reading;
 use faults::NoMemory;
+use listings::{index_of, put_indices};
 use mcs_reader::Id;
+use reports::answer_among;
 use requisites::{Rows, is_marked};
 use std::alloc::Global;
-use supersede::index_among;
 
 /// What is answered for a need: the candidates that give it, ascending, unless it is there.
 pub(crate) type Answer = Option<Vec<Id>>;
@@ -28,33 +27,10 @@ pub(crate) fn member_rows(alloc: Global, ids: &[Id], lists: &[Vec<Id>]) -> Resul
     let mut rows = Rows::new(alloc);
     let mut own = Vec::new(alloc);
     for list in lists {
-        put_indices(&mut own, ids, list)?;
+        put_indices(&mut own, ids, 0, list)?;
         rows.push_row(&own)?;
     }
     Ok(rows)
-}
-
-// Makes a list that of the indices of the ids that stand among others.
-fn put_indices(indices: &mut Vec<usize>, members: &[Id], ids: &[Id]) -> Result<(), NoMemory>
-    requires { Ascend members.now }
-    ensures { OnOk result (AreIndicesOf members.now ids.now indices.new.items) }
-{
-    indices.clear();
-    for id in ids {
-        if let Some(index) = index_of(members, id) {
-            indices.push(index)?;
-        }
-    }
-    Ok(())
-}
-
-// Where an id stands, if it stands there.
-fn index_of(members: &[Id], id: &Id) -> Option<usize>
-    requires { Ascend members.now }
-    ensures some { IfSome result (λ index. IsAt members.now id.now index) }
-    ensures none { IfNone result (Contains members.now id.now → ⊥) }
-{
-    index_among(members, id)
 }
 
 /// By index, the members that are left and give what each needs.
@@ -155,31 +131,4 @@ fn push_one(indices: &mut Vec<usize>, ids: &[Id], left: &[bool], giver: &Id) -> 
         }
     }
     Ok(())
-}
-
-// What was answered for one of the needs that were asked for, or what is handed for another.
-pub(crate) fn answer_among<'a>(
-    asked: &[Id],
-    answers: &'a [Answer],
-    other: &'a Answer,
-    id: &Id,
-) -> &'a Answer
-    requires { Ascend asked.now }
-    ensures { (f : List ℕ → Option (List (List ℕ)))
-        → map (option_map (λ ids. ids.items)) answers.now ≡ map f asked.now
-        → has asked.now id.now ≡ true → option_map (λ ids. ids.items) result.now ≡ f id.now }
-{
-    match index_among(asked, id) {
-        Some(at) => answer_at(answers, other, at),
-        None => other,
-    }
-}
-
-fn answer_at<'a>(answers: &'a [Answer], other: &'a Answer, at: usize) -> &'a Answer
-    ensures { (answer : Option (Vec Id)) → slice_get answers.now at ≡ Some answer → result.now ≡ answer }
-{
-    match answers.get(at) {
-        Some(answer) => answer,
-        None => other,
-    }
 }

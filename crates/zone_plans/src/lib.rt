@@ -4,6 +4,7 @@
 //! - [`err_plan`], [`missing_plan`]: the plans for the two reports, as a [`ZonePlan`]
 //! - [`zone_plan`]: the plan for some holds, each with what resolves it: [`HoldResolvers`], [`Resolver`]
 //! - [`Steps`]: what is to be installed, step by step
+//! - [`Reading`]: what is read of a member; [`readings`]: of each of some SYSMODs; [`needs_of_all`]: all that these need
 //! - [`HoldOn`]: a hold by its SYSMOD and its reason; [`ChosenResolver`]: a hold with the resolver that is chosen for
 //!   it
 //!
@@ -34,6 +35,7 @@ mod steps;
 
 pub use holds::ChosenResolver;
 pub use plan::{ZonePlan, zone_plan};
+pub use reading::{Reading, needs_of_all, readings};
 pub use report_holds::{HoldOn, HoldResolvers, Resolver};
 pub use report_plans::{err_plan, missing_plan};
 pub use steps::Steps;

@@ -3,12 +3,12 @@ ghost use Rattle.std.specs.Prelude.{◌≡◌, IfOk, map};
 ghost use Rattle.std.specs.Bool.{OnFalse, OnTrue};
 ghost use Rattle.catalogue.specs.Ids.{Ascend};
 ghost use Rattle.supersede.specs.Reach.{has};
-ghost use Rattle.requisites.specs.Sources.{HasSource};
 ghost use Rattle.zone_plans.specs.Graphs.{AreSourced, AreStarts, IsStart};
 
-use crate::choice::is_among;
 use faults::NoMemory;
+use listings::has_source;
 use mcs_reader::Id;
+use reports::is_among;
 use requisites::is_marked;
 use std::alloc::Global;
 
@@ -55,14 +55,4 @@ fn is_start(left: &[bool], sources: &[Option<usize>], node: usize) -> bool
     ensures no { OnFalse result (IsStart left.now sources.now node → ⊥) }
 {
     is_marked(left, node) && has_source(sources, node)
-}
-
-fn has_source(sources: &[Option<usize>], node: usize) -> bool
-    ensures yes { OnTrue result (HasSource sources.now node) }
-    ensures no { OnFalse result (HasSource sources.now node → ⊥) }
-{
-    match sources.get(node).copied().flatten() {
-        Some(_) => true,
-        None => false,
-    }
 }

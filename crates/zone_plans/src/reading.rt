@@ -1,47 +1,98 @@
 //! What is read of the members.
-ghost use Rattle.std.specs.Prelude.{◌≡◌, ◌++◌, IfOk, OnOk, map};
+ghost use Rattle.std.specs.Prelude.{◌≡◌, ◌++◌, Some, IfOk, OnOk, map};
 ghost use Rattle.catalogue.specs.Ids.{Ascend};
 ghost use Rattle.catalogue.specs.View.{MayAsk, Tells};
 ghost use Rattle.catalogue.specs.declared.fault.SourceFault.TheVariants.{Device};
-ghost use Rattle.supersede.specs.Giving.{needs_where};
-ghost use Rattle.chains.specs.Sights.{reasons_in};
-ghost use Rattle.zone_plans.specs.Graphs.{all_needs, reading_from, reading_of};
+ghost use Rattle.supersede.specs.Giving.{needs_where, requisites_of};
+ghost use Rattle.reports.specs.ChainText.{reasons_in};
+ghost use Rattle.zone_plans.specs.Readings.{all_needs, reading_from, reading_of};
 
-use crate::choice::put_all;
 use catalogue::{CondNeed, Published, SourceFault, Sysmod};
 use chains::listed;
 use faults::NoMemory;
 use holddata::{Hold, Kind};
 use mcs_reader::Id;
+use reports::put_all;
 use std::alloc::Global;
 use std::collections::BTreeSet;
 use std::marker::Model;
 use supersede::Zone;
 
-/// What is read of a member: what it needs in the zone.
+/// What is read of a SYSMOD: its functions, what it needs in a zone, and the reasons of the SYSTEM and USER holds on
+/// it (IBM z/OS SMP/E Reference, `++VER`, operands FMID, PRE and REQ, `++IF`, and `++HOLD`).
 #[derive(Debug, Drop)]
-pub(crate) struct Reading {
+pub struct Reading {
+    fmids: Vec<Id>,
     needs: Vec<Id>,
+    system: Vec<Id>,
+    user: Vec<Id>,
 }
 
 impl Model for Reading {
-    ghost use Rattle.zone_plans.specs.Graphs.{ReadingLists};
+    ghost use Rattle.zone_plans.specs.Readings.{ReadingLists};
 
     ghost Value = { ReadingLists };
 
-    ghost view = { λ reading. record { needs = reading.needs.items } };
+    ghost view = { λ reading. record {
+      fmids = reading.fmids.items;
+      needs = reading.needs.items;
+      system = reading.system.items;
+      user = reading.user.items;
+    } };
 }
 
 impl Reading {
-    pub(crate) fn needs(&self) -> &[Id]
+    ghost use Rattle.std.specs.Prelude.{◌≡◌};
+    ghost use Rattle.zone_plans.specs.Readings.{nothing_read};
+
+    /// Nothing was read. It takes no memory.
+    pub fn nothing(alloc: Global) -> Self
+        ensures { result ≡ nothing_read }
+    {
+        Reading {
+            fmids: Vec::new(alloc),
+            needs: Vec::new(alloc),
+            system: Vec::new(alloc),
+            user: Vec::new(alloc),
+        }
+    }
+
+    /// Its functions.
+    pub fn fmids(&self) -> &[Id]
+        ensures { result.now ≡ self.now.fmids }
+    {
+        self.fmids.as_slice()
+    }
+
+    /// What it needs in the zone: its PRE and REQ, the reasons of the ERROR holds on it, and the needs of those of its
+    /// requisites under a condition whose function is installed.
+    pub fn needs(&self) -> &[Id]
         ensures { result.now ≡ self.now.needs }
     {
         self.needs.as_slice()
     }
+
+    /// The reasons of the SYSTEM holds on it, which its installer is to heed.
+    pub fn system(&self) -> &[Id]
+        ensures { result.now ≡ self.now.system }
+    {
+        self.system.as_slice()
+    }
+
+    /// The reasons of the USER holds on it.
+    pub fn user(&self) -> &[Id]
+        ensures { result.now ≡ self.now.user }
+    {
+        self.user.as_slice()
+    }
 }
 
-/// What is read of each of some SYSMODs.
-pub(crate) fn readings<P: Published>(
+/// What is read of each of some SYSMODs, in their order.
+///
+/// # Errors
+///
+/// `Memory` where memory ran out, `Device` where the source failed.
+pub fn readings<P: Published>(
     alloc: Global,
     source: &mut P,
     zone: &Zone,
@@ -81,28 +132,50 @@ fn reading_from(
 ) -> Result<Reading, NoMemory>
     ensures { IfOk result (λ reading. reading ≡ reading_from zone.now sysmod holds.now) }
 {
-    let mut needs = Vec::new(alloc);
+    let system = reasons(alloc, Kind::SystemHold, holds)?;
+    let user = reasons(alloc, Kind::UserHold, holds)?;
+    let held = reasons(alloc, Kind::ErrorHold, holds)?;
     let Some(sysmod) = sysmod else {
-        push_reasons(&mut needs, holds)?;
-        return Ok(Reading { needs });
+        return Ok(Reading {
+            fmids: Vec::new(alloc),
+            needs: held,
+            system,
+            user,
+        });
     };
-    needs.extend_from_slice(sysmod.pre.as_slice())?;
-    needs.extend_from_slice(sysmod.req.as_slice())?;
-    push_reasons(&mut needs, holds)?;
-    push_where(&mut needs, zone, sysmod.conds.as_slice())?;
-    Ok(Reading { needs })
+    let needs = needs_in(alloc, zone, &sysmod, &held)?;
+    let fmids = Vec::from_slice(alloc, sysmod.fmids.as_slice())?;
+    Ok(Reading {
+        fmids,
+        needs,
+        system,
+        user,
+    })
 }
 
-// Adds the reasons of the ERROR holds.
-fn push_reasons(needs: &mut Vec<Id>, holds: &[Hold]) -> Result<(), NoMemory>
-    ensures { OnOk result (needs.new.items ≡ needs.old.items ++ reasons_in holds.now) }
+// What a SYSMOD needs in the zone.
+fn needs_in(alloc: Global, zone: &Zone, sysmod: &Sysmod, held: &[Id]) -> Result<Vec<Id>, NoMemory>
+    ensures { IfOk result (λ needs. needs.items
+        ≡ requisites_of (Some sysmod.now) ++ held.now ++ needs_where zone.now sysmod.now.conds) }
 {
+    let mut needs = Vec::from_slice(alloc, sysmod.pre.as_slice())?;
+    needs.extend_from_slice(sysmod.req.as_slice())?;
+    needs.extend_from_slice(held)?;
+    push_where(&mut needs, zone, sysmod.conds.as_slice())?;
+    Ok(needs)
+}
+
+// The reasons of the holds of a kind.
+fn reasons(alloc: Global, kind: Kind, holds: &[Hold]) -> Result<Vec<Id>, NoMemory>
+    ensures { IfOk result (λ reasons. reasons.items ≡ reasons_in kind holds.now) }
+{
+    let mut reasons = Vec::new(alloc);
     for hold in holds {
-        if hold.key.kind == Kind::ErrorHold {
-            needs.push(hold.key.reason)?;
+        if hold.key.kind == kind {
+            reasons.push(hold.key.reason)?;
         }
     }
-    Ok(())
+    Ok(reasons)
 }
 
 // Adds the needs of those whose function is installed.
@@ -117,8 +190,12 @@ fn push_where(needs: &mut Vec<Id>, zone: &Zone, conds: &[CondNeed]) -> Result<()
     Ok(())
 }
 
-/// All that the members need, ascending, each once.
-pub(crate) fn needs_of_all(alloc: Global, readings: &[Reading]) -> Result<Vec<Id>, NoMemory>
+/// All that was read as a need, ascending, each once.
+///
+/// # Errors
+///
+/// `NoMemory` where memory ran out.
+pub fn needs_of_all(alloc: Global, readings: &[Reading]) -> Result<Vec<Id>, NoMemory>
     ensures needs { IfOk result (λ needs. needs.items ≡ all_needs readings.now) }
     ensures ascend { IfOk result (λ needs. Ascend needs.items) }
 {

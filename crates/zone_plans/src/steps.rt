@@ -8,7 +8,8 @@ ghost use Rattle.chains.specs.Judge as judge;
 ghost use Rattle.chains.specs.Verdicts.{verdict_of};
 ghost use Rattle.chains.specs.declared.verdict.Status.TheVariants as status;
 ghost use Rattle.zone_lists.specs.declared.zones.ZoneRow.{ZoneRow};
-ghost use Rattle.zone_plans.specs.Graphs.{AreReachedFrom, AreStartsOf, AreWithin, all_needs, ids_of_steps, known_givers, lists_of, reading_of};
+ghost use Rattle.zone_plans.specs.Graphs.{AreReachedFrom, AreStartsOf, AreWithin, ids_of_steps, known_givers, lists_of};
+ghost use Rattle.zone_plans.specs.Readings.{all_needs, reading_of};
 ghost use Rattle.chains.specs.United.{united};
 ghost use Rattle.zone_plans.specs.Members.{AreZoneSteps};
 

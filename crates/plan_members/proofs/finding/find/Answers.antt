@@ -2,7 +2,8 @@ use Rattle.std.proofs.Common.{◌∙◌, List, ℕ, map, ap, subst}
 use Rattle.catalogue.proofs.SourceFacts.{told_both, told_later, told_sooner}
 use Rattle.catalogue.proofs.TellingFacts.{told_by_two}
 use Rattle.supersede.specs.Giving.{givers_of}
-use Rattle.plan_members.specs.Found.{AreNeeding, AreResolving, ReadingLists, absent_givers, places_of, reading_of}
+use Rattle.zone_plans.specs.Readings.{ReadingLists, reading_of}
+use Rattle.plan_members.specs.Found.{AreNeeding, AreResolving, absent_givers, places_of}
 use Rattle.plan_members.proofs.finding.find.Goals as goal
 
 pub returns-clause-found : goal.returns-clause-found

@@ -2,8 +2,10 @@ use Rattle.std.proofs.Common.{◌≡◌, ◌∙◌, ℕ, List, length, refl, ap,
 use Rattle.std.specs.Global.{Vec}
 use Rattle.std.specs.List.{Contains}
 use Rattle.std.proofs.lemmas.List.{length-map}
-use Rattle.plan_members.specs.Found.{ArePlaces, ReadingLists, gives_one, is_needed_at, places_of}
-use Rattle.plan_members.proofs.FoundFacts.{need_asked, reading_is}
+use Rattle.zone_plans.specs.Readings.{ReadingLists}
+use Rattle.plan_members.specs.Found.{ArePlaces, gives_one, is_needed_at, places_of}
+use Rattle.zone_plans.proofs.GraphFacts.{need_asked}
+use Rattle.plan_members.proofs.FoundFacts.{reading_is}
 use Rattle.plan_members.proofs.PlaceFacts.{placed_more, placed_none, put_same}
 use Rattle.plan_members.proofs.placing.put_readings.Goals as goal
 

@@ -1,5 +1,6 @@
 use Rattle.std.proofs.Common.{◌≡◌, ℕ, List, length, map}
-use Rattle.plan_members.specs.Found.{ArePlaces, all_needs, is_needed_at, lists_of, places_of}
+use Rattle.zone_plans.specs.Readings.{all_needs}
+use Rattle.plan_members.specs.Found.{ArePlaces, is_needed_at, lists_of, places_of}
 use Rattle.plan_members.proofs.placing.put_readings.Given as goal
 
 abbrev pub invariant-loop-place : goal.invariant-loop-place

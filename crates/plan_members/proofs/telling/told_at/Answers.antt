@@ -2,7 +2,8 @@ use Rattle.std.proofs.Common.{◌≡◌, ◌∙◌, List, [], ℕ, Bool, get_or,
 use Rattle.report_holds.specs.declared.holds.HoldOn.{HoldOn}
 use Rattle.supersede.specs.Reach.{has}
 use Rattle.requisites.specs.Nodes.{row}
-use Rattle.plan_members.specs.Found.{FoundLists, ReadingLists, holds_at, others_at, places_of, reading_at}
+use Rattle.zone_plans.specs.Readings.{ReadingLists}
+use Rattle.plan_members.specs.Found.{FoundLists, holds_at, others_at, places_of, reading_at}
 use Rattle.plan_members.specs.Members.{MemberLists}
 use Rattle.plan_members.proofs.telling.told_at.Goals as goal
 

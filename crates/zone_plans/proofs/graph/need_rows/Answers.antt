@@ -2,7 +2,8 @@ use Rattle.std.proofs.Common.{◌≡◌, ◌∙◌, ◌++◌, ◌∷◌, [], Lis
 use Rattle.chains.specs.Indices.{RowsAre}
 use Rattle.chains.proofs.IndexFacts.{rows_more, rows_none}
 use Rattle.std.specs.List.{Contains}
-use Rattle.zone_plans.specs.Graphs.{AreGivenIndices, ReadingLists, needs_at}
+use Rattle.zone_plans.specs.Graphs.{AreGivenIndices, needs_at}
+use Rattle.zone_plans.specs.Readings.{ReadingLists}
 use Rattle.zone_plans.proofs.GraphFacts.{list_of_item, need_asked}
 use Rattle.zone_plans.proofs.graph.need_rows.Goals as goal
 

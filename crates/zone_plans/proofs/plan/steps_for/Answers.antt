@@ -2,7 +2,8 @@ use Rattle.std.proofs.Common.{◌∙◌, map, option_map, sym, ap}
 use Rattle.catalogue.proofs.SourceFacts.{told_both, told_later, told_sooner}
 use Rattle.catalogue.proofs.TellingFacts.{told_by_two}
 use Rattle.chains.specs.Candidates.{candidates_unless_there}
-use Rattle.zone_plans.specs.Graphs.{all_needs, known_givers, lists_of, reading_of}
+use Rattle.zone_plans.specs.Graphs.{known_givers, lists_of}
+use Rattle.zone_plans.specs.Readings.{all_needs, reading_of}
 use Rattle.zone_plans.proofs.plan.steps_for.Goals as goal
 
 pub returns-clause-steps : goal.returns-clause-steps

@@ -2,7 +2,7 @@ use Rattle.std.proofs.Common.{◌∙◌, List, ap}
 use Rattle.holddata.specs.declared.hold.Hold.{Hold}
 use Rattle.catalogue.specs.Content.{holds_on}
 use Rattle.catalogue.proofs.TellingFacts.{told_by_two}
-use Rattle.zone_plans.specs.Graphs.{reading_from}
+use Rattle.zone_plans.specs.Readings.{reading_from}
 use Rattle.zone_plans.proofs.reading.read_member.Goals as goal
 
 pub returns-clause-reading : goal.returns-clause-reading

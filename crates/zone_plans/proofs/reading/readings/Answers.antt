@@ -1,6 +1,6 @@
 use Rattle.catalogue.proofs.SourceFacts.{no_fault}
 use Rattle.catalogue.proofs.TellingFacts.{tells_on}
-use Rattle.zone_plans.specs.Graphs.{reading_of}
+use Rattle.zone_plans.specs.Readings.{reading_of}
 use Rattle.zone_plans.proofs.ChoiceFacts.{map_more}
 use Rattle.zone_plans.proofs.reading.readings.Goals as goal
 

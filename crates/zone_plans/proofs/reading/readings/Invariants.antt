@@ -1,6 +1,6 @@
 use Rattle.std.proofs.Common.{◌≡◌, map, take}
 use Rattle.catalogue.proofs.TellingFacts.{HasTold}
-use Rattle.zone_plans.specs.Graphs.{reading_of}
+use Rattle.zone_plans.specs.Readings.{reading_of}
 use Rattle.zone_plans.proofs.reading.readings.Given as goal
 
 abbrev pub invariant-loop-id : goal.invariant-loop-id

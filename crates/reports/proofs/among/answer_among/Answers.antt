@@ -2,8 +2,8 @@ use Rattle.std.proofs.Common.{◌∙◌, Option, ap, option_map}
 use Rattle.std.specs.Global.{Vec}
 use Rattle.std.specs.List.{slice_get}
 use Rattle.mcs_reader.specs.declared.id.Id.{Id}
-use Rattle.reports.proofs.ResolverFacts.{get_unmapped, get_mapped}
-use Rattle.zone_plans.proofs.graph.answer_among.Goals as goal
+use Rattle.reports.proofs.ResolverFacts.{get_mapped, get_unmapped}
+use Rattle.reports.proofs.among.answer_among.Goals as goal
 
 pub returns-in-Some : goal.returns-in-Some
 returns-in-Some c = λ f are among.

@@ -3,7 +3,7 @@ use Rattle.std.specs.Global.{Vec}
 use Rattle.std.specs.List.{slice_get}
 use Rattle.mcs_reader.specs.declared.id.Id.{Id}
 use Rattle.reports.proofs.ResolverFacts.{get_unmapped, get_mapped}
-use Rattle.plan_members.proofs.placing.list_among.Goals as goal
+use Rattle.reports.proofs.among.list_among.Goals as goal
 
 pub returns-in-Some : goal.returns-in-Some
 returns-in-Some c = λ f are among.

@@ -1,7 +1,7 @@
 use Rattle.std.proofs.Common.{◌∙◌, ap}
 use Rattle.std.specs.List.{slice_get}
 use Rattle.reports.proofs.ResolverFacts.{get_mapped}
-use Rattle.reports.proofs.resolvers.status_among.Goals as goal
+use Rattle.reports.proofs.among.status_among.Goals as goal
 
 pub returns-in-Some : goal.returns-in-Some
 returns-in-Some c =
