@@ -4,8 +4,8 @@
 //! - [`Key`]: the first columns of rows, by which they are found: an id or [`Zone`]
 //! - [`Table`]: a table of the schema, whose rows are some of those of the store
 //!
-//! `specs/Standing` says what it is that a table stands there, and `specs/Fitting` which rows fit into it. `proofs/` proves
-//! once for every table what a statement makes of the trees, of the rows of its table, and of the others.
+//! `specs/Standing` says what it is that a table stands there, and `specs/Fitting` which rows fit into it. `proofs/`
+//! proves once for every table what a statement makes of the trees, of the rows of its table, and of the others.
 #![tactic(auto)]
 
 mod key;
