@@ -68,11 +68,17 @@ measure_ways() {
     return 1
 }
 
-# All crates that a crate stands on.
+# All crates that a crate stands on, each once: there are a hundred thousand ways down from the program.
 below() { # CRATE
-    local library
-    for library in ${libraries[$1]}; do
-        echo "$library"
-        below "$library"
-    done | sort -u
+    local name
+    local -A found=()
+    local -a left=(${libraries[$1]})
+    while [ ${#left[@]} -gt 0 ]; do
+        name=${left[0]}
+        left=("${left[@]:1}")
+        [ -n "${found[$name]+is}" ] && continue
+        found[$name]=1
+        left+=(${libraries[$name]})
+    done
+    [ ${#found[@]} -eq 0 ] || printf '%s\n' "${!found[@]}" | sort
 }
