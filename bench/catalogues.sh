@@ -9,7 +9,7 @@ top=$(cd "$(dirname "$0")/.." && pwd)
 work=$top/bench/out/catalogues
 runs=${1:-8400}
 seed=${2:-20261124}
-below='testing lemmas faults columns mcs_reader holddata zone_lists catalogue supersede requisites chains chain_cache reports
+below='testing lemmas faults columns mcs_reader holddata zone_lists catalogue supersede requisites listings chains chain_cache reports
   bureau_store failing_store'
 rm -rf "$work/crates/catalogue_runs/src"
 mkdir -p "$work/crates/catalogue_runs"

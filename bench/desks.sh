@@ -9,7 +9,7 @@
 set -euo pipefail
 top=$(cd "$(dirname "$0")/.." && pwd)
 work=$top/bench/out/desks
-below='lemmas faults columns transfer mcs_reader holddata zone_lists catalogue supersede requisites chains chain_cache reports
+below='lemmas faults columns transfer mcs_reader holddata zone_lists catalogue supersede requisites listings chains chain_cache reports
   install_order blocked_needs report_holds zone_plans plan_members plan_texts plan_reports
   requests bureau_store failing_store report_json bureau log_lines bureau_http'
 mkdir -p "$work/crates/desks/src"

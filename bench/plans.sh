@@ -4,7 +4,7 @@
 # report, for the plan, and for its members, text and JSON; the least of five.
 set -euo pipefail
 top=$(cd "$(dirname "$0")/.." && pwd)
-below='lemmas faults columns mcs_reader holddata zone_lists catalogue supersede requisites install_order chains chain_cache blocked_needs reports report_holds zone_plans plan_members plan_texts'
+below='lemmas faults columns mcs_reader holddata zone_lists catalogue supersede requisites install_order listings chains chain_cache blocked_needs reports report_holds zone_plans plan_members plan_texts'
 work=$(mktemp -d)
 trap 'rm -rf "$work"' EXIT
 mkdir -p "$work/crates/plan_bench/src"
