@@ -1,5 +1,5 @@
 //! The texts that make the tables of version 2, each over what those before it made.
-#![tactic(auto, unfolding(sqlite::specs::Listing::understood, sqlite_tied::specs::Compute::everything, sqlite_trees::specs::Sound::fits_kind, sqlite_trees::specs::Sound::begins, sqlite_trees::specs::Sound::same_name, sqlite_trees::specs::Sound::is_free_name, sqlite_value::specs::Order::value_cmp))]
+#![tactic(auto, unfolding(crate::proofs::OnLiterals::creation_on_literals))]
 
 ghost use Rattle.sql_texts.specs.Creation.{CreateAll, creations};
 ghost use Rattle.sql_texts.specs.Meaning.{MakesIndex, MakesTable};
