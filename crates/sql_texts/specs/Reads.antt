@@ -1,8 +1,10 @@
 -- Queries over the trees of the tables: their forms, and those that join, that count or that several crates ask. Slot 0 has the
 -- parameters, and slot 1 a row.
-use Rattle.std.specs.Prelude.{ℕ, List, [], ◌∷◌, map, None, Some, false, pos, negsuc}
+use Rattle.std.specs.Prelude.{ℕ, List, [], ◌∷◌, length, map, None, Some, false, pos, negsuc}
+use Rattle.std.specs.List.{range_with_len}
 use Rattle.sqlite.specs.Collation.TheVariants.{Binary}
 use Rattle.sqlite.specs.Query.{Join, Query, counted, end, inner}
+use Rattle.sqlite.specs.Table.{Table}
 use Rattle.sqlite.specs.Term.{Term, lit, col, op2}
 use Rattle.sqlite.specs.declared.types.Value.TheVariants.{Int, Null}
 use Rattle.sqlite_sql.specs.Group.{Aggregate}
@@ -10,6 +12,7 @@ use Rattle.sqlite_sql.specs.declared.aggregate.AggregateOp.TheVariants.{CountRow
 use Rattle.sqlite_sql.specs.declared.ops.BinaryOp.TheVariants.{Compare}
 use Rattle.sqlite_sql.specs.declared.ops.CompareOp.TheVariants.{Eq, Lt}
 use Rattle.sqlite_value.specs.Keys.{ascending}
+use Rattle.sql_texts.specs.Schema.{hold_row}
 
 -- two values are one
 abbrev pub same : Term → Term → Term
@@ -37,6 +40,10 @@ query_of from filter project order = record {
 abbrev pub from_table : ℕ → List Term → List ℕ → List ℕ → Query
 from_table tree filter project order =
     query_of (inner tree end) filter (map (col 1) project) (map (col 1) order)
+
+-- all columns of a table, whose row is in this slot
+abbrev pub all_columns : ℕ → Table → List Term
+all_columns slot table = map (col slot) (range_with_len 1 (length table.columns))
 
 -- how many rows there are
 abbrev pub how_many : Aggregate
@@ -91,4 +98,4 @@ abbrev pub held_in : Query
 held_in = query_of (inner 15 (inner 11 end))
     (same (col 2 1) (col 1 3) ∷ is_given 1 0 ∷ is_given 2 1
     ∷ op2 (Compare Lt Binary) (col 1 4) (lit (Int (pos 2))) ∷ same (col 2 2) (col 0 2) ∷ [])
-    (map (col 2) (1 ∷ 2 ∷ 3 ∷ 4 ∷ 5 ∷ 6 ∷ 7 ∷ 8 ∷ [])) (map (col 2) (1 ∷ 2 ∷ 3 ∷ []))
+    (all_columns 2 hold_row) (map (col 2) (1 ∷ 2 ∷ 3 ∷ []))

@@ -69,12 +69,11 @@ pub fn zone_count() -> &'static str
 }
 
 /// The holds of the kind ?3 on SYSMODs that are installed in the zone ?2 of the client ?1, in the
-/// order of their keys.
+/// order of their keys: all columns of each.
 pub fn held_in() -> &'static str
     ensures { Reads bureau result.now read.held_in hold_columns 3 }
 {
-    "SELECT h.sysmod, h.kind, h.reason, h.fmid, h.class, h.dated, h.resolver, h.categories \
-     FROM zone_row AS z JOIN hold_row AS h ON h.sysmod = z.sysmod \
+    "SELECT h.* FROM zone_row AS z JOIN hold_row AS h ON h.sysmod = z.sysmod \
      WHERE z.client = ?1 AND z.zone = ?2 AND z.state < 2 AND h.kind = ?3 \
      ORDER BY h.sysmod, h.kind, h.reason"
 }
