@@ -4,7 +4,7 @@
 //! - [`create`]: the tables and the index of version 2
 //! - [`read`]: what is read of several tables, and what several crates read
 //! - [`law`]: what a query of one table or of two finds
-//! - [`write`]: how the version, callers and holds are written, and the text of a probe
+//! - [`write`]: how the version is written, and the text of a probe
 //!
 //! A contract says what the database understands under the schema of version 2: a query over the trees of the
 //! tables, or a command on a table. `specs/` has the schema (`Schema`) and these (`Reads`, `Writes`).

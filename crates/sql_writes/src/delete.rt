@@ -8,13 +8,12 @@ ghost use Rattle.sql_writes.specs.Asking.{FindsAny};
 ghost use Rattle.sql_writes.specs.Records.{record_gone};
 
 use crate::run::run;
-use crate::table::{Asked, Deletes};
+use crate::table::{self, Asked, Deletes};
 use catalogue::{Change, Sysmod};
 use holddata::HoldKey;
 use mcs_reader::Id;
 use sql_rows::{Key, Sups, Sysmods, id_of};
 use sql_tables::hold_kind_value;
-use sql_texts::write;
 use sqlite::{Alter, Error, Transaction};
 
 /// Whether a key has rows.
@@ -100,7 +99,7 @@ pub(crate) fn callers<S: Alter>(tx: &mut Transaction<'_, S>) -> Result<(), Error
     ensures same { tx.new.conn.ghost_name ≡ tx.old.conn.ghost_name }
     ensures changes { Alters S.Store tx.old.conn.now tx.new.conn.now result (caller_table.with_rows []) }
 {
-    run(tx, write::delete_callers(), &[])
+    run(tx, table::caller::deletion(), &[])
 }
 
 /// The hold with this key.
@@ -115,5 +114,5 @@ pub(crate) fn hold<S: Alter>(tx: &mut Transaction<'_, S>, key: &HoldKey) -> Resu
         hold_kind_value(key.kind),
         id_of(&key.reason),
     ];
-    run(tx, write::delete_hold(), &params)
+    run(tx, table::hold_row::deletion(), &params)
 }

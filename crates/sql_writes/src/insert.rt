@@ -26,7 +26,6 @@ use holddata::Hold;
 use mcs_reader::Id;
 use sql_rows::{All, Key, Sysmods, id_of};
 use sql_tables::{categories_value, date_value, hold_kind_value, optional_id_value};
-use sql_texts::write;
 use sqlite::types::ValueRef;
 use sqlite::{Alter, Error, Statement, Transaction};
 use std::alloc::Global;
@@ -87,7 +86,7 @@ pub(crate) fn caller<S: Alter>(tx: &mut Transaction<'_, S>, row: &CallerRow) -> 
         → RefusesExcused S.Store tx.old.conn.now tx.new.conn.now result (IsOpened before) }
 {
     let params = [id_of(&row.name), ValueRef::Text(row.token.as_bytes())];
-    run(tx, write::insert_caller(), &params)
+    run(tx, table::caller::insertion(), &params)
 }
 
 /// The last change of the caller of this name: its number and the reply that is kept.
@@ -145,7 +144,7 @@ pub(crate) fn hold<S: Alter>(tx: &mut Transaction<'_, S>, hold: &Hold) -> Result
         optional_id_value(&hold.resolver),
         categories_value(&hold.categories),
     ];
-    run(tx, write::insert_hold_row(), &params)
+    run(tx, table::hold_row::insertion(), &params)
 }
 
 /// The row of a key, with a list that is written as one text.

@@ -24,6 +24,8 @@ ghost use Rattle.sql_writes.specs.Asking.{first_in};
 ghost use Rattle.sql_writes.specs.Many.{AreGiven, MeansBy, insert_alike, parameters_to, with_next};
 ghost use Rattle.sql_writes.specs.Room.{is_short};
 
+pub(crate) mod caller;
+pub(crate) mod hold_row;
 pub(crate) mod last_change;
 mod received_list;
 mod sysmod;

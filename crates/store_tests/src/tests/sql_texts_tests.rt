@@ -1,6 +1,7 @@
 //! A database in memory takes each text, and each finds its row.
 use super::insertions::{
-    INTO_LAST_CHANGE, INTO_SYSMOD, INTO_SYSMOD_SUP, INTO_ZONE_HEAD, INTO_ZONE_ROW,
+    INTO_CALLER, INTO_HOLD_ROW, INTO_LAST_CHANGE, INTO_SYSMOD, INTO_SYSMOD_SUP, INTO_ZONE_HEAD,
+    INTO_ZONE_ROW,
 };
 use super::tables::{ALPHA, BASE, FIX, FIXED, NOTHING, ONE, ZERO, ZONE, of_version_2};
 use sql_texts::{read, write};
@@ -47,13 +48,13 @@ static HOLD: [ValueRef<'static>; 8] = [FIX, ZERO, FIXED, BASE, NOTHING, NO_DATE,
 
 fn fill_published(conn: &mut Connection<MemStore>) -> Result<(), Fail> {
     write_one(conn, write::insert_version(), &[])?;
-    write_one(conn, write::insert_hold_row(), &HOLD)?;
+    write_one(conn, INTO_HOLD_ROW, &HOLD)?;
     write_one(conn, INTO_SYSMOD, &RECORD)?;
     write_one(conn, INTO_SYSMOD_SUP, &[FIX, FIXED])
 }
 
 fn fill_of_client(conn: &mut Connection<MemStore>) -> Result<(), Fail> {
-    write_one(conn, write::insert_caller(), &[ALPHA, TOKEN])?;
+    write_one(conn, INTO_CALLER, &[ALPHA, TOKEN])?;
     write_one(conn, INTO_LAST_CHANGE, &CHANGE)?;
     write_one(conn, INTO_ZONE_HEAD, &[ALPHA, ZONE, NOTHING])?;
     write_one(conn, INTO_ZONE_ROW, &[ALPHA, ZONE, FIX, ZERO])
@@ -72,18 +73,12 @@ fn look_of_client(conn: &mut Connection<MemStore>) -> Result<(), Fail> {
     read_each(conn, &[read::held_in()], &[ALPHA, ZONE, ZERO])
 }
 
-fn clear(conn: &mut Connection<MemStore>) -> Result<(), Fail> {
-    write_one(conn, write::delete_version(), &[])?;
-    write_one(conn, write::delete_hold(), &[FIX, ZERO, FIXED])?;
-    write_one(conn, write::delete_callers(), &[])
-}
-
 fn find_each(conn: &mut Connection<MemStore>) -> Result<(), Fail> {
     fill_published(conn)?;
     fill_of_client(conn)?;
     look_published(conn)?;
     look_of_client(conn)?;
-    clear(conn)
+    write_one(conn, write::delete_version(), &[])
 }
 
 #[test]

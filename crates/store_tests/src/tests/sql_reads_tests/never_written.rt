@@ -2,9 +2,8 @@
 use super::reads::{all_ids, held, received_ids, zone_names};
 use super::rows::{put_received, put_zone};
 use super::{assert_device, id};
-use crate::tests::insertions::INTO_SYSMOD;
+use crate::tests::insertions::{INTO_HOLD_ROW, INTO_SYSMOD};
 use crate::tests::tables::{BASE, FIX, FIXED, NOTHING, ONE, ZERO, in_memory, make_version_2, put};
-use sql_texts::write;
 use sqlite::types::ValueRef;
 use sqlite::{Alter, Connection};
 use std::alloc::Global;
@@ -34,7 +33,7 @@ fn assert_no_zone_is_none<S: Alter>(alloc: Global, conn: &mut Connection<S>) -> 
 }
 
 fn assert_no_day_is_none<S: Alter>(alloc: Global, conn: &mut Connection<S>) -> Result<(), Fail> {
-    put(conn, write::insert_hold_row(), &HOLD)?;
+    put(conn, INTO_HOLD_ROW, &HOLD)?;
     assert_device(held(alloc, conn, &id(b"UA10002")?))
 }
 

@@ -1,10 +1,9 @@
 //! Rows of what is published, and of what a client has.
 use crate::tests::insertions::{
-    INTO_LAST_CHANGE, INTO_RECEIVED_LIST, INTO_SYSMOD, INTO_SYSMOD_COND, INTO_SYSMOD_SUP,
-    INTO_ZONE_HEAD, INTO_ZONE_ROW,
+    INTO_CALLER, INTO_HOLD_ROW, INTO_LAST_CHANGE, INTO_RECEIVED_LIST, INTO_SYSMOD,
+    INTO_SYSMOD_COND, INTO_SYSMOD_SUP, INTO_ZONE_HEAD, INTO_ZONE_ROW,
 };
 use crate::tests::tables::{ALPHA, BASE, FIX, FIXED, NOTHING, ONE, ZERO, ZONE, put};
-use sql_texts::write;
 use sqlite::types::ValueRef;
 use sqlite::{Alter, Connection, Error};
 
@@ -85,14 +84,14 @@ fn put_record<S: Alter>(conn: &mut Connection<S>) -> Result<(), Error> {
 /// Publishes that PTF, with an ERROR and a FIXCAT hold.
 pub(crate) fn publish<S: Alter>(conn: &mut Connection<S>) -> Result<(), Error> {
     put_record(conn)?;
-    put(conn, write::insert_hold_row(), &ERROR_HOLD)?;
-    put(conn, write::insert_hold_row(), &FIXCAT_HOLD)
+    put(conn, INTO_HOLD_ROW, &ERROR_HOLD)?;
+    put(conn, INTO_HOLD_ROW, &FIXCAT_HOLD)
 }
 
 /// Publishes a PTF with nothing beside, after that one, and a hold on a SYSMOD between that isn't catalogued.
 pub(crate) fn publish_more<S: Alter>(conn: &mut Connection<S>) -> Result<(), Error> {
     put(conn, INTO_SYSMOD, &LATER_RECORD)?;
-    put(conn, write::insert_hold_row(), &HOLD_ALONE)
+    put(conn, INTO_HOLD_ROW, &HOLD_ALONE)
 }
 
 fn put_caller<S: Alter>(
@@ -100,7 +99,7 @@ fn put_caller<S: Alter>(
     name: ValueRef<'static>,
     token: ValueRef<'static>,
 ) -> Result<(), Error> {
-    put(conn, write::insert_caller(), &[name, token])
+    put(conn, INTO_CALLER, &[name, token])
 }
 
 // ALPHA's zone of one SYSMOD, empty zone and received list.
