@@ -1,8 +1,9 @@
-//! The tables: where each stands in the schema and in the store.
+//! The tables: where each stands in the schema and in the store. The columns of each are in `specs/Schema.antt` of
+//! `sql_texts`.
 
 use crate::Table;
 
-/// The callers with their tokens: the columns `name` and `token`.
+/// The callers with their tokens.
 pub enum Callers {}
 
 impl Table for Callers {
@@ -21,7 +22,7 @@ impl Table for Callers {
     ghost stands = { stands_by _ _ _ _ refl };
 }
 
-/// The last changes of callers: the columns `caller`, `number` and `body`.
+/// The last changes of callers, each with the reply that is kept for it.
 pub enum LastChanges {}
 
 impl Table for LastChanges {
@@ -40,8 +41,7 @@ impl Table for LastChanges {
     ghost stands = { stands_by _ _ _ _ refl };
 }
 
-/// Records, without what they supersede and require under a condition: the columns `id`, `kind`, `fmids`, `pre`
-/// and `req`.
+/// Records, without what they supersede and require under a condition.
 pub enum Sysmods {}
 
 impl Table for Sysmods {
@@ -60,7 +60,7 @@ impl Table for Sysmods {
     ghost stands = { stands_by _ _ _ _ refl };
 }
 
-/// What records supersede: the columns `id` and `member`.
+/// What records supersede.
 pub enum Sups {}
 
 impl Table for Sups {
@@ -79,7 +79,7 @@ impl Table for Sups {
     ghost stands = { stands_by _ _ _ _ refl };
 }
 
-/// The holds: the columns `sysmod`, `kind`, `reason`, `fmid`, `class`, `dated`, `resolver` and `categories`.
+/// The holds.
 pub enum Holds {}
 
 impl Table for Holds {
@@ -98,7 +98,7 @@ impl Table for Holds {
     ghost stands = { stands_by _ _ _ _ refl };
 }
 
-/// The zones of clients, with the patterns that are asked for: the columns `client`, `zone` and `patterns`.
+/// The zones of clients, with the patterns that are asked for.
 pub enum Heads {}
 
 impl Table for Heads {
@@ -117,7 +117,7 @@ impl Table for Heads {
     ghost stands = { stands_by _ _ _ _ refl };
 }
 
-/// The SYSMODs of zones with their states: the columns `client`, `zone`, `sysmod` and `state`.
+/// The SYSMODs of zones with their states.
 pub enum ZoneRows {}
 
 impl Table for ZoneRows {
@@ -136,7 +136,7 @@ impl Table for ZoneRows {
     ghost stands = { stands_by _ _ _ _ refl };
 }
 
-/// What clients have received: the columns `client` and `ids`.
+/// What clients have received.
 pub enum Received {}
 
 impl Table for Received {
@@ -155,7 +155,7 @@ impl Table for Received {
     ghost stands = { stands_by _ _ _ _ refl };
 }
 
-/// What records require where a function is installed: the columns `id`, `fmid` and `member`.
+/// What records require where a function is installed.
 pub enum Conds {}
 
 impl Table for Conds {
