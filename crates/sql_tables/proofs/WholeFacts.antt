@@ -23,7 +23,7 @@ use Rattle.bureau_store.specs.declared.caller.CallerRow.{CallerRow}
 use Rattle.sqlite_value.specs.Order.{Row, column}
 use Rattle.sql_tables.specs.Changes.{client_changed, going, instead, is_kind, is_under, published, replaced, stored_after, with_callers, with_head, with_last, without_caller}
 use Rattle.sql_tables.specs.Fit.{CanBeWritten, IsCond, IsFit, IsFitChange, IsHold, IsRecord}
-use Rattle.sql_tables.specs.Rows.{caller_row, cond_row, head_row, hold_row, received_row, sup_row, sysmod_row, zone_row}
+use Rattle.sql_tables.specs.Rows.{caller_row, cond_row, head_row, hold_row, sup_row, sysmod_row, zone_row}
 use Rattle.sql_tables.specs.Stored.{Stored, change_table, head_table, is_named, is_of, is_of_both, name_of, opened, row_table}
 use Rattle.sql_tables.specs.Values.{id_in, id_value}
 use Rattle.sql_tables.specs.Whole.{AreRowsOf, HaveOwnKeys, Head, IsCondition, IsHead, IsMember, IsWhole, IsZoneSysmod, condition_row, member_row, row_of_head, row_of_zone_sysmod}
@@ -293,8 +293,7 @@ module _ (client : List ℕ) (is_client : IsId client) where
   client_whole (zone_dropped zone) stored fit whole =
       rows_replaced (is_of_both client zone) (by_zone_sysmod client zone) [] (going head_table (is_of_both client zone) stored) tt tt tt
       (heads_replaced (is_of_both client zone) (by_zone client zone) [] stored tt tt tt whole)
-  client_whole (received_put ids) stored fit whole =
-      beside_whole stored.changes (replaced (is_of client) (received_row client ids ∷ []) stored.received) stored whole
+  client_whole (received_put ids) stored fit whole = beside_whole stored.changes (client_changed client (received_put ids) stored).received stored whole
   client_whole (patterns_put zone patterns) stored fit whole =
       heads_replaced (is_of_both client zone) (by_zone client zone) (head_row client zone patterns ∷ []) stored
       (head_written zone patterns fit.0 fit.1) (made_here client zone is_client fit.0 (drop 2 (head_row client zone patterns)), tt) (tt, tt) whole
