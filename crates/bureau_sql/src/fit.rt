@@ -6,7 +6,7 @@ ghost use Rattle.mcs_reader.specs.Id.{IsId};
 ghost use Rattle.zone_lists.specs.Pattern.{is_pattern};
 ghost use Rattle.bureau_store.specs.Caller.{IsProper};
 ghost use Rattle.bureau_store.specs.Effects.{IsAscending, effect_as, maker_of};
-ghost use Rattle.sql_tables.specs.Fit.{CanBeWritten, IsCond, IsFitChange, IsHold, IsRecord};
+ghost use Rattle.sql_tables.specs.Fit.{CanBeWritten, IsCond, IsFitChange, IsHold, IsRecord, IsZoneRow};
 
 use bureau_store::{CallerRow, Effect};
 use catalogue::{Change, CondNeed, Sysmod};
@@ -53,7 +53,7 @@ pub(crate) fn callers(callers: &[CallerRow])
 }
 
 fn row(row: &ZoneRow)
-    ensures { IsId row.now.sysmod }
+    ensures { IsZoneRow row.now }
 {
     id(&row.sysmod);
 }

@@ -127,7 +127,7 @@ zone_sysmod_of row is full =
     let sysmod = id_at row 2 is.2 in
     let state = some_of (state_in (column row 3)) is.3 in
     let state_is = state_said (column row 3) state.0 state.1 in
-    (record { client = client.0; zone = zone.0; row = record { sysmod = sysmod.0; state = state.0 } }, (client.1, zone.1, sysmod.1), all_columns table.ZoneRow row full ∙ cons client.2 (cons zone.2 (cons sysmod.2 (cons state_is refl))))
+    (record { client = client.0; zone = zone.0; row = record { sysmod = sysmod.0; state = state.0 } }, (client.1, zone.1, record { sysmod = sysmod.1 }), all_columns table.ZoneRow row full ∙ cons client.2 (cons zone.2 (cons sysmod.2 (cons state_is refl))))
 
 pub hold_of : (row : Row) → KeepsTo table.HoldRow row → IsFull table.HoldRow row → (hold : Hold) × IsHold hold × (row ≡ hold_row hold)
 hold_of row is full =

@@ -32,7 +32,7 @@ use Rattle.sqlite_value.specs.Order.{Row, column}
 use Rattle.sqlite_value.specs.declared.value.Value.{Value}
 use Rattle.sqlite_value.specs.declared.value.Value.TheVariants.{Int, Text}
 use Rattle.sqlite_value.proofs.OrderLemmas.{value_cmp-Int}
-use Rattle.sql_tables.specs.Fit.{IsHold}
+use Rattle.sql_tables.specs.Fit.{IsHold, IsZoneRow}
 use Rattle.sql_tables.specs.InTrees.{columns_of, stored_in}
 use Rattle.sql_tables.specs.Rows.{hold_found, hold_row, zone_row}
 use Rattle.sql_tables.specs.Stored.{Stored, is_named, is_of_both, rows_as_stored, tables_of, zone_of, zone_row_said, zone_rows_of}
@@ -88,7 +88,7 @@ id_compared id value is text same = ap (λ t. is_true (binary (Compare Eq Binary
 -- ---- the rows of a zone
 
 -- a row of a client's zone is that of a SYSMOD there
-sysmod_there : (client zone : List ℕ) (row : Row) → (p : ZoneSysmod) × IsZoneSysmod p × (row ≡ row_of_zone_sysmod p) → is_of_both client zone row ≡ true → (r : ZoneRow) × IsId r.sysmod × (row ≡ zone_row client zone r)
+sysmod_there : (client zone : List ℕ) (row : Row) → (p : ZoneSysmod) × IsZoneSysmod p × (row ≡ row_of_zone_sysmod p) → is_of_both client zone row ≡ true → (r : ZoneRow) × IsZoneRow r × (row ≡ zone_row client zone r)
 sysmod_there client zone row (p, fit, is) h =
     let parts = and_parts _ _ (ap (is_of_both client zone) (sym is) ∙ h) in
     let first : p.client ≡ client = one_id p.client client (sym (named_value p.client client fit.0) ∙ parts.0) in
@@ -100,16 +100,16 @@ module _ (rows : List Row) (client zone : List ℕ) (is_client : IsId client) (i
   stored_rows = rows_as_stored rows client zone
 
   -- what is read of the rows of a zone stands there
-  row_from : (r : ZoneRow) → Contains stored_rows r → Contains rows (zone_row client zone r) × IsId r.sysmod
+  row_from : (r : ZoneRow) → Contains stored_rows r → Contains rows (zone_row client zone r) × IsZoneRow r
   row_from r inside =
       let it = read_from zone_row_said (filter (is_of_both client zone) rows) r inside in
       let row = filtered (is_of_both client zone) rows it.0 it.1 in
       let stands = sysmod_there client zone it.0 (all_of (λ x. (p : ZoneSysmod) × IsZoneSysmod p × (x ≡ row_of_zone_sysmod p)) rows it.0 written row.0) row.1 in
       let e : Some stands.0 ≡ Some r = sym (zone_row_again client zone stands.0 stands.1) ∙ ap zone_row_said (sym stands.2) ∙ it.2 in
       let same : stands.0 ≡ r = cc in
-      (subst (Contains rows) (stands.2 ∙ ap (zone_row client zone) same) row.0, subst (λ (x : ZoneRow). IsId x.sysmod) same stands.1)
+      (subst (Contains rows) (stands.2 ∙ ap (zone_row client zone) same) row.0, subst IsZoneRow same stands.1)
 
-  row_to : (r : ZoneRow) → IsId r.sysmod → Contains rows (zone_row client zone r) → Contains stored_rows r
+  row_to : (r : ZoneRow) → IsZoneRow r → Contains rows (zone_row client zone r) → Contains stored_rows r
   row_to r is inside =
       map_found zone_row_said (filter (is_of_both client zone) rows) (zone_row client zone r) r
       (kept_inside (is_of_both client zone) rows (zone_row client zone r) inside (made_here client zone is_client is_zone (drop 2 (zone_row client zone r))))
@@ -142,14 +142,14 @@ module _ (rows : List Row) (client zone : List ℕ) (is_client : IsId client) (i
 
   -- a SYSMOD is installed just if a row of the zone says so
   pub installed_from : (id : List ℕ) → is_installed (zone_rows_of rows client zone) id ≡ true
-      → (r : ZoneRow) × IsId r.sysmod × Contains rows (zone_row client zone r) × (r.sysmod ≡ id) × (is_installed_state r.state ≡ true)
+      → (r : ZoneRow) × IsZoneRow r × Contains rows (zone_row client zone r) × (r.sysmod ≡ id) × (is_installed_state r.state ≡ true)
   installed_from id h =
       let it = any_from (λ (r : ZoneRow). same_id r.sysmod id && is_installed_state r.state) (zone_rows_of rows client zone) h in
       let row = row_from it.0 (zone_from it.0 it.1) in
       let parts = and_parts _ _ it.2 in
       (it.0, row.1, row.0, one_id it.0.sysmod id parts.0, parts.1)
 
-  pub installed_to : (id : List ℕ) (r : ZoneRow) → IsId r.sysmod → Contains rows (zone_row client zone r) → r.sysmod ≡ id → is_installed_state r.state ≡ true → is_installed (zone_rows_of rows client zone) id ≡ true
+  pub installed_to : (id : List ℕ) (r : ZoneRow) → IsZoneRow r → Contains rows (zone_row client zone r) → r.sysmod ≡ id → is_installed_state r.state ≡ true → is_installed (zone_rows_of rows client zone) id ≡ true
   installed_to id r is inside same state =
       any_at (λ (x : ZoneRow). same_id x.sysmod id && is_installed_state x.state) (zone_rows_of rows client zone) r (zone_to r (row_to r is inside))
       (and_from _ _ (ap (λ s. same_id s id) same ∙ itself id) state)
@@ -176,7 +176,7 @@ module _ (trees : Trees) (client zone : List ℕ) (kind : Kind) (is_client : IsI
   together z h p hold fit is zone_is hold_is =
       five _ _ _ _ _ _ _ _ _ _
       (ap (λ v. is_true (binary (Compare Eq Binary) v (column z 3))) (sym (column_after h 0) ∙ ap (λ r. column r 0) hold_is)
-      ∙ id_compared p.row.sysmod (id_value hold.key.sysmod) fit.2 (column z 3) (sym (column_after z 2) ∙ ap (λ r. column r 2) zone_is)
+      ∙ id_compared p.row.sysmod (id_value hold.key.sysmod) fit.2.sysmod (column z 3) (sym (column_after z 2) ∙ ap (λ r. column r 2) zone_is)
       ∙ named_value hold.key.sysmod p.row.sysmod is.sysmod)
       (ap (λ v. is_true (binary (Compare Eq Binary) v (Text (text_of client)))) (sym (column_after z 0) ∙ ap (λ r. column r 0) zone_is)
       ∙ id_compared client (id_value p.client) is_client (Text (text_of client)) refl ∙ named_value p.client client fit.0)

@@ -26,7 +26,7 @@ use Rattle.catalogue.specs.declared.sysmod.Sysmod.{Sysmod}
 use Rattle.catalogue.proofs.IdFacts.{exact_ids, itself, one_id}
 use Rattle.zone_lists.specs.declared.zones.ZoneRow.{ZoneRow}
 use Rattle.sqlite_value.specs.Order.{Row, column}
-use Rattle.sql_tables.specs.Fit.{IsHold, IsRecord}
+use Rattle.sql_tables.specs.Fit.{IsHold, IsRecord, IsZoneRow}
 use Rattle.sql_tables.specs.Rows.{hold_found, hold_row, sysmod_row, zone_row}
 use Rattle.sql_tables.specs.Stored.{beside_of, Stored, is_named, is_of, is_of_both, names_of, rows_in_order, sysmods_of, tables_of, zone_row_said, zone_rows_of}
 use Rattle.sql_tables.specs.Values.{hold_kind_value, id_in, id_value, texts_value}
@@ -214,18 +214,18 @@ module _ (stored : Stored) (whole : IsWhole stored) where
   -- ---- rows of a zone
 
   module _ (client zone : List ℕ) where
-    abbrev IsZoneRow : Row → Type 0
-    IsZoneRow row = (r : ZoneRow) × IsId r.sysmod × (row ≡ zone_row client zone r)
+    abbrev IsRowHere : Row → Type 0
+    IsRowHere row = (r : ZoneRow) × IsZoneRow r × (row ≡ zone_row client zone r)
 
     abbrev name_in : Row → Option (List ℕ)
     name_in row = option_map (λ (r : ZoneRow). r.sysmod) (zone_row_said row)
 
-    rows_here : (rows : List Row) → AreRowsOf row_of_zone_sysmod IsZoneSysmod rows → AllByRecursion IsZoneRow (filter (is_of_both client zone) rows)
+    rows_here : (rows : List Row) → AreRowsOf row_of_zone_sysmod IsZoneSysmod rows → AllByRecursion IsRowHere (filter (is_of_both client zone) rows)
     rows_here [] all = tt
     rows_here (row ∷ rows) all = by (is_of_both client zone row) refl (rows_here rows all.1) all.0
       where
-        by : (b : Bool) → is_of_both client zone row ≡ b → AllByRecursion IsZoneRow (filter (is_of_both client zone) rows) → (p : ZoneSysmod) × IsZoneSysmod p × (row ≡ row_of_zone_sysmod p)
-            → AllByRecursion IsZoneRow (cond b (row ∷ filter (is_of_both client zone) rows) (filter (is_of_both client zone) rows))
+        by : (b : Bool) → is_of_both client zone row ≡ b → AllByRecursion IsRowHere (filter (is_of_both client zone) rows) → (p : ZoneSysmod) × IsZoneSysmod p × (row ≡ row_of_zone_sysmod p)
+            → AllByRecursion IsRowHere (cond b (row ∷ filter (is_of_both client zone) rows) (filter (is_of_both client zone) rows))
         by true at rest (p, fit, is) =
             let named = and_parts (is_named client (id_value p.client)) (is_named zone (id_value p.zone)) (ap (is_of_both client zone) (sym is) ∙ at) in
             let of : p.client ≡ client = one_id p.client client (sym (named_value p.client client fit.0) ∙ named.0) in
@@ -233,10 +233,10 @@ module _ (stored : Stored) (whole : IsWhole stored) where
             ((p.row, fit.2, is ∙ ap₂ (λ c z. zone_row c z p.row) of inside), rest)
         by false at rest it = rest
 
-    row_name : (row : Row) → IsZoneRow row → (k : List ℕ) × (name_in row ≡ Some k)
+    row_name : (row : Row) → IsRowHere row → (k : List ℕ) × (name_in row ≡ Some k)
     row_name row (r, fit, is) = (r.sysmod, ap name_in is ∙ ap (option_map (λ (x : ZoneRow). x.sysmod)) (zone_row_again client zone r fit))
 
-    row_alike : (a b : Row) → IsZoneRow a → IsZoneRow b → name_in a ≡ name_in b → take 3 a ≡ take 3 b
+    row_alike : (a b : Row) → IsRowHere a → IsRowHere b → name_in a ≡ name_in b → take 3 a ≡ take 3 b
     unfolding row_name
     row_alike a b (x, fit, is) (y, fits, at) same =
         let e : Some x.sysmod ≡ Some y.sysmod = sym (row_name a (x, fit, is)).1 ∙ same ∙ (row_name b (y, fits, at)).1 in
@@ -250,10 +250,10 @@ module _ (stored : Stored) (whole : IsWhole stored) where
         let here = rows_here stored.rows whole.rows in
         let named = part_read zone_row_said (λ (r : ZoneRow). r.sysmod) rows in
         in_order_rows_length (filter_map zone_row_said rows)
-        (subst AreApart named (read_apart 3 name_in IsZoneRow row_name row_alike rows here (own_filtered 3 (is_of_both client zone) stored.rows whole.row_keys)))
+        (subst AreApart named (read_apart 3 name_in IsRowHere row_name row_alike rows here (own_filtered 3 (is_of_both client zone) stored.rows whole.row_keys)))
         ∙ sym (length-map (filter_map zone_row_said rows) (λ (r : ZoneRow). r.sysmod))
         ∙ ap length (sym named)
-        ∙ read_length 3 name_in IsZoneRow row_name row_alike rows here
+        ∙ read_length 3 name_in IsRowHere row_name row_alike rows here
 
   -- ---- holds
 

@@ -11,7 +11,7 @@ use Rattle.catalogue.proofs.IdFacts.{in_order_any, in_order_ascends}
 use Rattle.bureau_store.specs.Tables.{ZoneTable, zone_named}
 use Rattle.sqlite_value.specs.Order.{Row, column}
 use Rattle.sqlite_value.specs.declared.value.Value.{Value}
-use Rattle.sql_tables.specs.Fit.{AreZoneRows}
+use Rattle.sql_tables.specs.Fit.{AreZoneRows, IsZoneRow}
 use Rattle.sql_tables.specs.Rows.{zone_row}
 use Rattle.sql_tables.specs.Stored.{Stored, is_named, is_of, is_of_both, names_of, rows_in_order, zone_of, zone_row_said, zone_rows_of, zones_of}
 use Rattle.sql_tables.specs.Values.{id_in, id_value}
@@ -105,5 +105,5 @@ pub rows_put : (client zone : List ℕ) (rows : List ZoneRow) → IsId client �
     → (all : List Row) → filter (is_of_both client zone) all ≡ map (zone_row client zone) rows → zone_rows_of all client zone ≡ rows
 rows_put client zone rows is_client is_zone fit all has =
     ap (λ rs. rows_in_order (filter_map zone_row_said rs)) has
-    ∙ ap rows_in_order (read_again (λ (row : ZoneRow). IsId row.sysmod) (zone_row client zone) zone_row_said (zone_row_again client zone) rows fit.ids)
+    ∙ ap rows_in_order (read_again IsZoneRow (zone_row client zone) zone_row_said (zone_row_again client zone) rows fit.each)
     ∙ by_key_same (λ row. row.sysmod) rows fit.ascend

@@ -12,7 +12,7 @@ use Rattle.zone_lists.specs.declared.zones.ZoneRow.{ZoneRow}
 use Rattle.bureau_store.specs.Tables.{LastChange}
 use Rattle.bureau_store.specs.declared.caller.CallerRow.{CallerRow}
 use Rattle.sqlite_value.specs.Order.{Row, column}
-use Rattle.sql_tables.specs.Fit.{AreIds, IsCond, IsHold, IsRecord}
+use Rattle.sql_tables.specs.Fit.{AreIds, IsCond, IsHold, IsRecord, IsZoneRow}
 use Rattle.sql_tables.specs.Rows.{Beside, caller_found, caller_row, change_row, cond_found, cond_row, hold_found, hold_row, hold_with, key_found, received_row, sysmod_found, sysmod_row, with, zone_row}
 use Rattle.sql_tables.specs.Stored.{change_said, received_said, shown, zone_row_said}
 use Rattle.sql_tables.specs.Values.{categories_in, date_in, date_value, id_in, ids_in, sysmod_kind_in, optional_id_in, optional_id_value, optional_id_with}
@@ -49,8 +49,8 @@ received_again client ids are = ap (λ found. unwrap_or found []) (ids_again ids
 
 -- ---- zone_row
 
-pub zone_row_again : (client zone : List ℕ) (row : ZoneRow) → IsId row.sysmod → zone_row_said (zone_row client zone row) ≡ Some row
-zone_row_again client zone row is = rw (id_again row.sysmod is, state_again row.state) refl
+pub zone_row_again : (client zone : List ℕ) (row : ZoneRow) → IsZoneRow row → zone_row_said (zone_row client zone row) ≡ Some row
+zone_row_again client zone row is = rw (id_again row.sysmod is.sysmod, state_again row.state) refl
 
 -- ---- sysmod and sysmod_cond
 

@@ -65,8 +65,8 @@ zones_go name = by_name (λ stored. zones_of stored name) [] name
     (λ stored. ap (λ kept. map (λ zone. (zone, zone_of (without_caller stored name) name zone)) (in_order (filter_map (λ row. id_in (column row 1)) kept))) (own_rows name stored.heads))
     (λ stored gone other. same_zones stored (without_caller stored gone) name (λ zone. other_zones gone name zone other stored.heads) (λ zone. other_zones gone name zone other stored.rows))
 
-received_goes : (name : List ℕ) → Goes (λ stored. received_of stored.received name) [] name
-received_goes name = by_name (λ stored. received_of stored.received name) [] name
+received_goes : (name : List ℕ) → Goes (λ stored. received_of stored.received name) (received_said []) name
+received_goes name = by_name (λ stored. received_of stored.received name) (received_said []) name
     (λ stored. ap received_said (own_rows name stored.received))
     (λ stored gone other. ap received_said (other_rows gone name other stored.received))
 
@@ -191,7 +191,7 @@ module _ (found these : List CallerRow) (ascend : NamesAscend (map (λ (row : Ca
       same_tables (tables_of (with_callers names rows stored)) (set.with_callers rows (tables_of stored)) (callers_again rows all) (content_stays names stored)
       (λ caller. gone (λ one. last_of one.changes caller) no_change (set.name_of caller) (last_goes caller))
       (λ name. gone (λ one. zones_of one name) [] name (zones_go name))
-      (λ name. gone (λ one. received_of one.received name) [] name (received_goes name))
+      (λ name. gone (λ one. received_of one.received name) (received_said []) name (received_goes name))
     where
       names : List (List ℕ)
       names = names_that_change found rows

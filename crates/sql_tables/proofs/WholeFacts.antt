@@ -22,8 +22,8 @@ use Rattle.bureau_store.specs.declared.caller.Caller.TheVariants.{Publisher, Cli
 use Rattle.bureau_store.specs.declared.caller.CallerRow.{CallerRow}
 use Rattle.sqlite_value.specs.Order.{Row, column}
 use Rattle.sql_tables.specs.Changes.{client_changed, going, instead, is_kind, is_under, published, replaced, stored_after, with_callers, with_head, with_last, without_caller}
-use Rattle.sql_tables.specs.Fit.{CanBeWritten, IsCond, IsFit, IsFitChange, IsHold, IsRecord}
-use Rattle.sql_tables.specs.Rows.{caller_row, cond_row, head_row, hold_row, received_row, sup_row, sysmod_row, zone_row}
+use Rattle.sql_tables.specs.Fit.{CanBeWritten, IsCond, IsFit, IsFitChange, IsHold, IsRecord, IsZoneRow}
+use Rattle.sql_tables.specs.Rows.{caller_row, cond_row, head_row, hold_row, sup_row, sysmod_row, zone_row}
 use Rattle.sql_tables.specs.Stored.{Stored, change_table, head_table, is_named, is_of, is_of_both, name_of, opened, row_table}
 use Rattle.sql_tables.specs.Values.{id_in, id_value}
 use Rattle.sql_tables.specs.Whole.{AreRowsOf, HaveOwnKeys, Head, IsCondition, IsHead, IsMember, IsWhole, IsZoneSysmod, condition_row, member_row, row_of_head, row_of_zone_sysmod}
@@ -258,12 +258,12 @@ module _ (client : List ℕ) (is_client : IsId client) where
           (none_pass (is_of_both client zone) stored.heads at)))
           whole
 
-  zone_sysmods_written : (zone : List ℕ) (rows : List ZoneRow) → IsId zone → AllByRecursion (λ (row : ZoneRow). IsId row.sysmod) rows → AreRowsOf row_of_zone_sysmod IsZoneSysmod (map (zone_row client zone) rows)
+  zone_sysmods_written : (zone : List ℕ) (rows : List ZoneRow) → IsId zone → AllByRecursion IsZoneRow rows → AreRowsOf row_of_zone_sysmod IsZoneSysmod (map (zone_row client zone) rows)
   zone_sysmods_written zone [] is all = tt
   zone_sysmods_written zone (row ∷ rows) is all = ((record { client = client; zone = zone; row = row }, (is_client, is, all.0), refl), zone_sysmods_written zone rows is all.1)
 
   -- SYSMODs that ascend have keys of their own
-  later_differ : (zone : List ℕ) (row : ZoneRow) (rows : List ZoneRow) → IsId row.sysmod → AllByRecursion (λ (r : ZoneRow). IsId r.sysmod) rows
+  later_differ : (zone : List ℕ) (row : ZoneRow) (rows : List ZoneRow) → IsZoneRow row → AllByRecursion IsZoneRow rows
       → AllByRecursion (λ k. id_cmp row.sysmod k ≡ Less) (map (λ (r : ZoneRow). r.sysmod) rows)
       → AllByRecursion (λ other. take 3 (zone_row client zone row) ≢ take 3 other) (map (zone_row client zone) rows)
   later_differ zone row [] is all below = tt
@@ -272,11 +272,11 @@ module _ (client : List ℕ) (is_client : IsId client) where
       one : take 3 (zone_row client zone row) ≢ take 3 (zone_row client zone next)
       one same =
           let third : id_value row.sysmod ≡ id_value next.sysmod = ap (λ key. column key 2) same in
-          let e : Some row.sysmod ≡ Some next.sysmod = sym (id_again row.sysmod is) ∙ ap id_in third ∙ id_again next.sysmod all.0 in
+          let e : Some row.sysmod ≡ Some next.sysmod = sym (id_again row.sysmod is.sysmod) ∙ ap id_in third ∙ id_again next.sysmod all.0.sysmod in
           let k : row.sysmod ≡ next.sysmod = cc in
           let f : true ≡ false = sym (itself row.sysmod) ∙ ap (same_id row.sysmod) k ∙ apart row.sysmod next.sysmod below.0 in absurd (cc)
 
-  put_own : (zone : List ℕ) (rows : List ZoneRow) → AllByRecursion (λ (row : ZoneRow). IsId row.sysmod) rows → RowsAscend rows → HaveOwnKeys 3 (map (zone_row client zone) rows)
+  put_own : (zone : List ℕ) (rows : List ZoneRow) → AllByRecursion IsZoneRow rows → RowsAscend rows → HaveOwnKeys 3 (map (zone_row client zone) rows)
   unfolding IsStrictlySortedBy
   put_own zone [] all ascend = tt
   put_own zone (row ∷ rows) all ascend = (later_differ zone row rows all.0 all.1 ascend.0, put_own zone rows all.1 ascend.1)
@@ -289,12 +289,11 @@ module _ (client : List ℕ) (is_client : IsId client) where
   client_whole (publication changes) stored fit whole = whole
   client_whole (zone_put zone news) stored fit whole =
       rows_replaced (is_of_both client zone) (by_zone_sysmod client zone) (map (zone_row client zone) news) (record stored { heads = with_head client zone stored.heads })
-      (zone_sysmods_written zone news fit.0 fit.1.ids) (put_here zone news fit.0) (put_own zone news fit.1.ids fit.1.ascend) (headed zone stored fit.0 whole)
+      (zone_sysmods_written zone news fit.0 fit.1.each) (put_here zone news fit.0) (put_own zone news fit.1.each fit.1.ascend) (headed zone stored fit.0 whole)
   client_whole (zone_dropped zone) stored fit whole =
       rows_replaced (is_of_both client zone) (by_zone_sysmod client zone) [] (going head_table (is_of_both client zone) stored) tt tt tt
       (heads_replaced (is_of_both client zone) (by_zone client zone) [] stored tt tt tt whole)
-  client_whole (received_put ids) stored fit whole =
-      beside_whole stored.changes (replaced (is_of client) (received_row client ids ∷ []) stored.received) stored whole
+  client_whole (received_put ids) stored fit whole = beside_whole stored.changes (client_changed client (received_put ids) stored).received stored whole
   client_whole (patterns_put zone patterns) stored fit whole =
       heads_replaced (is_of_both client zone) (by_zone client zone) (head_row client zone patterns ∷ []) stored
       (head_written zone patterns fit.0 fit.1) (made_here client zone is_client fit.0 (drop 2 (head_row client zone patterns)), tt) (tt, tt) whole

@@ -21,9 +21,13 @@ use Rattle.bureau_store.specs.declared.caller.Caller.{Caller}
 use Rattle.bureau_store.specs.declared.caller.Caller.TheVariants.{Publisher, Client}
 use Rattle.bureau_store.specs.Effect.{Effect, publication, zone_put, zone_dropped, received_put, patterns_put}
 
+-- a row of a zone
+pub record IsZoneRow (row : ZoneRow) : Type 0 where
+  pub sysmod : IsId row.sysmod
+
 -- the rows of a zone
 pub record AreZoneRows (rows : List ZoneRow) : Type 0 where
-  pub ids : AllByRecursion (λ row. IsId row.sysmod) rows
+  pub each : AllByRecursion IsZoneRow rows
   pub ascend : RowsAscend rows
 
 abbrev pub AreIds : List (List ℕ) → Type 0

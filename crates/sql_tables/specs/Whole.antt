@@ -8,7 +8,7 @@ use Rattle.zone_lists.specs.declared.zones.ZoneRow.{ZoneRow}
 use Rattle.catalogue.specs.declared.conditional.CondNeed.{CondNeed}
 use Rattle.bureau_store.specs.declared.caller.CallerRow.{CallerRow}
 use Rattle.sqlite_value.specs.Order.{Row}
-use Rattle.sql_tables.specs.Fit.{IsCond, IsHold, IsRecord}
+use Rattle.sql_tables.specs.Fit.{IsCond, IsHold, IsRecord, IsZoneRow}
 use Rattle.sql_tables.specs.Rows.{caller_row, cond_row, head_row, hold_row, sup_row, sysmod_row, zone_row}
 use Rattle.sql_tables.specs.Stored.{Stored}
 
@@ -63,7 +63,7 @@ abbrev pub row_of_zone_sysmod : ZoneSysmod → Row
 row_of_zone_sysmod sysmod = zone_row sysmod.client sysmod.zone sysmod.row
 
 abbrev pub IsZoneSysmod : ZoneSysmod → Type 0
-IsZoneSysmod sysmod = IsId sysmod.client × IsId sysmod.zone × IsId sysmod.row.sysmod
+IsZoneSysmod sysmod = IsId sysmod.client × IsId sysmod.zone × IsZoneRow sysmod.row
 
 pub record IsWhole (stored : Stored) : Type 0 where
   pub callers : AreRowsOf caller_row (λ (caller : CallerRow). IsId caller.name) stored.callers

@@ -29,7 +29,7 @@ use Rattle.sql_texts.specs.Schema as schema
 use Rattle.sql_texts.specs.Schema.{bureau}
 use Rattle.sql_texts.specs.Writes.{delete_of}
 use Rattle.sql_tables.specs.Changes.{coming, going, replaced}
-use Rattle.sql_tables.specs.Fit.{AreIds, AreZoneRows, IsCond}
+use Rattle.sql_tables.specs.Fit.{AreIds, AreZoneRows, IsCond, IsZoneRow}
 use Rattle.sql_tables.specs.Rows.{cond_row, sup_row, zone_row}
 use Rattle.sql_tables.specs.Stored.{Stored, cond_table, is_named, is_of, is_of_both, of_table, row_table}
 use Rattle.sql_tables.specs.Values.{hold_kind_value, id_value}
@@ -119,7 +119,7 @@ pub next_row : (client zone : List ℕ) (rows : List ZoneRow) (i : ℕ) (row : Z
 next_row client zone rows i row are low at stored =
     gone_and_come (is_of_both client zone) (is_of_three client zone row.sysmod)
     (λ one h. of_two client zone row.sysmod one h) stored.rows (zone_row client zone) (take i rows) (λ other here h.
-    let same = named other.sysmod row.sysmod (all_has (λ r. IsId r.sysmod) rows other are.ids (taken_has i rows other here)) (and_parts _ _ (and_parts _ _ h).1).1 in
+    let same = named other.sysmod row.sysmod (all_has IsZoneRow rows other are.each (taken_has i rows other here)).sysmod (and_parts _ _ (and_parts _ _ h).1).1 in
     none_before (λ a b. id_cmp a.sysmod b.sysmod) rows (ascend_so id_cmp (λ (r : ZoneRow). r.sysmod) rows are.ascend) i row low at other here (same_order other.sysmod row.sysmod same))
 
 -- ---- where those of a key went, a list in order is new

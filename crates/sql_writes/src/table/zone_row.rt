@@ -38,7 +38,7 @@ impl Leaves<Zone> for ZoneRows {
 
 impl Several<Zone> for ZoneRows {
     ghost use Rattle.std.specs.Prelude.{◌<◌, ◌≤◌, ◌∷◌, [], false, refl, true};
-    ghost use Rattle.mcs_reader.specs.Id.{IsId};
+    ghost use Rattle.sql_tables.specs.Fit.{IsZoneRow};
     ghost use Rattle.sql_tables.specs.Rows as spec;
     ghost use Rattle.sql_tables.specs.Values.{id_value, state_order, state_value};
     ghost use Rattle.sql_rows.specs.Parts.{is_of_three};
@@ -56,7 +56,7 @@ impl Several<Zone> for ZoneRows {
 
     ghost row_of = { λ key row. spec.zone_row key.client key.zone row };
 
-    ghost is_fit = { λ row. IsId row.sysmod };
+    ghost is_fit = { IsZoneRow };
 
     ghost is_short = { λ row. Unit {0} };
 
@@ -91,11 +91,11 @@ impl Several<Zone> for ZoneRows {
     ghost fits = { λ key row is here short. row_fits schema.zone_row (7 ∷ 7 ∷ 7 ∷ 0 ∷ [])
         (spec.zone_row key.client key.zone row) refl (λ n. refl)
         (λ n. up_to_passes (state_order row.state) 2 (state_low row.state))
-        (few key.client is.0, (few key.zone is.1, (few row.sysmod here, (tt, tt)))) };
+        (few key.client is.0, (few key.zone is.1, (few row.sysmod here.sysmod, (tt, tt)))) };
 
     ghost unique = { λ db others key row is here none. unique_by schema.zone_row db others
         key.client (key.zone ∷ row.sysmod ∷ []) (spec.zone_row key.client key.zone row) refl
-        ((is.0, refl), ((is.1, refl), ((here, refl), tt))) none };
+        ((is.0, refl), ((is.1, refl), ((here.sysmod, refl), tt))) none };
 
     ghost referred = { elim [ true ↦ refl | false ↦ refl ] };
 }
