@@ -9,8 +9,8 @@
 //! - [`ids`], [`sysmod`], [`superseders`], [`holds_on`], [`counts`]: what is published
 //! - [`seen`], [`is_run`]: the records and holds of many SYSMODs at once
 //! - [`each_zone`], [`names_ascend`]: what the rows of a client's zones say
-//! - [`columns_of_tables`], [`columns_of_conditions`]: the texts by which it is seen whether the tables are there, each of
-//!   them that of its table ([`AllColumns`])
+//! - [`AllColumns`]: the text that shows all columns of a table
+//! - [`columns_of_tables`], [`columns_of_conditions`]: those by which it is seen whether the tables are there
 //! - [`rows_of`]: what any text that reads the tables finds
 //! - [`each`], [`entries`]: what its rows say, each an [`Entry`]; [`are_ascending`]: whether these are in order
 //! - [`ReadFault`]: why a read is refused
