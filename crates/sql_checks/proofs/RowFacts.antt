@@ -18,7 +18,8 @@ use Rattle.sql_tables.specs.Rows.{caller_row, hold_found, hold_row, hold_with, k
 use Rattle.sql_tables.specs.Stored.{shown}
 use Rattle.sql_tables.specs.Values.{categories_in, date_in, hold_kind_in, id_in, id_value, optional_id_in, state_in, sysmod_kind_in, text_in}
 use Rattle.sql_tables.specs.Whole.{Head, IsCondition, IsHead, IsMember, IsZoneSysmod, Listed, ZoneSysmod, condition_row, member_row, row_of_head, row_of_zone_sysmod}
-use Rattle.sql_checks.specs.Kept.{KeepsTo, indices_in, table_of}
+use Rattle.sql_reads.specs.Columns.{indices_of}
+use Rattle.sql_checks.specs.Kept.{KeepsTo, table_of}
 use Rattle.sql_checks.specs.Known.{IsIdColumn, is_any_text}
 use Rattle.sql_checks.specs.declared.table.StoreTable.{StoreTable}
 use Rattle.sql_checks.specs.declared.table.StoreTable.TheVariants as table
@@ -62,7 +63,7 @@ each_column (value ∷ row) = cons refl (each_column row ∙ sym (further value 
 abbrev pub IsFull : StoreTable → Row → Type 0
 IsFull which row = length row ≡ length (table_of which).columns
 
-all_columns : (which : StoreTable) (row : Row) → IsFull which row → row ≡ shown (indices_in which) row
+all_columns : (which : StoreTable) (row : Row) → IsFull which row → row ≡ shown (indices_of (table_of which)) row
 all_columns which row full = subst (λ many. row ≡ shown (range_with_len 0 many) row) full (each_column row)
 
 -- ---- what a row is of

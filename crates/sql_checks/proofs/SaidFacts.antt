@@ -18,7 +18,7 @@ use Rattle.zone_lists.specs.declared.zones.ZoneState.TheVariants.{Applied, Accep
 use Rattle.sqlite_value.specs.declared.value.Value.{Value}
 use Rattle.sqlite_value.specs.declared.value.Value.TheVariants.{Null, Int, Real, Text, Blob}
 use Rattle.sql_tables.specs.Fit.{AreIds}
-use Rattle.sql_tables.specs.Values.{bytes_in, categories_in, categories_of, date_in, date_value, hold_kind_in, hold_kind_value, id_in, id_value, ids_in, ids_of, ids_value, number_in, optional_id_in, optional_id_value, parts_of, patterns_in, patterns_of, state_in, state_value, sysmod_kind_in, sysmod_kind_value, texts_in, texts_value, with_number}
+use Rattle.sql_tables.specs.Values.{categories_in, categories_of, date_in, date_value, hold_kind_in, hold_kind_value, id_in, id_value, ids_in, ids_of, ids_value, number_in, optional_id_in, optional_id_value, parts_of, patterns_in, patterns_of, state_in, state_value, sysmod_kind_in, sysmod_kind_value, texts_in, texts_value, with_number}
 use Rattle.sql_state.proofs.TextFacts.{text_again}
 
 -- ---- ids
@@ -64,13 +64,6 @@ number_said (Text t) n h = cc
 number_said (Blob b) n h = cc
 number_said (Real x) n h = cc
 number_said Null n h = cc
-
-pub bytes_said : (value : Value) (bytes : List ℕ) → bytes_in value ≡ Some bytes → value ≡ Blob bytes
-bytes_said (Blob b) bytes h = let same : b ≡ bytes = cc in ap Blob same
-bytes_said (Text t) bytes h = cc
-bytes_said (Int n) bytes h = cc
-bytes_said (Real x) bytes h = cc
-bytes_said Null bytes h = cc
 
 -- where each entry has the number of its value, so has the one that is found by a number
 borne : {X : Type 0} (value_of : X → Value) (entries : List (ℕ × X)) → AllByRecursion (λ entry. Int (pos entry.0) ≡ value_of entry.1) entries → (n : ℕ) (x : X)

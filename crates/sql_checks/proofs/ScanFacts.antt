@@ -13,8 +13,9 @@ use Rattle.sqlite.specs.Tree.{Trees}
 use Rattle.sqlite_value.specs.Order.{Row, column}
 use Rattle.sqlite_value.specs.declared.value.Value.TheVariants.{Int}
 use Rattle.sql_reads.specs.Answering.{Answers}
+use Rattle.sql_reads.specs.Columns.{indices_of}
 use Rattle.sql_reads.specs.Version.{version_in}
-use Rattle.sql_state.proofs.StopFacts.{no_read, read_on, was_clean}
+use Rattle.sql_state.proofs.StopFacts.{read_on, was_clean}
 use Rattle.sql_state.specs.Ours.{held_by}
 use Rattle.sql_tables.proofs.TreeFacts.{shown_after}
 use Rattle.sql_tables.specs.InTrees.{columns_of, stored_in}
@@ -32,7 +33,7 @@ use Rattle.sql_checks.specs.Checked.{Finds, IsFound, IsRowSeen, IsSeen, Looks, T
 use Rattle.sql_checks.specs.declared.checking.Finding.{Finding}
 use Rattle.sql_checks.specs.declared.checking.Finding.TheVariants.{Whole, OtherTables, OtherVersion, WrongRow}
 use Rattle.sql_checks.specs.Kept.{KeepTo}
-use Rattle.sql_checks.specs.Known.{AllKeep, Known, indices_of, names_of, query_of}
+use Rattle.sql_checks.specs.Known.{AllKeep, Known, names_of, query_of}
 use Rattle.sql_checks.specs.declared.table.StoreTable.{StoreTable}
 
 -- ---- one look after another
@@ -61,10 +62,6 @@ look_on old mid new a (Ok b) First Second Fact first second step = record {
 }
 look_on old mid new a (Err e) First Second Fact first second step = record { reads = read_on old mid new first.reads second.reads; is_open = tt; told = tt }
 
--- of no table
-pub none_wrong : {Fault : Type 0} (at : State) → Looks {Answer = Option StoreTable} {Fault = Fault} at at (Ok None) (λ database found. WrongIn [] (held_by database) found)
-none_wrong at = record { reads = no_read at; is_open = λ clean is_open. is_open; told = λ clean is_open has. tt }
-
 -- ---- all rows of a table
 
 all_there : (P : Row → Type 0) (xs ys : List Row) → IsPermutation xs ys → AllByRecursion P xs → AllByRecursion P ys
@@ -75,24 +72,24 @@ every [] = refl
 every (row ∷ rows) = ap (λ others. row ∷ others) (every rows)
 
 -- A row keeps to a table just where its columns do, as they are shown; and its rows are those of its tree.
-module _ (known : Known) (as_shown : (row : Row) → known.Keeps (shown (indices_of known) row) ↔ known.Keeps row)
+module _ (known : Known) (as_shown : (row : Row) → known.Keeps (shown (indices_of known.table) row) ↔ known.Keeps row)
     (here : (trees : Trees) → columns_of (trees known.table.tree) ≡ known.rows (stored_in trees)) where
-  shown_keep : (rows : List Row) → AllByRecursion known.Keeps (map (shown (map suc (indices_of known))) rows) → AllByRecursion known.Keeps (columns_of rows)
+  shown_keep : (rows : List Row) → AllByRecursion known.Keeps (map (shown (map suc (indices_of known.table))) rows) → AllByRecursion known.Keeps (columns_of rows)
   shown_keep [] all = tt
-  shown_keep (row ∷ rows) all = ((as_shown (drop 1 row)).0 (subst known.Keeps (sym (shown_after (indices_of known) row)) all.0), shown_keep rows all.1)
+  shown_keep (row ∷ rows) all = ((as_shown (drop 1 row)).0 (subst known.Keeps (sym (shown_after (indices_of known.table) row)) all.0), shown_keep rows all.1)
 
-  keep_shown : (rows : List Row) → AllByRecursion known.Keeps (columns_of rows) → AllByRecursion known.Keeps (map (shown (map suc (indices_of known))) rows)
+  keep_shown : (rows : List Row) → AllByRecursion known.Keeps (columns_of rows) → AllByRecursion known.Keeps (map (shown (map suc (indices_of known.table))) rows)
   keep_shown [] all = tt
-  keep_shown (row ∷ rows) all = (subst known.Keeps (shown_after (indices_of known) row) ((as_shown (drop 1 row)).1 all.0), keep_shown rows all.1)
+  keep_shown (row ∷ rows) all = (subst known.Keeps (shown_after (indices_of known.table) row) ((as_shown (drop 1 row)).1 all.0), keep_shown rows all.1)
 
   all_keep : (trees : Trees) (rows : List Row) → IsAnswer (query_of known) trees [] rows → AllByRecursion known.Keeps rows ↔ AllKeep known (stored_in trees)
   all_keep trees rows answer =
       let tree = known.table.tree in
-      let there : IsPermutation (map (shown (map suc (indices_of known))) (trees tree)) rows =
-      subst (λ kept. IsPermutation (map (shown (map suc (indices_of known))) kept) rows) (every (trees tree)) (table_answer tree [] (map suc (indices_of known)) [] trees [] rows answer) in (
+      let there : IsPermutation (map (shown (map suc (indices_of known.table))) (trees tree)) rows =
+      subst (λ kept. IsPermutation (map (shown (map suc (indices_of known.table))) kept) rows) (every (trees tree)) (table_answer tree [] (map suc (indices_of known.table)) [] trees [] rows answer) in (
         λ all. subst (AllByRecursion known.Keeps) (here trees)
-            (shown_keep (trees tree) (all_there known.Keeps rows (map (shown (map suc (indices_of known))) (trees tree)) (IsPermutation-sym _ rows there) all)),
-        λ all. all_there known.Keeps (map (shown (map suc (indices_of known))) (trees tree)) rows there
+            (shown_keep (trees tree) (all_there known.Keeps rows (map (shown (map suc (indices_of known.table))) (trees tree)) (IsPermutation-sym _ rows there) all)),
+        λ all. all_there known.Keeps (map (shown (map suc (indices_of known.table))) (trees tree)) rows there
             (keep_shown (trees tree) (subst (AllByRecursion known.Keeps) (sym (here trees)) all)),
       )
 
@@ -175,9 +172,3 @@ found_so old new (Ok finding) look has obeys = record {
   told = λ clean is_open. seen_found old.committed (obeys is_open) (has is_open) finding (look.told clean is_open (has is_open));
 }
 found_so old new (Err e) look has obeys = record { reads = look.reads; is_open = tt; told = tt }
-
-pub other_tables : {Fault : Type 0} (at : State) → (IsTrue at.is_open → at.committed.schema ≡ bureau → ⊥) → Finds {Answer = Finding} {Fault = Fault} at at (Ok OtherTables) IsFound
-other_tables at other = record { reads = no_read at; is_open = λ clean is_open. is_open; told = λ clean is_open. other is_open }
-
-pub no_finding : {Fault : Type 0} (at : State) (e : Fault) → Finds {Answer = Finding} {Fault = Fault} at at (Err e) IsFound
-no_finding at e = record { reads = no_read at; is_open = tt; told = tt }

@@ -1,12 +1,10 @@
 -- What each row of a store keeps to, so that it is one that the bureau writes, and that a read takes. Each table's file in `src/table/`
 -- says what stands in the columns of its rows (`known`).
 use Rattle.std.specs.Prelude.{ℕ, List}
-use Rattle.std.specs.List.{AllByRecursion}
-use Rattle.sqlite.specs.Query.{Query}
 use Rattle.sqlite.specs.Table.{Table}
 use Rattle.sqlite_value.specs.Order.{Row}
 use Rattle.sql_tables.specs.Stored.{Stored}
-use Rattle.sql_checks.specs.Known.{AllKeep, Known, indices_of, names_of, query_of}
+use Rattle.sql_checks.specs.Known.{AllKeep, Known}
 use Rattle.sql_checks.specs.contracts.table.StoreTableListed.TheImpl.{known-value}
 use Rattle.sql_checks.specs.declared.table.StoreTable.{StoreTable}
 
@@ -19,20 +17,6 @@ table_of table = (known_of table).table
 
 abbrev pub table_name : StoreTable → List ℕ
 table_name table = (table_of table).name
-
-abbrev pub rows_in : StoreTable → Stored → List Row
-rows_in table = (known_of table).rows
-
--- its columns, from 0 on
-abbrev pub indices_in : StoreTable → List ℕ
-indices_in table = indices_of (known_of table)
-
-abbrev pub names_in : StoreTable → List (List ℕ)
-names_in table = names_of (known_of table)
-
--- the query of all its rows, with all columns
-abbrev pub all_of : StoreTable → Query
-all_of table = query_of (known_of table)
 
 -- ---- what the rows keep to
 

@@ -1,6 +1,6 @@
 -- What stands in the columns of a row, and what is known of a table: the file of each table has that of its own.
-use Rattle.std.specs.Prelude.{◌≡◌, ℕ, suc, Bool, true, false, List, [], length, map, IsSome, Some}
-use Rattle.std.specs.List.{AllByRecursion, range_with_len}
+use Rattle.std.specs.Prelude.{◌≡◌, ℕ, Bool, true, false, List, IsSome, Some}
+use Rattle.std.specs.List.{AllByRecursion}
 use Rattle.bureau_store.specs.Tables.{PatternsAscend}
 use Rattle.catalogue.specs.Ids.{Ascend}
 use Rattle.sqlite.specs.Query.{Query}
@@ -10,8 +10,8 @@ use Rattle.sqlite_value.specs.declared.value.Value.{Value}
 use Rattle.sqlite_value.specs.declared.value.Value.TheVariants.{Null, Int, Real, Text, Blob}
 use Rattle.sql_tables.specs.Stored.{Stored}
 use Rattle.sql_tables.specs.Values.{id_in, ids_in, patterns_in}
-use Rattle.sql_texts.specs.Reads.{from_table}
 use Rattle.sql_texts.specs.Schema.{columns_of}
+use Rattle.sql_reads.specs.Columns.{all_of}
 
 -- ---- what stands in a column
 
@@ -43,16 +43,13 @@ pub record Known : Type 1 where
   -- what each of them keeps to
   pub Keeps : Row → Type 0
 
--- its columns, from 0 on
-abbrev pub indices_of : Known → List ℕ
-indices_of known = range_with_len 0 (length known.table.columns)
-
+-- the names of its columns
 abbrev pub names_of : Known → List (List ℕ)
 names_of known = columns_of known.table
 
 -- the query of all its rows, with all columns
 abbrev pub query_of : Known → Query
-query_of known = from_table known.table.tree [] (map suc (indices_of known)) []
+query_of known = all_of known.table
 
 -- all its rows keep to it
 abbrev pub AllKeep : Known → Stored → Type 0

@@ -3,11 +3,8 @@ ghost use Rattle.std.specs.Prelude.{◌≡◌, false, length, map, sum_by, IfErr
 ghost use Rattle.std.specs.List.Sorted.{IsPermutation};
 ghost use Rattle.bureau_store.specs.Caller.{caller_named};
 ghost use Rattle.bureau_store.specs.Tables.{NamesAscend};
-ghost use Rattle.mcs_reader.specs.Id.{IsId, text_of};
 ghost use Rattle.sqlite.specs.Held.{state};
 ghost use Rattle.sqlite.specs.State.{HasCleanDisk};
-ghost use Rattle.sqlite_value.specs.Value.{owned};
-ghost use Rattle.sqlite_value.specs.declared.value.Value.TheVariants.{Text};
 ghost use Rattle.sql_checks.specs.Tally.{tally_of};
 ghost use Rattle.sql_state.specs.Reading.{Finds};
 ghost use Rattle.sql_tables.specs.Stored.{tables_of};
@@ -17,8 +14,8 @@ use crate::{CallerTally, said};
 use bureau_store::CallerRow;
 use mcs_reader::Id;
 use sql_reads::{ReadFault, rows_of};
+use sql_rows::id_of;
 use sql_texts::read;
-use sqlite::types::ValueRef;
 use sqlite::{Alter, Connection};
 use std::alloc::Global;
 
@@ -166,12 +163,4 @@ fn zones<S: Alter>(
         Ok(rows) => said::zones(alloc, rows.as_slice()),
         Err(fault) => Err(fault),
     }
-}
-
-// An id, as its text.
-fn id_of(id: &Id) -> ValueRef<'_>
-    ensures value { owned result ≡ Text (text_of id.now) }
-    ensures is_id { IsId id.now }
-{
-    ValueRef::Text(id.as_bytes())
 }

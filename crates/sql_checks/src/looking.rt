@@ -22,7 +22,7 @@ pub(crate) fn rows_keep<T: Checked, S: Alter>(
     ensures mode { conn.new.in_transaction ≡ false }
     ensures looked { IsLooked T.known (state S.Store conn.old) (state S.Store conn.new) result }
 {
-    match rows_of(conn, T::text(), &[]) {
+    match rows_of(conn, T::all_columns(), &[]) {
         Ok(rows) => all_keep::<T>(alloc, rows.as_slice()),
         Err(fault) => Err(fault),
     }

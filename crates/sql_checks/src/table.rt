@@ -17,18 +17,10 @@ mod zone_row;
 use crate::checked::{Checked, Listed};
 use crate::looking::rows_keep;
 use crate::shapes::{IndexShape, TableShape};
-use caller::Callers;
-use hold_row::HoldRows;
-use last_change::LastChanges;
-use received_list::ReceivedLists;
 use sql_reads::ReadFault;
+use sql_rows::{Callers, Conds, Heads, Holds, LastChanges, Received, Sups, Sysmods, ZoneRows};
 use sqlite::{Alter, Connection};
 use std::alloc::Global;
-use sysmod::Sysmods;
-use sysmod_cond::SysmodConds;
-use sysmod_sup::SysmodSups;
-use zone_head::ZoneHeads;
-use zone_row::ZoneRows;
 
 /// A table of a store, apart from that of the version.
 #[derive(Clone, Copy, Debug, PartialEq, Eq)]
@@ -73,12 +65,12 @@ impl Listed for StoreTable {
       | Caller ↦ ⟦<Callers as Checked>⟧.known
       | LastChange ↦ ⟦<LastChanges as Checked>⟧.known
       | Sysmod ↦ ⟦<Sysmods as Checked>⟧.known
-      | SysmodSup ↦ ⟦<SysmodSups as Checked>⟧.known
-      | SysmodCond ↦ ⟦<SysmodConds as Checked>⟧.known
-      | HoldRow ↦ ⟦<HoldRows as Checked>⟧.known
-      | ZoneHead ↦ ⟦<ZoneHeads as Checked>⟧.known
+      | SysmodSup ↦ ⟦<Sups as Checked>⟧.known
+      | SysmodCond ↦ ⟦<Conds as Checked>⟧.known
+      | HoldRow ↦ ⟦<Holds as Checked>⟧.known
+      | ZoneHead ↦ ⟦<Heads as Checked>⟧.known
       | ZoneRow ↦ ⟦<ZoneRows as Checked>⟧.known
-      | ReceivedList ↦ ⟦<ReceivedLists as Checked>⟧.known
+      | ReceivedList ↦ ⟦<Received as Checked>⟧.known
     ] };
 }
 
@@ -132,12 +124,12 @@ impl StoreTable {
             StoreTable::Caller => rows_keep::<Callers, S>(alloc, conn),
             StoreTable::LastChange => rows_keep::<LastChanges, S>(alloc, conn),
             StoreTable::Sysmod => rows_keep::<Sysmods, S>(alloc, conn),
-            StoreTable::SysmodSup => rows_keep::<SysmodSups, S>(alloc, conn),
-            StoreTable::SysmodCond => rows_keep::<SysmodConds, S>(alloc, conn),
-            StoreTable::HoldRow => rows_keep::<HoldRows, S>(alloc, conn),
-            StoreTable::ZoneHead => rows_keep::<ZoneHeads, S>(alloc, conn),
+            StoreTable::SysmodSup => rows_keep::<Sups, S>(alloc, conn),
+            StoreTable::SysmodCond => rows_keep::<Conds, S>(alloc, conn),
+            StoreTable::HoldRow => rows_keep::<Holds, S>(alloc, conn),
+            StoreTable::ZoneHead => rows_keep::<Heads, S>(alloc, conn),
             StoreTable::ZoneRow => rows_keep::<ZoneRows, S>(alloc, conn),
-            StoreTable::ReceivedList => rows_keep::<ReceivedLists, S>(alloc, conn),
+            StoreTable::ReceivedList => rows_keep::<Received, S>(alloc, conn),
         }
     }
 }
@@ -151,12 +143,12 @@ pub(crate) fn tables() -> [TableShape; 10]
         Callers::shape(),
         LastChanges::shape(),
         Sysmods::shape(),
-        SysmodSups::shape(),
-        HoldRows::shape(),
-        ZoneHeads::shape(),
+        Sups::shape(),
+        Holds::shape(),
+        Heads::shape(),
         ZoneRows::shape(),
-        ReceivedLists::shape(),
-        SysmodConds::shape(),
+        Received::shape(),
+        Conds::shape(),
     ]
 }
 

@@ -45,14 +45,6 @@ zone_both stored client zone found rows said is same =
     by true at = ap Some same ∙ sym (ap (option_map (λ (table : ZoneTable). table.rows)) at)
     by false at = let e : true ≡ false = sym is ∙ said ∙ ap is_some at in cc
 
-pub zone_none : (stored : Stored) (client zone : List ℕ) (found : Bool) → found ≡ is_some (zone_named zone ((tables_of stored).zones client)) → found ≡ false
-    → ◌≡◌ {A = Option (List ZoneRow)} None (option_map (λ (table : ZoneTable). table.rows) (zone_named zone ((tables_of stored).zones client)))
-zone_none stored client zone found said is = by (zone_named zone ((tables_of stored).zones client)) (sym is ∙ said)
-  where
-    by : (o : Option ZoneTable) → false ≡ is_some o → ◌≡◌ {A = Option (List ZoneRow)} None (option_map (λ (table : ZoneTable). table.rows) o)
-    by None h = refl
-    by (Some table) h = cc
-
 -- ---- one row
 
 -- what the one row says, or else something that is there without it

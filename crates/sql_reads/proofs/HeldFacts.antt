@@ -164,7 +164,7 @@ module _ (trees : Trees) (client zone : List ℕ) (kind : Kind) (is_client : IsI
   tests = read.same (col 2 1) (col 1 3) ∷ read.is_given 1 0 ∷ read.is_given 2 1 ∷ op2 (Compare Lt Binary) (col 1 4) (lit (Int (pos 2))) ∷ read.same (col 2 2) (col 0 2) ∷ []
 
   abbrev project : List Term
-  project = map (col 2) (1 ∷ 2 ∷ 3 ∷ 4 ∷ 5 ∷ 6 ∷ 7 ∷ 8 ∷ [])
+  project = read.held_in.project
 
   abbrev all_tests : Bool → Bool → Bool → Bool → Bool → Bool
   all_tests a b c d e = a && (b && (c && (d && (e && true))))

@@ -25,7 +25,9 @@ use Rattle.sql_tables.proofs.RecordFacts.{all_ids_read, no_record, one_record}
 use Rattle.sql_tables.proofs.RowFacts.{hold_own, sysmod_again}
 use Rattle.sql_tables.proofs.ValueFacts.{id_again}
 use Rattle.sql_texts.specs.Found.{shown}
+use Rattle.sql_texts.specs.Schema as schema
 use Rattle.sql_reads.specs.Answering.{one_of}
+use Rattle.sql_reads.specs.Columns.{indices_of}
 use Rattle.sql_reads.proofs.ClientFacts.{table_said}
 use Rattle.sql_reads.proofs.MemberFacts.{filtered, read_from}
 use Rattle.sql_reads.proofs.TableFacts.{filter_true, one_case, one_passes}
@@ -46,10 +48,10 @@ sysmods_ids beside (row ∷ rows) all =
         ∙ sysmod_again (beside it.0.id) it.0 it.1
 
 -- the rows that are shown of an id say its record
-pub sysmod_shown : (stored : Stored) (id : List ℕ) (rows : List Row) → IsPermutation (map (shown (0 ∷ 1 ∷ 2 ∷ 3 ∷ 4 ∷ [])) (filter (is_of id) stored.sysmods)) rows → (found : Option Sysmod)
+pub sysmod_shown : (stored : Stored) (id : List ℕ) (rows : List Row) → IsPermutation (map (shown (indices_of schema.sysmod)) (filter (is_of id) stored.sysmods)) rows → (found : Option Sysmod)
     → one_of (sysmod_found (beside_of stored id)) rows ≡ Some found → found ≡ record_of (tables_of stored).content id
 sysmod_shown stored id rows permuted found said =
-    elim (one_case (sysmod_found (beside_of stored id)) (shown (0 ∷ 1 ∷ 2 ∷ 3 ∷ 4 ∷ [])) (filter (is_of id) stored.sysmods) rows found permuted said) [
+    elim (one_case (sysmod_found (beside_of stored id)) (shown (indices_of schema.sysmod)) (filter (is_of id) stored.sysmods) rows found permuted said) [
       | inl none ↦ none.1 ∙ sym (no_record stored id none.0)
       | inr its ↦ its.4 ∙ sym (one_record stored id its.0 its.2 its.1 (one_passes (is_of id) stored.sysmods its.0 its.1) its.3)
     ]
@@ -87,12 +89,12 @@ hold_of id row hold h =
 
 -- the rows that are shown of an id say the holds on it
 pub holds_shown : (stored : Stored) (id : List ℕ) (rows : List Row) (found : List Hold) → IsInKeyOrder found
-    → IsPermutation (map (shown (0 ∷ 1 ∷ 2 ∷ 3 ∷ 4 ∷ 5 ∷ 6 ∷ 7 ∷ [])) (filter (is_of id) stored.holds)) rows → map Some found ≡ map hold_found rows → found ≡ holds_on (tables_of stored).content id
+    → IsPermutation (map (shown (indices_of schema.hold_row)) (filter (is_of id) stored.holds)) rows → map Some found ≡ map hold_found rows → found ≡ holds_on (tables_of stored).content id
 holds_shown stored id rows found ordered shows said =
     holds_read (filter_map hold_found stored.holds) found (λ key. same_id id key.sysmod) ordered there back
   where
     permuted : IsPermutation (filter_map hold_found (filter (is_of id) stored.holds)) found
-    permuted = table_said hold_found (shown (0 ∷ 1 ∷ 2 ∷ 3 ∷ 4 ∷ 5 ∷ 6 ∷ 7 ∷ [])) (filter (is_of id) stored.holds) rows found shows said
+    permuted = table_said hold_found (shown (indices_of schema.hold_row)) (filter (is_of id) stored.holds) rows found shows said
 
     there : (hold : Hold) → Contains found hold → Contains (filter_map hold_found stored.holds) hold × (same_id id hold.key.sysmod ≡ true)
     there hold inside =

@@ -1,5 +1,5 @@
 -- The texts by which it is seen whether the tables are there.
-use Rattle.std.specs.Prelude.{ℕ, List, [], ◌∷◌, drop, length}
+use Rattle.std.specs.Prelude.{ℕ, suc, List, [], ◌∷◌, drop, length, map}
 use Rattle.std.specs.Borrow.{Bor}
 use Rattle.std.specs.List.{range_with_len}
 use Rattle.sqlite.specs.Query.{Query}
@@ -13,9 +13,13 @@ use Rattle.sql_texts.specs.Schema.{bureau_1, columns_of}
 abbrev pub tables_of_version_1 : List Table
 tables_of_version_1 = drop 1 bureau_1.tables
 
+-- the columns of a table, from 0 on
+abbrev pub indices_of : Table → List ℕ
+indices_of table = range_with_len 0 (length table.columns)
+
 -- the query of all rows of a table, with all its columns
 abbrev pub all_of : Table → Query
-all_of table = from_table table.tree [] (range_with_len 1 (length table.columns)) []
+all_of table = from_table table.tree [] (map suc (indices_of table)) []
 
 -- under this schema the text shows all columns of a table
 abbrev pub ShowsAll : Schema → Table → List ℕ → Type 0

@@ -22,7 +22,9 @@ use Rattle.sql_tables.specs.Rows.{Beside, cond_found, hold_found, sysmod_found}
 use Rattle.sql_tables.specs.Stored.{Stored, is_of, shown}
 use Rattle.sql_tables.specs.Values.{id_in, text_in}
 use Rattle.sql_texts.specs.Reads.{from_table}
+use Rattle.sql_texts.specs.Schema as schema
 use Rattle.sql_reads.specs.Answering.{one_of}
+use Rattle.sql_reads.specs.Columns.{indices_of}
 use Rattle.sql_reads.specs.declared.many.Part.{Part}
 
 -- ---- what is asked
@@ -61,10 +63,10 @@ FindsBetween columns place first last stored rows =
 
 -- the same of each table that says something of a SYSMOD
 pub record FindRows (first last : List ℕ) (stored : Stored) (records sups conds holds : List Row) : Type 0 where
-  pub of_records : FindsBetween (0 ∷ 1 ∷ 2 ∷ 3 ∷ 4 ∷ []) 0 first last stored.sysmods records
+  pub of_records : FindsBetween (indices_of schema.sysmod) 0 first last stored.sysmods records
   pub of_sups : FindsBetween (1 ∷ 0 ∷ []) 1 first last stored.sups sups
   pub of_conds : FindsBetween (1 ∷ 2 ∷ 0 ∷ []) 2 first last stored.conds conds
-  pub of_holds : FindsBetween (0 ∷ 1 ∷ 2 ∷ 3 ∷ 4 ∷ 5 ∷ 6 ∷ 7 ∷ []) 0 first last stored.holds holds
+  pub of_holds : FindsBetween (indices_of schema.hold_row) 0 first last stored.holds holds
 
 -- ---- cut up by the ids
 

@@ -9,7 +9,8 @@
 //! - [`ids`], [`sysmod`], [`superseders`], [`holds_on`], [`counts`]: what is published
 //! - [`seen`], [`is_run`]: the records and holds of many SYSMODs at once
 //! - [`each_zone`], [`names_ascend`]: what the rows of a client's zones say
-//! - [`columns_of_tables`], [`columns_of_conditions`]: the texts by which it is seen whether the tables are there
+//! - [`AllColumns`]: the text that shows all columns of a table
+//! - [`columns_of_tables`], [`columns_of_conditions`]: those by which it is seen whether the tables are there
 //! - [`rows_of`]: what any text that reads the tables finds
 //! - [`each`], [`entries`]: what its rows say, each an [`Entry`]; [`are_ascending`]: whether these are in order
 //! - [`ReadFault`]: why a read is refused
@@ -17,6 +18,7 @@
 //! A contract says by `Finds` of `sql_state` what a read tells and what it leaves.
 #![tactic(auto)]
 
+mod all_columns;
 mod counted;
 mod cut;
 mod entry;
@@ -33,6 +35,7 @@ mod table;
 mod tables_version;
 mod zone_counts;
 
+pub use all_columns::AllColumns;
 pub use counted::{counts, zone_count};
 pub use entry::{Entry, Ordered, are_ascending, each, entries};
 pub use fault::ReadFault;

@@ -12,6 +12,9 @@ pub(crate) mod sysmod_sup;
 pub(crate) mod zone_head;
 pub(crate) mod zone_row;
 
+use crate::all_columns::AllColumns;
+use sql_rows::{Callers, Conds, Heads, Holds, LastChanges, Received, Sups, Sysmods, ZoneRows};
+
 /// Of each table of version 1, apart from that of the version itself, the text that shows all its columns. In a file of either
 /// version it means the same.
 pub fn columns_of_tables() -> [&'static str; 8]
@@ -19,14 +22,14 @@ pub fn columns_of_tables() -> [&'static str; 8]
     ensures version_1 { ShowEach schema.bureau_1 tables_of_version_1 result }
 {
     [
-        caller::all_columns(),
-        last_change::all_columns(),
-        sysmod::all_columns(),
-        sysmod_sup::all_columns(),
-        hold_row::all_columns(),
-        zone_head::all_columns(),
-        zone_row::all_columns(),
-        received_list::all_columns(),
+        Callers::all_columns(),
+        LastChanges::all_columns(),
+        Sysmods::all_columns(),
+        Sups::all_columns(),
+        Holds::all_columns(),
+        Heads::all_columns(),
+        ZoneRows::all_columns(),
+        Received::all_columns(),
     ]
 }
 
@@ -34,5 +37,5 @@ pub fn columns_of_tables() -> [&'static str; 8]
 pub fn columns_of_conditions() -> &'static str
     ensures { ShowsAll schema.bureau schema.sysmod_cond result.now }
 {
-    sysmod_cond::all_columns()
+    Conds::all_columns()
 }

@@ -1,9 +1,8 @@
-//! The tables: where each stands in the schema and in the store. The columns of each are in `specs/Schema.antt` of
-//! `sql_texts`.
+//! The tables: where each stands in the schema and in the store. The schema of `sql_texts` names their columns.
 
 use crate::Table;
 
-/// The callers with their tokens.
+/// `caller`: the callers with their tokens.
 pub enum Callers {}
 
 impl Table for Callers {
@@ -22,7 +21,7 @@ impl Table for Callers {
     ghost stands = { stands_by _ _ _ _ refl };
 }
 
-/// The last changes of callers, each with the reply that is kept for it.
+/// `last_change`: the last changes of callers.
 pub enum LastChanges {}
 
 impl Table for LastChanges {
@@ -41,7 +40,7 @@ impl Table for LastChanges {
     ghost stands = { stands_by _ _ _ _ refl };
 }
 
-/// Records, without what they supersede and require under a condition.
+/// `sysmod`: records, without what they supersede and require under a condition.
 pub enum Sysmods {}
 
 impl Table for Sysmods {
@@ -60,7 +59,7 @@ impl Table for Sysmods {
     ghost stands = { stands_by _ _ _ _ refl };
 }
 
-/// What records supersede.
+/// `sysmod_sup`: what records supersede.
 pub enum Sups {}
 
 impl Table for Sups {
@@ -79,7 +78,7 @@ impl Table for Sups {
     ghost stands = { stands_by _ _ _ _ refl };
 }
 
-/// The holds.
+/// `hold_row`: the holds.
 pub enum Holds {}
 
 impl Table for Holds {
@@ -98,7 +97,7 @@ impl Table for Holds {
     ghost stands = { stands_by _ _ _ _ refl };
 }
 
-/// The zones of clients, with the patterns that are asked for.
+/// `zone_head`: the zones of clients, with the patterns that are asked for.
 pub enum Heads {}
 
 impl Table for Heads {
@@ -117,7 +116,7 @@ impl Table for Heads {
     ghost stands = { stands_by _ _ _ _ refl };
 }
 
-/// The SYSMODs of zones with their states.
+/// `zone_row`: the SYSMODs of zones with their states.
 pub enum ZoneRows {}
 
 impl Table for ZoneRows {
@@ -136,7 +135,7 @@ impl Table for ZoneRows {
     ghost stands = { stands_by _ _ _ _ refl };
 }
 
-/// What clients have received.
+/// `received_list`: what clients have received.
 pub enum Received {}
 
 impl Table for Received {
@@ -155,7 +154,7 @@ impl Table for Received {
     ghost stands = { stands_by _ _ _ _ refl };
 }
 
-/// What records require where a function is installed.
+/// `sysmod_cond`: what records require where a function is installed.
 pub enum Conds {}
 
 impl Table for Conds {

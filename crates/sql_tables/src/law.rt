@@ -8,10 +8,8 @@ ghost use Rattle.holddata.specs.declared.hold.Hold.{Hold as SomeHold};
 ghost use Rattle.holddata.specs.declared.key.HoldKey.{HoldKey};
 ghost use Rattle.zone_lists.specs.ZoneList.{RowsAscend};
 ghost use Rattle.zone_lists.specs.declared.zones.ZoneRow.{ZoneRow as SomeZoneRow};
-ghost use Rattle.catalogue.specs.Conditional.{CondsAscend};
 ghost use Rattle.catalogue.specs.Content.{ids_in, ids_of, record_of};
 ghost use Rattle.catalogue.specs.Ids.{Ascend};
-ghost use Rattle.catalogue.specs.declared.conditional.CondNeed.{CondNeed as SomeCondNeed};
 ghost use Rattle.catalogue.specs.declared.sysmod.Sysmod.{Sysmod as SomeSysmod};
 ghost use Rattle.bureau_store.specs.Caller.{caller_named, caller_with};
 ghost use Rattle.bureau_store.specs.Effect.{Effect, tables_after};
@@ -24,8 +22,8 @@ ghost use Rattle.bureau_store.specs.declared.caller.CallerRow.{CallerRow as Some
 ghost use Rattle.sqlite_value.specs.Order.{Row, column};
 ghost use Rattle.sql_tables.specs.Changes.{stored_after, with_callers};
 ghost use Rattle.sql_tables.specs.Fit.{CanBeMade, CanBeWritten};
-ghost use Rattle.sql_tables.specs.Rows.{caller_found, caller_row, cond_found, hold_found, sysmod_found};
-ghost use Rattle.sql_tables.specs.Stored.{Stored, beside_of, conds_of, content_of, has_token, is_of, is_of_both, opened, rows_as_stored, shown, sup_of, sysmods_of, tables_of, zone_of, zone_rows_of, zones_of};
+ghost use Rattle.sql_tables.specs.Rows.{caller_found, caller_row, hold_found, sysmod_found};
+ghost use Rattle.sql_tables.specs.Stored.{Stored, beside_of, content_of, has_token, is_of, is_of_both, opened, rows_as_stored, shown, sysmods_of, tables_of, zone_of, zone_rows_of, zones_of};
 ghost use Rattle.sql_tables.specs.Values.{id_in};
 ghost use Rattle.sql_tables.specs.Whole.{IsWhole};
 
@@ -139,21 +137,6 @@ pub fn record_of_row()
         → filter (is_of id) stored.sysmods ≡ row ∷ [] → is_of id row ≡ true
         → sysmod_found (beside_of stored id) row ≡ Some sysmod
         → record_of (content_of stored) id ≡ Some sysmod }
-{}
-
-/// A read in order finds what an id supersedes.
-pub fn superseded()
-    ensures { (sups : List Row) (id : List ℕ) (found : List (List ℕ)) → Ascend found
-        → IsPermutation (filter_map (λ row. id_in (column row 1)) (filter (is_of id) sups)) found
-        → found ≡ sup_of sups id }
-{}
-
-/// A read in order finds what an id requires under a condition.
-pub fn conditional()
-    ensures { (conds : List Row) (id : List ℕ) (found : List SomeCondNeed) → CondsAscend found
-        → IsPermutation
-        (filter_map (λ row. cond_found (shown (1 ∷ 2 ∷ []) row)) (filter (is_of id) conds)) found
-        → found ≡ conds_of conds id }
 {}
 
 /// A read in order of just the ids of the records finds the ids that are catalogued.

@@ -3,13 +3,11 @@
 use crate::checked::Checked;
 use crate::shapes::TableShape;
 use crate::values::{is_id, is_text};
+use sql_rows::Callers;
 use sql_tables::NoMemory;
 use sqlite::Row;
 use sqlite_schema::schema::Kind;
 use std::alloc::Global;
-
-/// The callers with their tokens.
-pub(crate) enum Callers {}
 
 impl Checked for Callers {
     ghost use Rattle.std.specs.Prelude.{IsTrue, refl};
@@ -35,16 +33,13 @@ impl Checked for Callers {
         }
     }
 
-    #[tactic(auto, unfolding(sqlite::specs::Listing::understood, sqlite_tied::specs::Compute::everything))]
-    fn text() -> &'static str {
-        "SELECT name, token FROM caller"
-    }
-
     fn keeps(_alloc: Global, row: &Row) -> Result<bool, NoMemory> {
         Ok(is_id(row, 0) && is_text(row, 1))
     }
 
     ghost as_shown = { λ row. (λ keeps. keeps, λ keeps. keeps) };
+
+    ghost own = { refl };
 
     ghost here = { λ trees. refl };
 }

@@ -2,15 +2,13 @@
 
 use crate::checked::Checked;
 use crate::shapes::{Rule, TableShape};
+use sql_rows::Holds;
 use sql_tables::{NoMemory, hold_in};
 use sqlite::Row;
 use sqlite_schema::schema::Kind;
 use std::alloc::Global;
 
-/// The holds.
-pub(crate) enum HoldRows {}
-
-impl Checked for HoldRows {
+impl Checked for Holds {
     ghost use Rattle.std.specs.Prelude.{IsSome, refl};
     ghost use Rattle.sql_tables.specs.Rows.{hold_found};
     ghost use Rattle.sql_texts.specs.Schema as made;
@@ -42,16 +40,13 @@ impl Checked for HoldRows {
         }
     }
 
-    #[tactic(auto, unfolding(sqlite::specs::Listing::understood, sqlite_tied::specs::Compute::everything))]
-    fn text() -> &'static str {
-        "SELECT sysmod, kind, reason, fmid, class, dated, resolver, categories FROM hold_row"
-    }
-
     fn keeps(alloc: Global, row: &Row) -> Result<bool, NoMemory> {
         Ok(hold_in(alloc, row)?.is_some())
     }
 
     ghost as_shown = { λ row. (λ keeps. keeps, λ keeps. keeps) };
+
+    ghost own = { refl };
 
     ghost here = { λ trees. refl };
 }

@@ -3,14 +3,12 @@
 use crate::checked::Checked;
 use crate::shapes::{Rule, TableShape};
 use crate::values::{is_blob, is_id, is_number};
+use sql_rows::LastChanges;
 use sql_tables::NoMemory;
 use sqlite::Row;
 use sqlite_schema::schema::Kind;
 use sqlite_sql::ops::CompareOp;
 use std::alloc::Global;
-
-/// The number of each caller's last change, and the reply that is kept for it.
-pub(crate) enum LastChanges {}
 
 impl Checked for LastChanges {
     ghost use Rattle.std.specs.Prelude.{IsSome, refl};
@@ -41,16 +39,13 @@ impl Checked for LastChanges {
         }
     }
 
-    #[tactic(auto, unfolding(sqlite::specs::Listing::understood, sqlite_tied::specs::Compute::everything))]
-    fn text() -> &'static str {
-        "SELECT caller, number, body FROM last_change"
-    }
-
     fn keeps(_alloc: Global, row: &Row) -> Result<bool, NoMemory> {
         Ok(is_id(row, 0) && is_number(row, 1) && is_blob(row, 2))
     }
 
     ghost as_shown = { λ row. (λ keeps. keeps, λ keeps. keeps) };
+
+    ghost own = { refl };
 
     ghost here = { λ trees. refl };
 }

@@ -3,15 +3,13 @@
 use crate::checked::Checked;
 use crate::shapes::TableShape;
 use crate::values::{are_ids, is_id};
+use sql_rows::Received;
 use sql_tables::NoMemory;
 use sqlite::Row;
 use sqlite_schema::schema::Kind;
 use std::alloc::Global;
 
-/// What each client has received.
-pub(crate) enum ReceivedLists {}
-
-impl Checked for ReceivedLists {
+impl Checked for Received {
     ghost use Rattle.std.specs.Prelude.{refl};
     ghost use Rattle.sql_checks.specs.Known.{AreIdsColumn, IsIdColumn};
     ghost use Rattle.sql_texts.specs.Schema as made;
@@ -34,17 +32,14 @@ impl Checked for ReceivedLists {
         }
     }
 
-    #[tactic(auto, unfolding(sqlite::specs::Listing::understood, sqlite_tied::specs::Compute::everything))]
-    fn text() -> &'static str {
-        "SELECT client, ids FROM received_list"
-    }
-
     fn keeps(alloc: Global, row: &Row) -> Result<bool, NoMemory> {
         let ids = are_ids(alloc, row, 1)?;
         Ok(is_id(row, 0) && ids)
     }
 
     ghost as_shown = { λ row. (λ keeps. keeps, λ keeps. keeps) };
+
+    ghost own = { refl };
 
     ghost here = { λ trees. refl };
 }

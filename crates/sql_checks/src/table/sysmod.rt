@@ -3,13 +3,11 @@
 use crate::checked::Checked;
 use crate::shapes::{Rule, TableShape};
 use crate::values::{are_ids, column, is_id};
+use sql_rows::Sysmods;
 use sql_tables::{NoMemory, sysmod_kind_in};
 use sqlite::Row;
 use sqlite_schema::schema::Kind;
 use std::alloc::Global;
-
-/// The records of the catalogue.
-pub(crate) enum Sysmods {}
 
 impl Checked for Sysmods {
     ghost use Rattle.std.specs.Prelude.{IsSome, refl};
@@ -43,11 +41,6 @@ impl Checked for Sysmods {
         }
     }
 
-    #[tactic(auto, unfolding(sqlite::specs::Listing::understood, sqlite_tied::specs::Compute::everything))]
-    fn text() -> &'static str {
-        "SELECT id, kind, fmids, pre, req FROM sysmod"
-    }
-
     fn keeps(alloc: Global, row: &Row) -> Result<bool, NoMemory> {
         let fmids = are_ids(alloc, row, 2)?;
         let pre = are_ids(alloc, row, 3)?;
@@ -57,6 +50,8 @@ impl Checked for Sysmods {
     }
 
     ghost as_shown = { λ row. (λ keeps. keeps, λ keeps. keeps) };
+
+    ghost own = { refl };
 
     ghost here = { λ trees. refl };
 }

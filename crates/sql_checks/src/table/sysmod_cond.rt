@@ -3,15 +3,13 @@
 use crate::checked::Checked;
 use crate::shapes::TableShape;
 use crate::values::is_id;
+use sql_rows::Conds;
 use sql_tables::NoMemory;
 use sqlite::Row;
 use sqlite_schema::schema::Kind;
 use std::alloc::Global;
 
-/// What each record requires where a function is installed.
-pub(crate) enum SysmodConds {}
-
-impl Checked for SysmodConds {
+impl Checked for Conds {
     ghost use Rattle.std.specs.Prelude.{refl};
     ghost use Rattle.sql_checks.specs.Known.{IsIdColumn};
     ghost use Rattle.sql_texts.specs.Schema as made;
@@ -38,16 +36,13 @@ impl Checked for SysmodConds {
         }
     }
 
-    #[tactic(auto, unfolding(sqlite::specs::Listing::understood, sqlite_tied::specs::Compute::everything))]
-    fn text() -> &'static str {
-        "SELECT id, fmid, member FROM sysmod_cond"
-    }
-
     fn keeps(_alloc: Global, row: &Row) -> Result<bool, NoMemory> {
         Ok(is_id(row, 0) && is_id(row, 1) && is_id(row, 2))
     }
 
     ghost as_shown = { λ row. (λ keeps. keeps, λ keeps. keeps) };
+
+    ghost own = { refl };
 
     ghost here = { λ trees. refl };
 }

@@ -3,15 +3,13 @@
 use crate::checked::Checked;
 use crate::shapes::TableShape;
 use crate::values::is_id;
+use sql_rows::Sups;
 use sql_tables::NoMemory;
 use sqlite::Row;
 use sqlite_schema::schema::Kind;
 use std::alloc::Global;
 
-/// What each record supersedes.
-pub(crate) enum SysmodSups {}
-
-impl Checked for SysmodSups {
+impl Checked for Sups {
     ghost use Rattle.std.specs.Prelude.{refl};
     ghost use Rattle.sql_checks.specs.Known.{IsIdColumn};
     ghost use Rattle.sql_texts.specs.Schema as made;
@@ -34,16 +32,13 @@ impl Checked for SysmodSups {
         }
     }
 
-    #[tactic(auto, unfolding(sqlite::specs::Listing::understood, sqlite_tied::specs::Compute::everything))]
-    fn text() -> &'static str {
-        "SELECT id, member FROM sysmod_sup"
-    }
-
     fn keeps(_alloc: Global, row: &Row) -> Result<bool, NoMemory> {
         Ok(is_id(row, 0) && is_id(row, 1))
     }
 
     ghost as_shown = { λ row. (λ keeps. keeps, λ keeps. keeps) };
+
+    ghost own = { refl };
 
     ghost here = { λ trees. refl };
 }

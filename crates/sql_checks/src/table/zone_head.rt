@@ -3,15 +3,13 @@
 use crate::checked::Checked;
 use crate::shapes::TableShape;
 use crate::values::{are_patterns, is_id};
+use sql_rows::Heads;
 use sql_tables::NoMemory;
 use sqlite::Row;
 use sqlite_schema::schema::Kind;
 use std::alloc::Global;
 
-/// The clients' zones.
-pub(crate) enum ZoneHeads {}
-
-impl Checked for ZoneHeads {
+impl Checked for Heads {
     ghost use Rattle.std.specs.Prelude.{refl};
     ghost use Rattle.sql_checks.specs.Known.{ArePatternsColumn, IsIdColumn};
     ghost use Rattle.sql_texts.specs.Schema as made;
@@ -38,17 +36,14 @@ impl Checked for ZoneHeads {
         }
     }
 
-    #[tactic(auto, unfolding(sqlite::specs::Listing::understood, sqlite_tied::specs::Compute::everything))]
-    fn text() -> &'static str {
-        "SELECT client, zone, patterns FROM zone_head"
-    }
-
     fn keeps(alloc: Global, row: &Row) -> Result<bool, NoMemory> {
         let patterns = are_patterns(alloc, row, 2)?;
         Ok(is_id(row, 0) && is_id(row, 1) && patterns)
     }
 
     ghost as_shown = { λ row. (λ keeps. keeps, λ keeps. keeps) };
+
+    ghost own = { refl };
 
     ghost here = { λ trees. refl };
 }

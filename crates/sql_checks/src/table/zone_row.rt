@@ -3,13 +3,11 @@
 use crate::checked::Checked;
 use crate::shapes::{Rule, TableShape};
 use crate::values::{column, is_id};
+use sql_rows::ZoneRows;
 use sql_tables::{NoMemory, state_in};
 use sqlite::Row;
 use sqlite_schema::schema::Kind;
 use std::alloc::Global;
-
-/// The SYSMODs of the zones.
-pub(crate) enum ZoneRows {}
 
 impl Checked for ZoneRows {
     ghost use Rattle.std.specs.Prelude.{IsSome, refl};
@@ -41,17 +39,14 @@ impl Checked for ZoneRows {
         }
     }
 
-    #[tactic(auto, unfolding(sqlite::specs::Listing::understood, sqlite_tied::specs::Compute::everything))]
-    fn text() -> &'static str {
-        "SELECT client, zone, sysmod, state FROM zone_row"
-    }
-
     fn keeps(_alloc: Global, row: &Row) -> Result<bool, NoMemory> {
         let state = state_in(column(row, 3)).is_some();
         Ok(is_id(row, 0) && is_id(row, 1) && is_id(row, 2) && state)
     }
 
     ghost as_shown = { λ row. (λ keeps. keeps, λ keeps. keeps) };
+
+    ghost own = { refl };
 
     ghost here = { λ trees. refl };
 }

@@ -15,6 +15,7 @@ ghost use Rattle.sql_texts.specs.Reads.{from_table, is_given};
 ghost use Rattle.sql_texts.specs.Schema as schema;
 
 use crate::ReadFault;
+use crate::all_columns::AllColumns;
 use crate::entry::{Entry, Ordered, ascending};
 use crate::listed::{Listed, read_list};
 use crate::one::only;
@@ -177,11 +178,12 @@ fn is_publisher(name: &Id) -> bool
     }
 }
 
-/// The text that shows all columns.
-#[tactic(auto, unfolding(sqlite::specs::Listing::understood, sqlite_tied::specs::Compute::everything))]
-pub(crate) fn all_columns() -> &'static str
-    ensures here { ShowsAll schema.bureau schema.caller result.now }
-    ensures version_1 { ShowsAll schema.bureau_1 schema.caller result.now }
-{
-    "SELECT name, token FROM caller"
+impl AllColumns for Callers {
+    #[tactic(auto, unfolding(sqlite::specs::Listing::understood, sqlite_tied::specs::Compute::everything))]
+    fn all_columns() -> &'static str
+        ensures here { ShowsAll schema.bureau schema.caller result.now }
+        ensures version_1 { ShowsAll schema.bureau_1 schema.caller result.now }
+    {
+        "SELECT name, token FROM caller"
+    }
 }

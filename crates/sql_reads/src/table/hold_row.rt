@@ -5,10 +5,11 @@ ghost use Rattle.catalogue.specs.Content.{holds_on};
 ghost use Rattle.holddata.specs.HoldBook.{IsInKeyOrder};
 ghost use Rattle.sql_state.specs.Reading.{Finds};
 ghost use Rattle.sql_tables.specs.Stored.{tables_of};
-ghost use Rattle.sql_reads.specs.Columns.{ShowsAll};
+ghost use Rattle.sql_reads.specs.Columns.{ShowsAll, indices_of};
 ghost use Rattle.sql_texts.specs.Schema as schema;
 
 use crate::ReadFault;
+use crate::all_columns::AllColumns;
 use crate::entry::{Entry, Ordered, entries};
 use crate::scan::Scanned;
 use crate::selection::{Selection, select};
@@ -52,7 +53,7 @@ impl Selection<Id> for Holds {
     ghost use Rattle.std.specs.Prelude.{◌∷◌, []};
     ghost use Rattle.sql_texts.specs.Schema.{hold_columns};
 
-    ghost shown = { 0 ∷ 1 ∷ 2 ∷ 3 ∷ 4 ∷ 5 ∷ 6 ∷ 7 ∷ [] };
+    ghost shown = { indices_of schema.hold_row };
 
     ghost names = { hold_columns };
 
@@ -69,7 +70,7 @@ impl Scanned for Holds {
     ghost use Rattle.std.specs.Prelude.{◌∷◌, [], refl};
     ghost use Rattle.sql_texts.specs.Schema.{hold_columns};
 
-    ghost scan_shown = { 0 ∷ 1 ∷ 2 ∷ 3 ∷ 4 ∷ 5 ∷ 6 ∷ 7 ∷ [] };
+    ghost scan_shown = { indices_of schema.hold_row };
 
     ghost scan_names = { hold_columns };
 
@@ -110,11 +111,12 @@ pub fn holds_on<S: Alter>(
     entries(alloc, rows.as_slice())
 }
 
-/// The text that shows all columns.
-#[tactic(auto, unfolding(sqlite::specs::Listing::understood, sqlite_tied::specs::Compute::everything))]
-pub(crate) fn all_columns() -> &'static str
-    ensures here { ShowsAll schema.bureau schema.hold_row result.now }
-    ensures version_1 { ShowsAll schema.bureau_1 schema.hold_row result.now }
-{
-    "SELECT sysmod, kind, reason, fmid, class, dated, resolver, categories FROM hold_row"
+impl AllColumns for Holds {
+    #[tactic(auto, unfolding(sqlite::specs::Listing::understood, sqlite_tied::specs::Compute::everything))]
+    fn all_columns() -> &'static str
+        ensures here { ShowsAll schema.bureau schema.hold_row result.now }
+        ensures version_1 { ShowsAll schema.bureau_1 schema.hold_row result.now }
+    {
+        "SELECT sysmod, kind, reason, fmid, class, dated, resolver, categories FROM hold_row"
+    }
 }

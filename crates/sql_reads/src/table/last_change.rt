@@ -12,10 +12,11 @@ ghost use Rattle.sql_reads.specs.Columns.{ShowsAll};
 ghost use Rattle.sql_texts.specs.Schema as schema;
 
 use crate::ReadFault;
+use crate::all_columns::AllColumns;
 use crate::one::only;
 use crate::rows::rows_of;
 use bureau_store::Caller;
-use sql_rows::id_of;
+use sql_rows::{LastChanges, id_of};
 use sql_tables::change_in;
 use sql_texts::read;
 use sqlite::types::ValueRef;
@@ -76,11 +77,12 @@ fn change(alloc: Global, rows: &[Row]) -> Result<Option<(u64, Vec<u8>)>, ReadFau
     Ok(Some(change))
 }
 
-/// The text that shows all columns.
-#[tactic(auto, unfolding(sqlite::specs::Listing::understood, sqlite_tied::specs::Compute::everything))]
-pub(crate) fn all_columns() -> &'static str
-    ensures here { ShowsAll schema.bureau schema.last_change result.now }
-    ensures version_1 { ShowsAll schema.bureau_1 schema.last_change result.now }
-{
-    "SELECT caller, number, body FROM last_change"
+impl AllColumns for LastChanges {
+    #[tactic(auto, unfolding(sqlite::specs::Listing::understood, sqlite_tied::specs::Compute::everything))]
+    fn all_columns() -> &'static str
+        ensures here { ShowsAll schema.bureau schema.last_change result.now }
+        ensures version_1 { ShowsAll schema.bureau_1 schema.last_change result.now }
+    {
+        "SELECT caller, number, body FROM last_change"
+    }
 }

@@ -10,6 +10,7 @@ ghost use Rattle.sql_reads.specs.Columns.{ShowsAll};
 ghost use Rattle.sql_texts.specs.Schema as schema;
 
 use crate::ReadFault;
+use crate::all_columns::AllColumns;
 use crate::entry::ascending;
 use crate::one::{One, read_one};
 use crate::selection::Selection;
@@ -88,11 +89,12 @@ pub fn received<S: Alter>(
     read_one::<Id, Received, S>(alloc, conn, client)
 }
 
-/// The text that shows all columns.
-#[tactic(auto, unfolding(sqlite::specs::Listing::understood, sqlite_tied::specs::Compute::everything))]
-pub(crate) fn all_columns() -> &'static str
-    ensures here { ShowsAll schema.bureau schema.received_list result.now }
-    ensures version_1 { ShowsAll schema.bureau_1 schema.received_list result.now }
-{
-    "SELECT client, ids FROM received_list"
+impl AllColumns for Received {
+    #[tactic(auto, unfolding(sqlite::specs::Listing::understood, sqlite_tied::specs::Compute::everything))]
+    fn all_columns() -> &'static str
+        ensures here { ShowsAll schema.bureau schema.received_list result.now }
+        ensures version_1 { ShowsAll schema.bureau_1 schema.received_list result.now }
+    {
+        "SELECT client, ids FROM received_list"
+    }
 }

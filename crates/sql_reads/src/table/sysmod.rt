@@ -7,10 +7,11 @@ ghost use Rattle.sql_state.specs.Reading.{Finds};
 ghost use Rattle.sql_reads.specs.Answering.{one_of};
 ghost use Rattle.sql_tables.specs.Rows.{sysmod_found};
 ghost use Rattle.sql_tables.specs.Stored.{beside_of, tables_of};
-ghost use Rattle.sql_reads.specs.Columns.{ShowsAll};
+ghost use Rattle.sql_reads.specs.Columns.{ShowsAll, indices_of};
 ghost use Rattle.sql_texts.specs.Schema as schema;
 
 use crate::ReadFault;
+use crate::all_columns::AllColumns;
 use crate::entry::entries;
 use crate::listed::read_list;
 use crate::one::{any, only};
@@ -44,7 +45,7 @@ impl Selection<Id> for Sysmods {
     ghost use Rattle.std.specs.Prelude.{◌∷◌, []};
     ghost use Rattle.sql_texts.specs.Schema.{sysmod_columns};
 
-    ghost shown = { 0 ∷ 1 ∷ 2 ∷ 3 ∷ 4 ∷ [] };
+    ghost shown = { indices_of schema.sysmod };
 
     ghost names = { sysmod_columns };
 
@@ -60,7 +61,7 @@ impl Scanned for Sysmods {
     ghost use Rattle.std.specs.Prelude.{◌∷◌, [], refl};
     ghost use Rattle.sql_texts.specs.Schema.{sysmod_columns};
 
-    ghost scan_shown = { 0 ∷ 1 ∷ 2 ∷ 3 ∷ 4 ∷ [] };
+    ghost scan_shown = { indices_of schema.sysmod };
 
     ghost scan_names = { sysmod_columns };
 
@@ -154,11 +155,12 @@ pub(crate) fn record_in(
     Ok(Some(sysmod))
 }
 
-/// The text that shows all columns.
-#[tactic(auto, unfolding(sqlite::specs::Listing::understood, sqlite_tied::specs::Compute::everything))]
-pub(crate) fn all_columns() -> &'static str
-    ensures here { ShowsAll schema.bureau schema.sysmod result.now }
-    ensures version_1 { ShowsAll schema.bureau_1 schema.sysmod result.now }
-{
-    "SELECT id, kind, fmids, pre, req FROM sysmod"
+impl AllColumns for Sysmods {
+    #[tactic(auto, unfolding(sqlite::specs::Listing::understood, sqlite_tied::specs::Compute::everything))]
+    fn all_columns() -> &'static str
+        ensures here { ShowsAll schema.bureau schema.sysmod result.now }
+        ensures version_1 { ShowsAll schema.bureau_1 schema.sysmod result.now }
+    {
+        "SELECT id, kind, fmids, pre, req FROM sysmod"
+    }
 }

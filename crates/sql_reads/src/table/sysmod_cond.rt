@@ -1,7 +1,6 @@
 //! The table `sysmod_cond`: what a SYSMOD requires under a condition.
-ghost use Rattle.sql_reads.specs.Columns.{ShowsAll};
-ghost use Rattle.sql_texts.specs.Schema as schema;
 
+use crate::all_columns::AllColumns;
 use crate::entry::{Entry, Ordered};
 use crate::listed::Listed;
 use crate::scan::Scanned;
@@ -103,10 +102,9 @@ impl Scanned for Conds {
     ghost placed = { λ row. refl };
 }
 
-/// The text that shows all columns.
-#[tactic(auto, unfolding(sqlite::specs::Listing::understood, sqlite_tied::specs::Compute::everything))]
-pub(crate) fn all_columns() -> &'static str
-    ensures { ShowsAll schema.bureau schema.sysmod_cond result.now }
-{
-    "SELECT id, fmid, member FROM sysmod_cond"
+impl AllColumns for Conds {
+    #[tactic(auto, unfolding(sqlite::specs::Listing::understood, sqlite_tied::specs::Compute::everything))]
+    fn all_columns() -> &'static str {
+        "SELECT id, fmid, member FROM sysmod_cond"
+    }
 }

@@ -2,6 +2,7 @@
 ghost use Rattle.sql_reads.specs.Columns.{ShowsAll};
 ghost use Rattle.sql_texts.specs.Schema as schema;
 
+use crate::all_columns::AllColumns;
 use crate::listed::Listed;
 use crate::scan::Scanned;
 use crate::selection::Selection;
@@ -71,11 +72,12 @@ impl Scanned for Sups {
     ghost placed = { λ row. refl };
 }
 
-/// The text that shows all columns.
-#[tactic(auto, unfolding(sqlite::specs::Listing::understood, sqlite_tied::specs::Compute::everything))]
-pub(crate) fn all_columns() -> &'static str
-    ensures here { ShowsAll schema.bureau schema.sysmod_sup result.now }
-    ensures version_1 { ShowsAll schema.bureau_1 schema.sysmod_sup result.now }
-{
-    "SELECT id, member FROM sysmod_sup"
+impl AllColumns for Sups {
+    #[tactic(auto, unfolding(sqlite::specs::Listing::understood, sqlite_tied::specs::Compute::everything))]
+    fn all_columns() -> &'static str
+        ensures here { ShowsAll schema.bureau schema.sysmod_sup result.now }
+        ensures version_1 { ShowsAll schema.bureau_1 schema.sysmod_sup result.now }
+    {
+        "SELECT id, member FROM sysmod_sup"
+    }
 }

@@ -11,6 +11,7 @@ ghost use Rattle.sql_reads.specs.Columns.{ShowsAll};
 ghost use Rattle.sql_texts.specs.Schema as schema;
 
 use crate::ReadFault;
+use crate::all_columns::AllColumns;
 use crate::entry::{Ordered, ascending};
 use crate::one::{One, any, read_one};
 use crate::selection::{Selection, select};
@@ -138,11 +139,12 @@ pub fn has_zone<S: Alter>(
     Ok(any(rows.as_slice()))
 }
 
-/// The text that shows all columns.
-#[tactic(auto, unfolding(sqlite::specs::Listing::understood, sqlite_tied::specs::Compute::everything))]
-pub(crate) fn all_columns() -> &'static str
-    ensures here { ShowsAll schema.bureau schema.zone_head result.now }
-    ensures version_1 { ShowsAll schema.bureau_1 schema.zone_head result.now }
-{
-    "SELECT client, zone, patterns FROM zone_head"
+impl AllColumns for Heads {
+    #[tactic(auto, unfolding(sqlite::specs::Listing::understood, sqlite_tied::specs::Compute::everything))]
+    fn all_columns() -> &'static str
+        ensures here { ShowsAll schema.bureau schema.zone_head result.now }
+        ensures version_1 { ShowsAll schema.bureau_1 schema.zone_head result.now }
+    {
+        "SELECT client, zone, patterns FROM zone_head"
+    }
 }

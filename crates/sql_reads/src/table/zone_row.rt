@@ -8,6 +8,7 @@ ghost use Rattle.sql_reads.specs.Columns.{ShowsAll};
 ghost use Rattle.sql_texts.specs.Schema as schema;
 
 use crate::ReadFault;
+use crate::all_columns::AllColumns;
 use crate::entry::{Entry, Ordered, ascending};
 use crate::listed::{Listed, read_list};
 use crate::selection::Selection;
@@ -107,11 +108,12 @@ pub fn zone_rows<S: Alter>(
     read_list::<Zone, ZoneRows, S>(alloc, conn, &key)
 }
 
-/// The text that shows all columns.
-#[tactic(auto, unfolding(sqlite::specs::Listing::understood, sqlite_tied::specs::Compute::everything))]
-pub(crate) fn all_columns() -> &'static str
-    ensures here { ShowsAll schema.bureau schema.zone_row result.now }
-    ensures version_1 { ShowsAll schema.bureau_1 schema.zone_row result.now }
-{
-    "SELECT client, zone, sysmod, state FROM zone_row"
+impl AllColumns for ZoneRows {
+    #[tactic(auto, unfolding(sqlite::specs::Listing::understood, sqlite_tied::specs::Compute::everything))]
+    fn all_columns() -> &'static str
+        ensures here { ShowsAll schema.bureau schema.zone_row result.now }
+        ensures version_1 { ShowsAll schema.bureau_1 schema.zone_row result.now }
+    {
+        "SELECT client, zone, sysmod, state FROM zone_row"
+    }
 }
