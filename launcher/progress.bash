@@ -43,14 +43,15 @@ functions_of() { # CRATE
     sed -n 's/^checked .*, \([0-9]* of [0-9]*\)$/\1/p; s/^so far: \([0-9]* of [0-9]*\) .*/\1/p' "$logs/$1.log" 2>/dev/null | tail -n 1
 }
 
-# How far rt is with a crate. Before the first function it proves definitions and lemmas.
+# How far rt is with a crate. Before the first function it proves definitions and lemmas, and after the last of bureau_main it
+# builds the program.
 how_far() { # CRATE
     local count
     count=$(functions_of "$1")
     case $count in
         '') echo "at its definitions and lemmas" ;;
         '0 of '*) echo "at its definitions and lemmas, before its ${count#0 of } functions" ;;
-        *) echo "$count functions" ;;
+        *) echo "$count functions$([ "$1" != bureau_main ] || echo ", before the program is built")" ;;
     esac
 }
 
@@ -66,13 +67,16 @@ count_kept() { # CRATE
     measure_ways
 }
 
-# Puts into `part` what is done of the weight of a crate: by its functions, with a tenth for its definitions and lemmas.
+# Puts into `part` what is done of the weight of a crate: by its functions, with a tenth for its definitions and lemmas. Of the
+# build of the program, which comes after its functions, rt counts nothing.
 measure_part() { # CRATE
+    local proofs=${weight[$1]}
     part=0
     if [ -n "${finished[$1]+is}" ]; then
-        part=${weight[$1]}
+        part=$proofs
     elif [ -n "${running[$1]+is}" ] && [[ $(functions_of "$1") =~ ^([0-9]+)\ of\ ([1-9][0-9]*)$ ]]; then
-        part=$((weight[$1] / 10 + weight[$1] * 9 * BASH_REMATCH[1] / BASH_REMATCH[2] / 10))
+        [ "$1" != bureau_main ] || proofs=$((proofs - build_weight))
+        part=$((proofs / 10 + proofs * 9 * BASH_REMATCH[1] / BASH_REMATCH[2] / 10))
     fi
 }
 
