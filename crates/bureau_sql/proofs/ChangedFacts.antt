@@ -1,7 +1,7 @@
 -- A change of a connection, and how it is told, are a change of the store, whatever it changes.
-use Rattle.std.proofs.Common.{◌≡◌, ◌∙◌, ◌⊎◌, ◌<◌, ◌≤◌, ℕ, Bool, Err, IfErr, IsTrue, Ok, OnErr, OnOk, Result, ap, arith, inl, inr, refl, subst, sym}
+use Rattle.std.proofs.Common.{◌≡◌, ◌∙◌, ◌⊎◌, ℕ, Bool, Err, IfErr, IsTrue, Ok, OnErr, OnOk, Result, ap, arith, inl, inr, refl, subst, sym}
 use Rattle.std.specs.Prelude.{IsErrOf}
-use Rattle.catalogue.specs.View.{Asks, HasFailed, Tells}
+use Rattle.catalogue.specs.View.{Asks, Tells}
 use Rattle.bureau_store.specs.SetCallers.{ChangesTo}
 use Rattle.bureau_store.specs.Store.{IsOfCall, IsOfRead, IsSettled}
 use Rattle.bureau_store.specs.Tables.{Tables}
@@ -167,26 +167,6 @@ module _ {S : Type 0} (g : Ghosts S) (change : Stored → Stored) (IsDueIn : Tab
       let between : SqlState S = record { conn = changed; failures = failures; unseen = unseen } in
       subst (λ it. ChangesTo (sql_view g) IsDueIn next it new answer) same
       (changes before between new (ap (λ it. it.failures) same ∙ standing) refl rests made answer committed told of_call)
-
-  -- a store that is closed is changed by nothing
-  pub closed_changes : {Done : Type 0} (old new : SqlState S) → new.conn ≡ old.conn → 0 < new.failures → old.failures ≤ new.failures → HasFailed (sql_view g) old new
-      → ChangesTo (sql_view g) {Done = Done} IsDueIn next old new (Err Device)
-  closed_changes old new same closed rise failed =
-      let here = λ (clean : HasCleanDisk (shown g new)). subst (λ conn. HasCleanDisk (state g conn)) same clean in
-      record {
-        goes = record {
-          clean = here;
-          ours = λ ours clean. (λ trees may. ours.0 trees (subst (λ conn. (state g conn).may_leave trees) same may), λ standing. absurd (omega (arith, closed, standing)));
-          failures_rise = rise;
-        };
-        done = tt;
-        refused = λ ours clean this stands standing. absurd (omega (arith, closed, standing));
-        refusal = tt;
-        cause = λ is. failed;
-        is_open = λ none. absurd (none refl);
-        crash = λ ours clean this due stands left may. inl (may.0, subst (λ conn. (state g conn).may_leave may.0) same may.1, may.2);
-        settled = λ ours clean standing. absurd (omega (arith, closed, standing));
-      }
 
 -- ---- a read, and a change of what was read
 

@@ -1,8 +1,7 @@
 -- Why a transaction on a connection at rest is refused.
-use Rattle.std.proofs.Common.{◌≡◌, ◌≤◌, ◌<◌, ◌⊎◌, ◌∙◌, ℕ, Bool, Err, IfErr, IsTrue, List, Ok, OnOk, Result, ap, arith, inl, inr, refl, subst, sym, true}
+use Rattle.std.proofs.Common.{◌≡◌, ◌≤◌, ◌<◌, ◌⊎◌, ◌∙◌, ℕ, Bool, Err, IfErr, IsTrue, Ok, OnOk, Result, ap, arith, inl, inr, refl, subst, sym, true}
 use Rattle.std.specs.Prelude.{IsSome}
 use Rattle.std.proofs.lemmas.Bool.{cases_Bool, false≢true}
-use Rattle.bureau_store.specs.declared.caller.CallerRow.{CallerRow}
 use Rattle.bureau_store.specs.declared.fault.StoreFault.{StoreFault}
 use Rattle.bureau_store.specs.Store.{IsOfCall, Update}
 use Rattle.bureau_store.specs.declared.fault.StoreFault.TheVariants.{Device, Memory, Shape, Size, Version}
@@ -16,7 +15,7 @@ use Rattle.sqlite_trees.specs.declared.error.StoreError.{StoreError}
 use Rattle.sqlite_trees.specs.declared.error.StoreError.TheVariants.{Broken, Corrupt, Full, Io, OutOfMemory, Unstorable}
 use Rattle.sqlite_trees.specs.declared.store.Store.{Ghosts}
 use Rattle.sql_writes.specs.Excused.{Excuses, IsExcused}
-use Rattle.sql_writes.specs.Making.{AreFit, IsEmpty, Leads}
+use Rattle.sql_writes.specs.Making.{Leads}
 use Rattle.sql_writes.specs.Room.{AreUpTo, HasRoom, IsRoomy}
 use Rattle.sql_tables.specs.Stored.{Stored}
 use Rattle.sql_state.specs.Ours.{IsOurs, held_by}
@@ -24,7 +23,6 @@ use Rattle.sql_state.specs.Reading.{HasFailed, OnlyReads}
 use Rattle.sql_state.specs.Writing.{Changes, IsKnown}
 use Rattle.sql_state.proofs.OursFacts.{known}
 use Rattle.sql_state.proofs.StopFacts.{was_clean}
-use Rattle.bureau_sql.specs.Founded.{FailsToFound}
 use Rattle.bureau_sql.specs.Failing.{CannotWrite, FailsToChange, FailsToEnd, RefusesExcused}
 use Rattle.bureau_sql.specs.SqlState.{SqlState}
 use Rattle.bureau_sql.specs.SqlView.{shown}
@@ -87,14 +85,6 @@ transaction_excused g old begun mid last From To is settled {Answer} {Done} writ
 pub cannot_write : (old new : State) (e : Error) → (e ≡ store_error OutOfMemory → ⊥) → Excuses old new e → CannotWrite old new
 cannot_write old new e known (inl memory) = absurd (known memory)
 cannot_write old new e known (inr other) = other
-
--- why a store isn't made, told as a fault
-pub fails_to_found : (old new : State) (callers : List CallerRow) (e : Error) (fault : StoreFault) → (e ≡ store_error OutOfMemory → fault ≡ Memory)
-    → (AreFit callers → HasCleanDisk new → IsEmpty old.committed → Excuses old new e) → HasCleanDisk new → FailsToFound old new callers fault
-fails_to_found old new callers e fault known excused clean fit empty = elim (excused fit clean empty) [
-  | inl memory ↦ inr (inl (known memory))
-  | inr other ↦ inr (inr other)
-]
 
 -- ---- a change of a store
 

@@ -1,5 +1,5 @@
 -- What a transaction that makes tables leaves of the connection.
-use Rattle.std.proofs.Common.{◌≡◌, ◌∙◌, Err, IsOk, IsTrue, List, Ok, OnErr, OnOk, Result, ap, false, inl, inr, refl, subst, sym, true}
+use Rattle.std.proofs.Common.{◌≡◌, ◌∙◌, Err, IsOk, IsTrue, List, Ok, OnErr, OnOk, Result, ap, false, refl, subst, sym, true}
 use Rattle.sqlite.specs.Effect.{Database}
 use Rattle.sqlite.specs.Held.{Held, state}
 use Rattle.sqlite.specs.State.{HasCleanDisk, KeepsCommit, Shows, State, Survives}
@@ -11,15 +11,13 @@ use Rattle.std.specs.List.{AllByRecursion}
 use Rattle.mcs_reader.specs.Id.{IsId}
 use Rattle.bureau_store.specs.Tables as tables
 use Rattle.bureau_store.specs.declared.caller.CallerRow.{CallerRow}
-use Rattle.sql_state.specs.Ours.{AreOurs, IsOurs, held_by}
+use Rattle.sql_state.specs.Ours.{IsOurs, held_by}
 use Rattle.sql_tables.proofs.ChangeFacts.{opened_tables}
 use Rattle.sql_tables.proofs.WholeFacts.{whole_opened}
 use Rattle.sql_tables.specs.Stored.{tables_of}
 use Rattle.sql_tables.specs.Whole.{IsWhole}
-use Rattle.sql_writes.specs.Making.{IsEmpty, IsOpened, Leads}
-use Rattle.bureau_sql.specs.Founded.{AreFounded, AreLed, IsLed}
-use Rattle.bureau_sql.specs.SqlState.{SqlState}
-use Rattle.bureau_sql.specs.SqlView.{IsAtRest, IsOurStore, shown, sql_view}
+use Rattle.sql_writes.specs.Making.{IsOpened, Leads}
+use Rattle.bureau_sql.specs.Founded.{AreLed, IsLed}
 use Rattle.sql_state.proofs.StopFacts.{kept_begun, kept_then, no_read, was_clean}
 
 -- The connection at rest, as its transaction begins, after what was written, and after the end.
@@ -75,21 +73,6 @@ transaction_led g old begun mid last From To is settled written result leads end
     (subst (λ h. IsTrue h.in_transaction) (sym is) refl) settled written result
     (subst (λ h. Survives (state g old) (state g h) (λ trees. ⊥)) (sym is) (survives_begin g old (state g (record old { in_transaction = true })) (λ trees. ⊥) (no_read (state g (record old { in_transaction = true }))).survives))
     leads ends refused survives
-
--- in an empty database a store is founded
-pub founded : (old new : State) (callers : List CallerRow) → (IsTrue old.is_open → IsEmpty old.committed) → Survives old new (AreLed old IsEmpty (IsOpened callers))
-    → Survives old new (AreFounded old callers)
-founded old new callers empty survives = record {
-  clean = survives.clean;
-  shield = survives.shield;
-  counts = survives.counts;
-  limit = survives.limit;
-  closes = survives.closes;
-  crash = λ clean trees may. elim (survives.crash clean trees may) [
-    | inl was ↦ inl was
-    | inr led ↦ let from = empty led.0 in inr (led.0, from, led.1 from)
-  ];
-}
 
 -- ---- a store with callers alone is ours
 

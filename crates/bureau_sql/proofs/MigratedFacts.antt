@@ -6,18 +6,15 @@ use Rattle.bureau_store.specs.Store.{IsOfCall}
 use Rattle.bureau_store.specs.declared.fault.StoreFault.{StoreFault}
 use Rattle.bureau_store.specs.declared.fault.StoreFault.TheVariants.{Device, Memory, Shape, Size, Version}
 use Rattle.sqlite.specs.Effect.{Database}
-use Rattle.sqlite.specs.Held.{Held, state}
 use Rattle.sqlite.specs.State.{HasCleanDisk, KeepsCommit, State, Survives, store_error}
 use Rattle.sqlite.specs.declared.error.Error.{Error}
 use Rattle.sqlite_trees.specs.Tree.{Trees}
 use Rattle.sqlite_trees.specs.declared.error.StoreError.TheVariants.{OutOfMemory}
 use Rattle.sqlite.proofs.StateLemmas.{survives_then}
 use Rattle.sqlite_catalog.specs.Listing.{IsSound}
-use Rattle.sqlite_trees.specs.declared.store.Store.{Ghosts}
 use Rattle.sql_state.specs.Earlier.{IsOfVersion1, held_by_version_1}
-use Rattle.sql_state.specs.Ours.{AreOurs, IsOurs, version_rows}
+use Rattle.sql_state.specs.Ours.{IsOurs, version_rows}
 use Rattle.sql_state.specs.Reading.{HasFailed, OnlyReads}
-use Rattle.sql_tables.specs.Stored.{tables_of}
 use Rattle.sql_tables.specs.Whole.{IsWhole}
 use Rattle.sql_writes.specs.Migrating.{HeldEarlier, HoldsAll, IsMigration}
 use Rattle.sql_state.proofs.StopFacts.{failed_before, kept_then, was_clean}
@@ -29,8 +26,7 @@ use Rattle.bureau_sql.specs.Migrated.{AreMigrated, IsMigrated, IsUntouched, Leav
 use Rattle.bureau_sql.specs.Opening.{HasTables, IsNotEarlier, IsTaken, IsUnderstood, TellsVersion}
 use Rattle.sql_texts.specs.Meaning.{MakesTable}
 use Rattle.sql_texts.specs.Schema.{bureau, bureau_1, sysmod_cond}
-use Rattle.bureau_sql.specs.SqlState.{SqlState}
-use Rattle.bureau_sql.specs.SqlView.{IsAtRest, IsOurStore, shown, sql_view}
+use Rattle.bureau_sql.specs.SqlView.{IsAtRest}
 
 -- ---- a refusal before the transaction
 
@@ -38,19 +34,6 @@ pub untouched_by : (old new : State) → OnlyReads old new → IsUntouched old n
 untouched_by old new reads = record {
   keeps = reads.keeps;
   left = λ clean trees may. elim (reads.survives.crash clean trees may) [
-    | inl was ↦ inl was
-    | inr none ↦ absurd none
-  ];
-}
-
-pub reads_survive : (old new : State) → OnlyReads old new → Survives old new (AreMigrated old)
-reads_survive old new reads = record {
-  clean = reads.survives.clean;
-  shield = reads.survives.shield;
-  counts = reads.survives.counts;
-  limit = reads.survives.limit;
-  closes = reads.survives.closes;
-  crash = λ clean trees may. elim (reads.survives.crash clean trees may) [
     | inl was ↦ inl was
     | inr none ↦ absurd none
   ];

@@ -8,7 +8,6 @@ use Rattle.bureau_store.specs.Store.{IsOfRead}
 use Rattle.bureau_store.specs.declared.fault.StoreFault.{StoreFault}
 use Rattle.bureau_store.specs.declared.fault.StoreFault.TheVariants.{Device, Memory, Shape, Size, Version}
 use Rattle.sqlite.specs.Effect.{Database}
-use Rattle.sqlite.specs.Held.{Held, state}
 use Rattle.sqlite.specs.Listing.{understood}
 use Rattle.sqlite.specs.Schema.{Schema}
 use Rattle.sqlite.specs.Outline.{Outline}
@@ -18,20 +17,16 @@ use Rattle.sqlite.specs.Query.{Query}
 use Rattle.sqlite.specs.Table.{Table}
 use Rattle.sqlite_resolve.specs.declared.compiled.Compiled.{Compiled}
 use Rattle.sqlite_resolve.specs.declared.error.CompileError.{CompileError}
-use Rattle.sqlite_trees.specs.declared.store.Store.{Ghosts}
 use Rattle.sql_state.specs.Earlier.{IsOfVersion1}
-use Rattle.sql_state.specs.Ours.{AreOurs, IsOurs, held_by}
+use Rattle.sql_state.specs.Ours.{IsOurs}
 use Rattle.sql_state.specs.Reading.{HasFailed, OnlyReads}
 use Rattle.sql_reads.specs.Columns.{ShowEach, ShowsAll, tables_of_version_1}
 use Rattle.sql_reads.specs.Version.{MeansNothing, Withholds, WithholdsVersion}
-use Rattle.sql_tables.specs.Stored.{tables_of}
 use Rattle.sql_texts.specs.Meaning.{MakesTable, Reads}
 use Rattle.sql_texts.specs.Schema.{bureau, bureau_1, sysmod_cond}
 use Rattle.sql_state.proofs.StopFacts.{failed_after, was_clean}
 pub use Rattle.sql_state.proofs.StopFacts.{no_read, read_on}
-use Rattle.bureau_sql.specs.Opening.{Asked, CanAsk, CanMakeConditions, CannotAsk, CannotMakeConditions, HasConditions, HasOtherShape, HasTables, IsAskedBy, IsNoStore, IsNotEarlier, IsNotMigrated, IsNotOf, IsOfBureau, IsOneStatement, IsOther, IsSeen, IsUnderstood, LacksConditions, LacksMore, LacksTables, LacksText, LacksVersion, TellsVersion, of_conditions, of_table, of_version}
-use Rattle.bureau_sql.specs.SqlState.{SqlState}
-use Rattle.bureau_sql.specs.SqlView.{IsAtRest, IsOurStore, shown, sql_view}
+use Rattle.bureau_sql.specs.Opening.{Asked, CanAsk, CanMakeConditions, CannotAsk, CannotMakeConditions, HasOtherShape, HasTables, IsAskedBy, IsNoStore, IsNotEarlier, IsNotMigrated, IsNotOf, IsOfBureau, IsOneStatement, IsOther, IsSeen, IsUnderstood, LacksConditions, LacksMore, LacksTables, LacksText, LacksVersion, TellsVersion, of_conditions, of_table, of_version}
 use Rattle.bureau_sql.proofs.FitFacts.{all_seen, all_so_far}
 
 -- ---- what the texts mean
@@ -82,17 +77,6 @@ found_where_open Fact old first second last (Ok done) one two three is_open fact
     let at_first = was_clean first second (λ trees. ⊥) two.survives at_second in
     let open_second = (three.keeps clean).was_open (is_open clean) in
     subst Fact ((one.keeps at_first).committed ((two.keeps at_second).was_open open_second)) (fact at_second open_second)
-
--- ---- facts of the committed rows
-
--- what was found of the committed rows between, where the connection was open then, holds of those before
-pub found_before : (Fact : Database → Type 0) (old first second last : State) → OnlyReads old first → OnlyReads first second → OnlyReads second last
-    → (HasCleanDisk second → IsTrue second.is_open) → (HasCleanDisk second → Fact first.committed) → HasCleanDisk last → Fact old.committed
-found_before Fact old first second last one two three is_open fact clean =
-    let at_second = was_clean second last (λ trees. ⊥) three.survives clean in
-    let at_first = was_clean first second (λ trees. ⊥) two.survives at_second in
-    let was_open = (two.keeps at_second).was_open (is_open at_second) in
-    subst Fact ((one.keeps at_first).committed was_open) (fact at_second)
 
 -- ---- the version
 
@@ -230,10 +214,6 @@ version_lacks text asks before database none = (
   (text, asks, none),
 )
 
--- what `open` found: the text that it looked at asks for the requisites under a condition
-pub conditions_found : (text : List ℕ) (schema : Schema) → HasTables schema → IsUnderstood schema text → ShowsAll bureau sysmod_cond text → HasTables schema × HasConditions schema
-conditions_found text schema tables means reads = (tables, (text, reads, means))
-
 -- what `migrate` found: the text that makes their table means something
 pub conditions_to_make : (text : List ℕ) (schema : Schema) → HasTables schema → IsUnderstood schema text → MakesTable bureau_1 text sysmod_cond bureau
     → HasTables schema × CanMakeConditions schema
@@ -276,10 +256,6 @@ module _ (wanted : ℕ) (schema : Schema) (Lacks : Schema → Type 0) (IsIt IsOt
 two_versions : (one other : ℕ) → Some one ≡ Some other → one ≡ other
 two_versions one other is = ap (λ (o : Option ℕ). unwrap_or o 0) is
 
--- what tells one version is no store of the other
-pub no_earlier_store : (database : Database) → TellsVersion (Some 2) database → IsOfVersion1 database → ⊥
-no_earlier_store database told earlier = omega (arith, two_versions 2 1 (told.earlier earlier))
-
 pub no_later_store : (database : Database) → TellsVersion (Some 1) database → IsOurs database → ⊥
 no_later_store database told ours = omega (arith, two_versions 1 2 (told.ours ours))
 
@@ -292,9 +268,3 @@ pub not_earlier : (text : List ℕ) (at new : State) (fault : StoreFault) → Ma
 not_earlier text at new fault makes =
     not_of 1 bureau_1 CannotMakeConditions IsOfVersion1 IsOurs IsNotMigrated text (inr refl) (_, makes.statement, omega arith, refl) (λ other none. (text, makes, none)) (λ database is. is.schema) (λ database is. inl is.schema)
     (λ database told ours. omega (arith, two_versions 1 2 (told.ours ours))) (λ version database told. told.earlier) at new fault
-
--- ---- what is taken for a store
-
--- a store over a connection that holds the bureau's own database
-pub our_store : {S : Type 0} (g : Ghosts S) (store : SqlState S) → IsAtRest (shown g store) → IsTrue (shown g store).is_open → IsOurs (shown g store).committed → IsOurStore g store
-our_store g store rests here ours = (λ trees may. subst AreOurs (sym (rests trees here may)) ours.rows, λ standing. (here, ours))

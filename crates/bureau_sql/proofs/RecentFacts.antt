@@ -1,31 +1,18 @@
--- What a store has read since its last change stays so over reads, and a change begins with nothing.
-use Rattle.std.proofs.Common.{◌≡◌, ◌∙◌, ◌⊎◌, ℕ, IfOk, IsTrue, List, Ok, Option, Result, Some, ap, arith, inl, inr, length, map, subst, sym}
+-- What a store has read since its last change stays so over reads.
+use Rattle.std.proofs.Common.{◌≡◌, ◌∙◌, ◌⊎◌, ℕ, IfOk, IsTrue, List, Ok, Option, Result, Some, ap, inl, inr, length, map, subst, sym}
 use Rattle.std.specs.Global.{Vec}
 use Rattle.std.specs.List.{Contains}
 use Rattle.std.specs.Option.{option_map}
-use Rattle.catalogue.specs.View.{Asks, Tells}
 use Rattle.bureau_store.specs.Caller.{caller_with}
-use Rattle.bureau_store.specs.Tables.{Tables, zone_named}
+use Rattle.bureau_store.specs.Tables.{zone_named}
 use Rattle.bureau_store.specs.declared.caller.Caller.{Caller}
 use Rattle.sqlite.specs.State.{HasCleanDisk, State}
 use Rattle.sql_state.specs.Ours.{IsOurs, held_by}
 use Rattle.sql_state.specs.Reading.{OnlyReads}
-use Rattle.sqlite_trees.specs.declared.store.Store.{Ghosts}
-use Rattle.lemmas.proofs.ListFacts.{none_inside}
 use Rattle.zone_lists.specs.declared.zones.ZoneRow.{ZoneRow}
 use Rattle.sql_tables.specs.Stored.{Stored, tables_of}
-use Rattle.sql_state.proofs.StopFacts.{no_read, was_clean}
-use Rattle.bureau_sql.specs.Recent.{AreReadFrom, AreZonesOf, HasMore, IsRecent, RecentLists, nothing_read}
-use Rattle.bureau_sql.specs.SqlState.{SqlState}
-use Rattle.bureau_sql.specs.SqlView.{shown, sql_view, tables_in}
-
-pub nothing_recent : (at : State) (recent : RecentLists) → recent ≡ nothing_read → IsRecent at recent
-nothing_recent at recent none clean is_open ours =
-    subst (AreReadFrom (tables_of (held_by at.committed))) (sym none) (record {
-      tokens = λ read inside. absurd (none_inside read inside);
-      zones = λ read inside. absurd (none_inside read inside);
-      rows = λ read inside. absurd (none_inside read inside);
-    })
+use Rattle.sql_state.proofs.StopFacts.{was_clean}
+use Rattle.bureau_sql.specs.Recent.{AreReadFrom, AreZonesOf, HasMore, IsRecent, RecentLists}
 
 -- what the committed rows are after a read, they were before
 module _ (old new : State) (reads : OnlyReads old new) (Fact : Stored → Type 0) where
@@ -110,23 +97,6 @@ module _ (old mid : State) (recent recent' : RecentLists) (reads : OnlyReads old
               (subst (λ owner. Some read.rows ≡ option_map (λ table. table.rows) (zone_named zone (tables.zones owner))) (sym now.2.1) there)
         ];
       }
-
--- ---- what is answered again
-
-module _ {S : Type 0} (g : Ghosts S) (store : SqlState S) (standing : store.failures ≡ 0) where
-  pub asks_again : {Answer Refusal : Type 0} (device : Refusal) (answer : Answer) → Asks (sql_view g) device store store (Ok answer)
-  asks_again device answer = record {
-    keeps = record { reads = no_read (shown g store); failures_rise = omega arith; stays_open = λ none clean was. was };
-    cause = λ is. absurd cc;
-    is_open = λ none. standing;
-  }
-
-  pub tells_again : (recent : RecentLists) (Fact : Tables → Type 0) → IsRecent (shown g store) recent
-      → ((tables : Tables) → AreReadFrom tables recent → Fact tables) → Tells (sql_view g) store store Fact
-  tells_again recent Fact was read = record {
-    told = λ ours clean this stands.
-        subst Fact (stands standing) (read (tables_in g store) (was clean (ours.1 standing).0 (ours.1 standing).1));
-  }
 
 -- ---- what is kept
 

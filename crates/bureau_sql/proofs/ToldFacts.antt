@@ -1,16 +1,13 @@
 -- A read of a connection, and how it is told, are a read of the store.
-use Rattle.std.proofs.Common.{◌≡◌, ◌≢◌, ◌∙◌, ◌≤◌, Err, IfOk, IsTrue, Ok, Result, ap, arith, inl, inr, refl, subst, sym}
-use Rattle.catalogue.specs.Content.{Content}
+use Rattle.std.proofs.Common.{◌≡◌, ◌≢◌, ◌∙◌, Err, IfOk, IsTrue, Ok, Result, ap, arith, inl, inr, subst, sym}
 use Rattle.catalogue.specs.View.{Asks, HasFailed, Tells}
 use Rattle.bureau_store.specs.Tables.{Tables}
-use Rattle.sqlite.specs.Held.{state}
 use Rattle.sqlite.specs.State.{HasCleanDisk}
 use Rattle.sqlite_trees.specs.declared.store.Store.{Ghosts}
 use Rattle.sql_tables.specs.Stored.{Stored, tables_of}
 use Rattle.sql_state.specs.Ours.{IsOurs, held_by}
-use Rattle.sql_state.specs.Reading.{Finds, OnlyReads}
-use Rattle.sql_state.proofs.StopFacts.{no_read, read_on}
-use Rattle.bureau_sql.specs.Laws.{sql_content_view}
+use Rattle.sql_state.specs.Reading.{Finds}
+use Rattle.sql_state.proofs.StopFacts.{read_on}
 use Rattle.bureau_sql.specs.SqlState.{SqlState}
 use Rattle.bureau_sql.specs.SqlView.{Stays, shown, sql_view}
 use Rattle.bureau_sql.specs.Told.{IsTold}
@@ -76,30 +73,3 @@ module _ {S : Type 0} (g : Ghosts S) where
           subst (λ tables. Meaning tables answer) (stands standing) (means (held_by (shown g old).committed) answer (fact before (ours.1 standing).1));
     }
     tells Meaning means (Err refusal) told = tt
-
-  -- a store that is closed refuses each read, and its connection is as it was
-  pub closed_asks : {Answer Refusal : Type 0} (device : Refusal) (old new : SqlState S) → new.conn ≡ old.conn → HasFailed (sql_view g) old new → old.failures ≤ new.failures
-      → Asks (sql_view g) {Answer = Answer} device old new (Err device)
-  closed_asks device old new same failed rise = record {
-    keeps = record {
-      reads = subst (λ conn. OnlyReads (shown g old) (state g conn)) (sym same) (no_read (shown g old));
-      failures_rise = rise;
-      stays_open = λ none clean was. absurd (never_failed old new failed none);
-    };
-    cause = λ is. failed;
-    is_open = λ none. absurd (none refl);
-  }
-
-  -- ---- of what is published
-
-  pub asks_content : {Answer Refusal : Type 0} (device : Refusal) (old new : SqlState S) (answer : Result Answer Refusal) → Asks (sql_view g) device old new answer
-      → Asks (sql_content_view g) device old new answer
-  asks_content device old new answer asks = record { keeps = asks.keeps; cause = asks.cause; is_open = asks.is_open }
-
-  pub tells_content : {Answer Refusal : Type 0} (old new : SqlState S) (Fact : Content → Answer → Type 0) (answer : Result Answer Refusal)
-      → IfOk answer (λ answer. Tells (sql_view g) old new (λ this. Fact this.content answer))
-      → IfOk answer (λ answer. Tells (sql_content_view g) old new (λ content. Fact content answer))
-  tells_content old new Fact (Ok answer) tells = record {
-    told = λ ours clean this stands. subst (λ content. Fact content answer) stands.2 (tells.told ours clean stands.0 stands.1);
-  }
-  tells_content old new Fact (Err refusal) tells = tt

@@ -1,6 +1,6 @@
 use Rattle.std.proofs.lemmas.Result.{IfErr-weaker}
 use Rattle.sqlite.specs.Held.{state}
-use Rattle.bureau_sql.proofs.OpenFacts.{conditions_found, no_earlier_store, no_store}
+use Rattle.bureau_sql.proofs.OpenFacts.{no_store}
 use Rattle.bureau_sql.proofs.OpensFacts.{opens_unless}
 use Rattle.bureau_sql.proofs.finding.find_store.Goals as goal
 

@@ -2,8 +2,7 @@ use Rattle.std.proofs.Common.{refl}
 use Rattle.sqlite.specs.Held.{state}
 use Rattle.sqlite.specs.State.{HasCleanDisk}
 use Rattle.sql_writes.specs.Making.{IsOpened}
-use Rattle.bureau_sql.proofs.FailingFacts.{fails_to_found}
-use Rattle.bureau_sql.proofs.FoundedFacts.{founded, ours_new, tables_new}
+use Rattle.bureau_sql.proofs.FoundedFacts.{ours_new, tables_new}
 use Rattle.bureau_sql.proofs.making.init.Goals as goal
 
 is_opened : (g : _) (c : goal.In-Ok g) → HasCleanDisk (state g.S.Store c.found-made.new.conn) → IsOpened c.args.callers.now (state g.S.Store c.found-made.new.conn).committed
