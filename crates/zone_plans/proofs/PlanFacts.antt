@@ -1,5 +1,5 @@
 -- The plan for the holds of a report.
-use Rattle.std.proofs.Common.{◌≡◌, ◌∙◌, ◌+◌, ◌<◌, ℕ, zero, suc, ◌-◌, Err, List, [], ◌∷◌, Option, Result, Some, None, arith, inl, inr, length, map, refl, sym, ap, subst}
+use Rattle.std.proofs.Common.{◌≡◌, ◌∙◌, ℕ, zero, suc, ◌-◌, Err, List, [], ◌∷◌, Option, Result, Some, None, arith, inl, inr, length, map, refl, sym, ap, subst}
 use Rattle.std.specs.Prelude.{IfSome, not}
 use Rattle.std.specs.List.{Contains, filter_map, slice_get}
 use Rattle.lemmas.proofs.ListFacts.{first_inside, kept_from, made_from, map_found, map_from, map_inside, rest_inside}

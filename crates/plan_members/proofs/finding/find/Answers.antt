@@ -1,4 +1,4 @@
-use Rattle.std.proofs.Common.{List, ℕ, subst, sym, ap}
+use Rattle.std.proofs.Common.{List, ℕ, subst, sym}
 use Rattle.zone_plans.specs.Findings.{AreFoundOf, FindingLists}
 use Rattle.zone_plans.specs.Plans.{resolvers_of}
 use Rattle.zone_plans.specs.declared.holds.ChosenResolver.{ChosenResolver}

@@ -1,5 +1,4 @@
 use Rattle.std.proofs.Common.{◌≡◌, ◌∙◌, List, ℕ, sym, ap, subst}
-use Rattle.std.specs.List.{Contains}
 use Rattle.lemmas.proofs.ResultFacts.{ok_so}
 use Rattle.catalogue.specs.Ids.{in_order}
 use Rattle.catalogue.proofs.IdFacts.{in_order_has}

@@ -1,4 +1,4 @@
-use Rattle.std.proofs.Common.{◌≡◌, ◌∙◌, List, Option, ℕ, map, option_map, sym, ap}
+use Rattle.std.proofs.Common.{◌∙◌, List, Option, ℕ, map, option_map, ap}
 use Rattle.std.specs.Global.{Vec}
 use Rattle.mcs_reader.specs.declared.id.Id.{Id}
 use Rattle.catalogue.proofs.SourceFacts.{told_both, told_later, told_sooner}

@@ -1,4 +1,4 @@
-use Rattle.std.proofs.Common.{◌≡◌, ◌∙◌, ℕ, List, Option, map, option_map, sym, ap, subst}
+use Rattle.std.proofs.Common.{◌≡◌, ◌∙◌, ℕ, List, map, option_map, sym, ap, subst}
 use Rattle.std.specs.Global.{Vec}
 use Rattle.std.specs.List.{Contains}
 use Rattle.mcs_reader.specs.declared.id.Id.{Id}
