@@ -2,12 +2,11 @@
 use Rattle.std.proofs.Common.{◌≡◌, ◌∙◌, ◌<◌, ℕ, List, [], ◌∷◌, Bool, true, false, ◌||◌, ◌&&◌, cond, Some, None, length, get_or, map, refl, sym, ap, subst}
 use Rattle.std.specs.Prelude.{not}
 use Rattle.std.specs.List.{Contains, filter, list_any}
-use Rattle.std.proofs.lemmas.List.{length-map}
-use Rattle.lemmas.proofs.ListFacts.{flat_inside, kept_from, kept_inside, map_inside, get_any}
+use Rattle.lemmas.proofs.ListFacts.{flat_inside, get_any}
 use Rattle.lemmas.proofs.TestFacts.{same_test}
 use Rattle.report_holds.specs.declared.holds.HoldOn.{HoldOn}
 use Rattle.zone_lists.specs.declared.zones.ZoneRow.{ZoneRow}
-use Rattle.catalogue.specs.Content.{Content, ids_of}
+use Rattle.catalogue.specs.Content.{Content}
 use Rattle.catalogue.specs.Ids.{in_order, same_id}
 use Rattle.catalogue.proofs.IdFacts.{in_order_has}
 use Rattle.supersede.specs.Giving.{gives, givers_of, is_candidate, is_there, needs_in}
@@ -16,16 +15,16 @@ use Rattle.supersede.proofs.LeadingFacts.{gives_is}
 use Rattle.supersede.proofs.ReachFacts.{has_from, has_to}
 use Rattle.requisites.specs.Nodes.{row}
 use Rattle.requisites.specs.World.{IsPlan}
-use Rattle.chains.specs.Candidates.{candidates_unless_there}
 use Rattle.chains.specs.Cuts.{id_at}
 use Rattle.chains.specs.Worlds.{world_of}
 use Rattle.chains.proofs.IndexFacts.{at_inside}
-use Rattle.chains.proofs.PartFacts.{at_map}
+use Rattle.zone_plans.specs.Findings.{AreFoundOf, known_givers}
 use Rattle.zone_plans.specs.Members.{joined, needs_id}
+use Rattle.zone_plans.specs.Plans.{PlanLists}
 use Rattle.zone_plans.specs.declared.holds.ChosenResolver.{ChosenResolver}
-use Rattle.zone_plans.proofs.PlannedFacts.{answer_has, answer_says}
-use Rattle.zone_plans.specs.Readings.{ReadingLists, nothing_read, reading_of}
-use Rattle.plan_members.specs.Found.{AreFound, FoundLists, IsTold, absent_givers, gives_one, holds_at, is_needed_at, no_resolver, or_none, others_at, picked, places, reading_at, resolver_at, resolvers_in}
+use Rattle.zone_plans.proofs.PlannedFacts.{answer_has, answer_says, known_has, known_says}
+use Rattle.zone_plans.specs.Readings.{reading_of}
+use Rattle.plan_members.specs.Found.{AreFound, FoundLists, IsTold, absent_givers, gives_one, holds_at, is_needed_at, no_resolver, or_none, others_at, picked, resolver_at}
 use Rattle.plan_members.specs.Members.{MemberLists, holds_for, member_at, needed_by_of}
 use Rattle.plan_members.proofs.PlaceFacts.{filter_twice, places_kept, places_same}
 
@@ -40,17 +39,7 @@ filter_alike p q [] same = refl
 filter_alike p q (x ∷ xs) same =
     ap (λ b. cond b (x ∷ filter p xs) (filter p xs)) (same x) ∙ ap (λ l. cond (q x) (x ∷ l) l) (filter_alike p q xs same)
 
--- ---- what is asked for
-
-pub resolver_asked : (resolved : List ChosenResolver) (asked : List (List ℕ)) (k : ℕ) (one : ChosenResolver) → asked ≡ resolvers_in resolved → k < length resolved → one ≡ get_or resolved k one → has asked one.resolver ≡ true
-resolver_asked resolved asked k one are below at =
-    let P : List (List ℕ) → Type 0 = λ l. has l one.resolver ≡ true in
-    let inside : Contains resolved one = (k, below, sym at) in
-    subst P (sym are) (has_from (resolvers_in resolved) one.resolver ((in_order_has (map (λ (c : ChosenResolver). c.resolver) resolved) one.resolver).1 (map_inside (λ (c : ChosenResolver). c.resolver) resolved one inside)))
-
--- what stands at a place
-pub reading_is : (readings : List ReadingLists) (k : ℕ) (reading : ReadingLists) → k < length readings → reading ≡ get_or readings k reading → reading ≡ reading_at readings k
-reading_is readings k reading below at = at ∙ get_any readings k reading nothing_read below
+-- ---- what stands at a place
 
 pub resolver_is : (resolved : List ChosenResolver) (k : ℕ) (one : ChosenResolver) → k < length resolved → one ≡ get_or resolved k one → one.resolver ≡ resolver_at resolved k
 resolver_is resolved k one below at = ap (λ (c : ChosenResolver). c.resolver) (at ∙ get_any resolved k one no_resolver below)
@@ -58,12 +47,12 @@ resolver_is resolved k one below at = ap (λ (c : ChosenResolver). c.resolver) (
 -- ---- what gives
 
 module _ (content : Content) (rows : List ZoneRow) where
-  -- what gives a resolver is all that does
-  pub givers_are : (resolver id : List ℕ) → has (givers_of content resolver) id ≡ gives content id resolver
-  givers_are resolver id =
-      same_test (has (givers_of content resolver) id) (gives content id resolver)
-      (λ on. (kept_from (λ (giver : List ℕ). gives content giver resolver) (ids_of content) id (has_to (givers_of content resolver) id on)).passes)
-      (λ on. has_from (givers_of content resolver) id (kept_inside (λ (giver : List ℕ). gives content giver resolver) (ids_of content) id ((gives_is content id resolver).0 on).catalogued on))
+  -- for a candidate, what is known to give a resolver is all that does
+  pub givers_are : (resolver id : List ℕ) → is_candidate content rows id ≡ true → has (known_givers content rows resolver) id ≡ gives content id resolver
+  givers_are resolver id candidate =
+      same_test (has (known_givers content rows resolver) id) (gives content id resolver)
+      (λ on. (gives_is content id resolver).1 (known_says content rows resolver id (has_to (known_givers content rows resolver) id on)))
+      (λ on. has_from (known_givers content rows resolver) id (known_has content rows resolver id candidate ((gives_is content id resolver).0 on)))
 
   -- for a candidate, what gives a need that isn't there is all that does
   pub absent_is : (need id : List ℕ) → is_candidate content rows id ≡ true → has (absent_givers content rows need) id ≡ (not (is_there content rows need) && gives content id need)
@@ -87,66 +76,54 @@ module _ (content : Content) (rows : List ZoneRow) where
 
   -- ---- what is told
 
-  module _ (received : List (List ℕ)) (resolved : List ChosenResolver) (found : FoundLists) (are : AreFound content rows resolved found) where
-    read_at : (q : ℕ) → q < length found.ids → reading_at found.readings q ≡ reading_of content rows (id_at found.ids q)
-    read_at q within = ap (λ (l : List ReadingLists). reading_at l q) are.readings ∙ at_map (reading_of content rows) found.ids q [] nothing_read within
-
-    holds_are : (q : ℕ) → q < length found.ids → holds_at resolved (row found.resolving q) ≡ holds_for content resolved (id_at found.ids q)
-    holds_are q within =
+  module _ (received : List (List ℕ)) (plan : PlanLists) (found : FoundLists) (are : AreFound content rows plan.resolved found) where
+    holds_are : (q : ℕ) → q < length found.ids → is_candidate content rows (id_at found.ids q) ≡ true → holds_at plan.resolved (row found.resolving q) ≡ holds_for content plan.resolved (id_at found.ids q)
+    holds_are q within candidate =
         let id = id_at found.ids q in
         ap (λ (l : List ChosenResolver). map (λ (one : ChosenResolver). one.hold) l)
-        (ap (picked resolved) (are.resolving.each q within)
-        ∙ places_kept resolved no_resolver (λ (one : ChosenResolver). has (givers_of content one.resolver) id)
-        ∙ filter_alike (λ (one : ChosenResolver). has (givers_of content one.resolver) id) (λ (one : ChosenResolver). gives content id one.resolver) resolved (λ one. givers_are one.resolver id))
-
-    as_many : length found.readings ≡ length found.ids
-    as_many = ap length are.readings ∙ length-map found.ids (reading_of content rows)
-
-    needed_at : (q k : ℕ) → is_candidate content rows (id_at found.ids q) ≡ true → k < length found.ids → is_needed_at (absent_givers content rows) found.readings k (id_at found.ids q) ≡ needs_id content rows (id_at found.ids k) (id_at found.ids q)
-    needed_at q k candidate below =
-        ap (λ (r : ReadingLists). gives_one (absent_givers content rows) r.needs (id_at found.ids q)) (read_at k below)
-        ∙ needed_is (id_at found.ids k) (id_at found.ids q) candidate
+        (ap (picked plan.resolved) (are.resolving.each q within)
+        ∙ places_kept plan.resolved no_resolver (λ (one : ChosenResolver). has (known_givers content rows one.resolver) id)
+        ∙ filter_alike (λ (one : ChosenResolver). has (known_givers content rows one.resolver) id) (λ (one : ChosenResolver). gives content id one.resolver) plan.resolved (λ one. givers_are one.resolver id candidate))
 
     needed_are : (q : ℕ) → q < length found.ids → is_candidate content rows (id_at found.ids q) ≡ true → others_at found.ids (id_at found.ids q) (row found.needing q) ≡ needed_by_of content rows found.ids (id_at found.ids q)
     needed_are q within candidate =
         let id = id_at found.ids q in
         let apart = λ (other : List ℕ). not (same_id other id) in
         let needs = λ (other : List ℕ). needs_id content rows other id in
-        let test = λ (k : ℕ). is_needed_at (absent_givers content rows) found.readings k id in
+        let test = λ (k : ℕ). is_needed_at content rows found.ids k id in
         ap (λ (l : List (List ℕ)). filter apart l)
-        (ap (picked found.ids) (are.needing.each q within ∙ ap (places test) as_many ∙ places_same test (λ k. needs (id_at found.ids k)) (length found.ids) (λ k below. needed_at q k candidate below))
+        (ap (picked found.ids) (are.needing.each q within ∙ places_same test (λ k. needs (id_at found.ids k)) (length found.ids) (λ k below. needed_is (id_at found.ids k) id candidate))
         ∙ places_kept found.ids [] needs)
         ∙ filter_twice apart needs found.ids
 
     -- what is told of each member is what is said of it
-    pub is_told : ((q : ℕ) → q < length found.ids → is_candidate content rows (id_at found.ids q) ≡ true) → IsTold received resolved found (member_at content rows received resolved found.ids)
-    is_told candidates = λ step q within.
-        let id = id_at found.ids q in
-        let made : ReadingLists → List HoldOn → List (List ℕ) → MemberLists = λ r holds needed. record {
-          step = step;
-          id = id;
-          fmids = r.fmids;
-          received = has received id;
-          holds = holds;
-          needed_by = needed;
-          system = r.system;
-          user = r.user;
-        } in
-        let read = reading_of content rows id in
-        let candidate = candidates q within in
-        sym (ap (λ (r : ReadingLists). made r (holds_at resolved (row found.resolving q)) (others_at found.ids id (row found.needing q))) (read_at q within)
-        ∙ ap (λ (l : List HoldOn). made read l (others_at found.ids id (row found.needing q))) (holds_are q within)
-        ∙ ap (λ (l : List (List ℕ)). made read (holds_for content resolved id) l) (needed_are q within candidate))
+    pub is_told : AreFoundOf content rows plan.findings found.ids → ((q : ℕ) → q < length found.ids → is_candidate content rows (id_at found.ids q) ≡ true)
+        → IsTold content rows received plan found (member_at content rows received plan.resolved found.ids)
+    is_told read candidates = record {
+      read = read;
+      each = λ step q within.
+          let id = id_at found.ids q in
+          let own = reading_of content rows id in
+          let made : List HoldOn → List (List ℕ) → MemberLists = λ holds needed. record {
+            step = step;
+            id = id;
+            fmids = own.fmids;
+            received = has received id;
+            holds = holds;
+            needed_by = needed;
+            system = own.system;
+            user = own.user;
+          } in
+          let candidate = candidates q within in
+          sym (ap (λ (l : List HoldOn). made l (others_at found.ids id (row found.needing q))) (holds_are q within candidate)
+          ∙ ap (λ (l : List (List ℕ)). made (holds_for content plan.resolved id) l) (needed_are q within candidate));
+    }
 
   -- the members of a plan may be installed in the zone
   pub candidates_in : (steps : List (List (List ℕ))) (ids : List (List ℕ)) → ids ≡ in_order (joined steps) → IsPlan (world_of content rows) (joined steps) → (q : ℕ) → q < length ids → is_candidate content rows (id_at ids q) ≡ true
   candidates_in steps ids are plan q within =
       let P : List (List ℕ) → Type 0 = λ l. Contains l (id_at ids q) in
       plan.candidates (id_at ids q) ((in_order_has (joined steps) (id_at ids q)).0 (subst P are (at_inside ids q within)))
-
-  pub absent_map : (ids : List (List ℕ)) → map or_none (map (candidates_unless_there content rows) ids) ≡ map (absent_givers content rows) ids
-  absent_map [] = refl
-  absent_map (id ∷ ids) = ap (λ l. absent_givers content rows id ∷ l) (absent_map ids)
 
 -- ---- steps
 

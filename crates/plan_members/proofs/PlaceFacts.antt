@@ -1,5 +1,5 @@
 -- The places of a list at which a test holds, and how they are put into rows.
-use Rattle.std.proofs.Common.{◌≡◌, ◌∙◌, ◌+◌, ◌-◌, ◌<◌, ◌≤◌, ℕ, zero, suc, List, [], ◌∷◌, ◌++◌, Bool, true, false, ◌||◌, ◌&&◌, cond, Option, Some, length, get_or, set, take, map, refl, sym, ap, inl, inr, arith, length-append, add-one, append_assoc}
+use Rattle.std.proofs.Common.{◌≡◌, ◌∙◌, ◌+◌, ◌-◌, ◌<◌, ◌≤◌, ℕ, zero, suc, List, [], ◌∷◌, ◌++◌, Bool, true, false, ◌||◌, ◌&&◌, cond, Option, Some, None, length, get_or, set, take, map, refl, sym, ap, subst, inl, inr, arith, length-append, add-one, append_assoc}
 use Rattle.std.specs.List.{Contains, cons_option, filter, list_any, slice_get}
 use Rattle.std.proofs.lemmas.Bool.{eq-eqb, ne_eqb}
 use Rattle.std.proofs.lemmas.Bool.Decides.{eqb_tells}
@@ -17,7 +17,7 @@ use Rattle.chains.specs.Cuts.{id_at}
 use Rattle.chains.specs.Indices.{IsAt}
 use Rattle.chains.proofs.AnswerFacts.{index_is}
 use Rattle.chains.proofs.IndexFacts.{indexed_inside}
-use Rattle.plan_members.specs.Found.{ArePlaces, ArePut, ends_with, gives_one, is_some_of, once, picked, places, with_once}
+use Rattle.plan_members.specs.Found.{ArePlaces, ArePut, ArePutBy, ends_with, gives_one, is_some_of, once, or_none, picked, places, with_once}
 
 -- ---- a place put once
 
@@ -73,6 +73,13 @@ put_none test ids place rows none = record {
   len = refl;
   each = λ q within. sym (ap (λ b. once b place (row rows q)) (none (id_at ids q)));
 }
+
+-- by an answer
+pub put_by : (answer : Option (List (List ℕ))) (ids : List (List ℕ)) (place : ℕ) (old new : List (List ℕ)) → ArePutBy answer ids place old new → ArePut (has (or_none answer)) ids place old new
+put_by None ids place old new same =
+    let P : List (List ℕ) → Type 0 = λ l. ArePut (has []) ids place old l in
+    subst P (sym same) (put_none (has []) ids place old (λ id. refl))
+put_by (Some givers) ids place old new put = put
 
 pub put_more : (test more : List ℕ → Bool) (ids : List (List ℕ)) (place : ℕ) (a b c : List (List ℕ)) → ArePut test ids place a b → ArePut more ids place b c → ArePut (λ id. test id || more id) ids place a c
 put_more test more ids place a b c first second = record {

@@ -2,24 +2,21 @@
 use Rattle.std.specs.Prelude.{◌≡◌, ◌<◌, ◌++◌, ◌==◌, ℕ, zero, suc, Bool, false, not, List, [], ◌∷◌, Option, Some, None, filter, length, map, if◌then◌else◌, slice_index_or, ◌-◌}
 use Rattle.std.specs.Global.{Vec}
 use Rattle.std.specs.List.{filter_map, list_any, slice_get}
-use Rattle.mcs_reader.specs.declared.id.Id.{Id}
 use Rattle.zone_lists.specs.declared.zones.ZoneRow.{ZoneRow}
 use Rattle.catalogue.specs.Content.{Content}
-use Rattle.catalogue.specs.Ids.{in_order, same_id}
-use Rattle.supersede.specs.Giving.{givers_of}
+use Rattle.catalogue.specs.Ids.{same_id}
+use Rattle.supersede.specs.Giving.{needs_in}
 use Rattle.supersede.specs.Reach.{has}
 use Rattle.requisites.specs.Nodes.{row}
 use Rattle.chains.specs.Candidates.{candidates_unless_there}
 use Rattle.chains.specs.Cuts.{id_at}
 use Rattle.chains.specs.Indices.{RowsAre}
 use Rattle.report_holds.specs.declared.holds.HoldOn.{HoldOn}
-use Rattle.zone_plans.specs.Readings.{ReadingLists, nothing_read, reading_of}
+use Rattle.zone_plans.specs.Findings.{AreFoundOf, known_givers}
+use Rattle.zone_plans.specs.Plans.{PlanLists}
+use Rattle.zone_plans.specs.Readings.{reading_of}
 use Rattle.zone_plans.specs.declared.holds.ChosenResolver.{ChosenResolver}
 use Rattle.plan_members.specs.Members.{MemberLists}
-
--- what is read of the member at an index
-abbrev pub reading_at : List ReadingLists → ℕ → ReadingLists
-reading_at readings p = slice_index_or readings p nothing_read
 
 -- ---- what gives an id
 
@@ -31,9 +28,6 @@ or_none (Some ids) = ids
 -- the candidates that give an id, or none where it is there
 abbrev pub absent_givers : Content → List ZoneRow → List ℕ → List (List ℕ)
 absent_givers content rows id = or_none (candidates_unless_there content rows id)
-
-abbrev pub lists_of : List (Vec Id) → List (List (List ℕ))
-lists_of lists = map (λ list. list.items) lists
 
 -- whether something gives one of some needs
 abbrev pub gives_one : (List ℕ → List (List ℕ)) → List (List ℕ) → List ℕ → Bool
@@ -69,18 +63,23 @@ pub record ArePut (test : List ℕ → Bool) (ids : List (List ℕ)) (place : �
   pub len : length new ≡ length old
   pub each : (q : ℕ) → q < length ids → row new q ≡ once (test (id_at ids q)) place (row old q)
 
+-- the same for those that an answer has
+abbrev pub ArePutBy : Option (List (List ℕ)) → List (List ℕ) → ℕ → List (List ℕ) → List (List ℕ) → Type 0
+ArePutBy None ids place old new = new ≡ old
+ArePutBy (Some givers) ids place old new = ArePut (has givers) ids place old new
+
 -- the row of each id has the places below a number at which a test of the id holds
 abbrev pub ArePlaces : (ℕ → List ℕ → Bool) → List (List ℕ) → ℕ → List (List ℕ) → Type 0
 ArePlaces test ids n rows = RowsAre (λ q found. found ≡ places (λ k. test k (id_at ids q)) n) (length ids) rows
 
 -- ---- what needs a member, and for which holds it came
 
--- whether a member gives what is needed at a place
-abbrev pub is_needed_at : (List ℕ → List (List ℕ)) → List ReadingLists → ℕ → List ℕ → Bool
-is_needed_at f readings k id = gives_one f (reading_at readings k).needs id
+-- whether a member gives what the one at a place needs
+abbrev pub is_needed_at : Content → List ZoneRow → List (List ℕ) → ℕ → List ℕ → Bool
+is_needed_at content rows ids k id = gives_one (absent_givers content rows) (needs_in content rows (id_at ids k)) id
 
-abbrev pub AreNeeding : (List ℕ → List (List ℕ)) → List (List ℕ) → List ReadingLists → List (List ℕ) → Type 0
-AreNeeding f ids readings rows = ArePlaces (is_needed_at f readings) ids (length readings) rows
+abbrev pub AreNeeding : Content → List ZoneRow → List (List ℕ) → List (List ℕ) → Type 0
+AreNeeding content rows ids needing = ArePlaces (is_needed_at content rows ids) ids (length ids) needing
 
 -- the resolver of a hold at a place
 abbrev pub no_resolver : ChosenResolver
@@ -90,30 +89,25 @@ abbrev pub resolver_at : List ChosenResolver → ℕ → List ℕ
 resolver_at resolved k = (slice_index_or resolved k no_resolver).resolver
 
 -- whether a member gives it
-abbrev pub resolves_at : (List ℕ → List (List ℕ)) → List ChosenResolver → ℕ → List ℕ → Bool
-resolves_at f resolved k id = has (f (resolver_at resolved k)) id
+abbrev pub resolves_at : Content → List ZoneRow → List ChosenResolver → ℕ → List ℕ → Bool
+resolves_at content rows resolved k id = has (known_givers content rows (resolver_at resolved k)) id
 
-abbrev pub AreResolving : (List ℕ → List (List ℕ)) → List (List ℕ) → List ChosenResolver → List (List ℕ) → Type 0
-AreResolving f ids resolved rows = ArePlaces (resolves_at f resolved) ids (length resolved) rows
-
--- the resolvers of some holds, ascending, each once
-abbrev pub resolvers_in : List ChosenResolver → List (List ℕ)
-resolvers_in resolved = in_order (map (λ one. one.resolver) resolved)
+abbrev pub AreResolving : Content → List ZoneRow → List (List ℕ) → List ChosenResolver → List (List ℕ) → Type 0
+AreResolving content rows ids resolved resolving =
+    ArePlaces (resolves_at content rows resolved) ids (length resolved) resolving
 
 -- ---- what is told
 
--- what is found of the members: their ids, what is read of each, and by place which members need it and for which holds it came
+-- what is found of the members: their ids, and by place which members need each and for which holds it came
 pub record FoundLists : Type 0 where
   pub ids : List (List ℕ)
-  pub readings : List ReadingLists
   pub needing : List (List ℕ)
   pub resolving : List (List ℕ)
 
 -- it is found of each
 pub record AreFound (content : Content) (rows : List ZoneRow) (resolved : List ChosenResolver) (found : FoundLists) : Type 0 where
-  pub readings : found.readings ≡ map (reading_of content rows) found.ids
-  pub needing : AreNeeding (absent_givers content rows) found.ids found.readings found.needing
-  pub resolving : AreResolving (givers_of content) found.ids resolved found.resolving
+  pub needing : AreNeeding content rows found.ids found.needing
+  pub resolving : AreResolving content rows found.ids resolved found.resolving
 
 -- what stands at some places
 abbrev pub picked : {X : Type 0} → List X → List ℕ → List X
@@ -127,19 +121,19 @@ abbrev pub holds_at : List ChosenResolver → List ℕ → List HoldOn
 holds_at resolved places = map (λ one. one.hold) (picked resolved places)
 
 -- what is told of the member at an index
-abbrev pub told_at : List (List ℕ) → List ChosenResolver → FoundLists → ℕ → ℕ → MemberLists
-told_at received resolved found step q = record {
+abbrev pub told_at : Content → List ZoneRow → List (List ℕ) → List ChosenResolver → FoundLists → ℕ → ℕ → MemberLists
+told_at content rows received resolved found step q = record {
   step = step;
   id = id_at found.ids q;
-  fmids = (reading_at found.readings q).fmids;
+  fmids = (reading_of content rows (id_at found.ids q)).fmids;
   received = has received (id_at found.ids q);
   holds = holds_at resolved (row found.resolving q);
   needed_by = others_at found.ids (id_at found.ids q) (row found.needing q);
-  system = (reading_at found.readings q).system;
-  user = (reading_at found.readings q).user;
+  system = (reading_of content rows (id_at found.ids q)).system;
+  user = (reading_of content rows (id_at found.ids q)).user;
 }
 
--- something is what is told of each member
-abbrev pub IsTold : List (List ℕ) → List ChosenResolver → FoundLists → (ℕ → List ℕ → MemberLists) → Type 0
-IsTold received resolved found at =
-    (step q : ℕ) → q < length found.ids → at step (id_at found.ids q) ≡ told_at received resolved found step q
+-- something is what is told of each member, and each stands among what was found for the plan
+pub record IsTold (content : Content) (rows : List ZoneRow) (received : List (List ℕ)) (plan : PlanLists) (found : FoundLists) (at : ℕ → List ℕ → MemberLists) : Type 0 where
+  pub read : AreFoundOf content rows plan.findings found.ids
+  pub each : (step q : ℕ) → q < length found.ids → at step (id_at found.ids q) ≡ told_at content rows received plan.resolved found step q

@@ -1,8 +1,7 @@
-//! Which SYSMODs a plan has: members of its steps and chosen resolvers, ascending, each once.
+//! Which SYSMODs a plan has.
 ghost use Rattle.std.specs.Prelude.{◌≡◌, IfOk};
 ghost use Rattle.catalogue.specs.Ids.{Ascend, in_order};
 ghost use Rattle.zone_plans.specs.Members.{joined};
-ghost use Rattle.plan_members.specs.Found.{resolvers_in};
 
 use chains::listed;
 use faults::NoMemory;
@@ -10,7 +9,7 @@ use mcs_reader::Id;
 use reports::put_all;
 use std::alloc::Global;
 use std::collections::BTreeSet;
-use zone_plans::{ChosenResolver, Steps};
+use zone_plans::Steps;
 
 /// The members of some steps, ascending, each once.
 pub(crate) fn members_in(alloc: Global, steps: &Steps) -> Result<Vec<Id>, NoMemory>
@@ -21,18 +20,6 @@ pub(crate) fn members_in(alloc: Global, steps: &Steps) -> Result<Vec<Id>, NoMemo
     for index in 0..steps.len() {
         let step = steps.step(alloc, index)?;
         put_all(&mut found, &step)?;
-    }
-    listed(alloc, found)
-}
-
-/// The resolvers of some holds, ascending, each once.
-pub(crate) fn resolvers_in(alloc: Global, resolved: &[ChosenResolver]) -> Result<Vec<Id>, NoMemory>
-    ensures ids { IfOk result (λ ids. ids.items ≡ resolvers_in resolved.now) }
-    ensures ascend { IfOk result (λ ids. Ascend ids.items) }
-{
-    let mut found = BTreeSet::new(alloc);
-    for one in resolved {
-        found.insert(one.resolver)?;
     }
     listed(alloc, found)
 }

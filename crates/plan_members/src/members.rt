@@ -1,21 +1,19 @@
 //! The members of a plan, with what is said of each.
-ghost use Rattle.std.specs.Prelude.{◌≡◌, IfOk};
+ghost use Rattle.std.specs.Prelude.{◌≡◌, List, IfOk};
+ghost use Rattle.zone_lists.specs.declared.zones.ZoneRow.{ZoneRow};
+ghost use Rattle.catalogue.specs.Content.{Content};
 ghost use Rattle.catalogue.specs.Ids.{Ascend};
-ghost use Rattle.catalogue.specs.View.{MayAsk, Tells};
-ghost use Rattle.catalogue.specs.declared.fault.SourceFault.TheVariants.{Device};
-ghost use Rattle.requisites.specs.World.{IsPlan};
-ghost use Rattle.chains.specs.Worlds.{world_of};
-ghost use Rattle.zone_plans.specs.Members.{joined};
+ghost use Rattle.report_holds.specs.Holds.{HoldLists};
+ghost use Rattle.zone_plans.specs.Plans.{IsZonePlan};
 ghost use Rattle.plan_members.specs.Members.{plan_members_of};
 
 use crate::finding::find;
 use crate::listing::members_in;
 use crate::member::Member;
 use crate::telling::told_members;
-use catalogue::{Published, SourceFault};
+use faults::NoMemory;
 use mcs_reader::Id;
 use std::alloc::Global;
-use supersede::Zone;
 use zone_plans::ZonePlan;
 
 /// The members of a plan for a zone by step, in each ascending, with what is said of each: its functions, whether it
@@ -23,26 +21,22 @@ use zone_plans::ZonePlan;
 /// (IBM z/OS SMP/E Reference, `++VER`, operands FMID, PRE, REQ and SUP, and `++HOLD`). `received` are the SYSMODs
 /// that the client has received.
 ///
-/// What supersedes the needs of the members is asked for once for all of them, and once for each resolver that is
-/// chosen.
+/// All of it is said by what was found for the plan, and no source is asked.
 ///
 /// # Errors
 ///
-/// `Memory` where memory ran out, `Device` where the source failed.
-pub fn plan_members<P: Published>(
+/// `NoMemory` where memory ran out.
+pub fn plan_members(
     alloc: Global,
-    source: &mut P,
-    zone: &Zone,
     received: &[Id],
     plan: &ZonePlan,
-) -> Result<Vec<Member>, SourceFault>
+) -> Result<Vec<Member>, NoMemory>
     requires { Ascend received.now }
-    ensures asks { MayAsk P.content_view Device source.old source.new result }
-    ensures members { IfOk result (λ members. Tells P.content_view source.old source.new
-        (λ content. IsPlan (world_of content zone.now) (joined plan.now.steps)
-        → members.items ≡ plan_members_of content zone.now received.now plan.now)) }
+    ensures { IfOk result (λ members. (content : Content) (rows : List ZoneRow) (holds : List HoldLists)
+        → IsZonePlan content rows holds plan.now
+        → members.items ≡ plan_members_of content rows received.now plan.now) }
 {
     let ids = members_in(alloc, plan.steps())?;
-    let found = find(alloc, source, zone, ids, plan.resolved())?;
-    Ok(told_members(alloc, plan.steps(), received, plan.resolved(), &found)?)
+    let found = find(alloc, ids, plan)?;
+    told_members(alloc, received, plan, &found)
 }

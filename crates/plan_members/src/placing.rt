@@ -1,76 +1,73 @@
 //! For each member the places of what it gives.
-ghost use Rattle.std.specs.Prelude.{◌≡◌, ◌<◌, [], ℕ, List, true, Contains, IfOk, OnOk, length, map, slice_set};
+ghost use Rattle.std.specs.Prelude.{◌≡◌, ◌<◌, [], ℕ, List, Contains, IfOk, OnOk, length, option_map, slice_set};
+ghost use Rattle.zone_lists.specs.declared.zones.ZoneRow.{ZoneRow};
+ghost use Rattle.catalogue.specs.Content.{Content};
 ghost use Rattle.catalogue.specs.Ids.{Ascend, same_id};
 ghost use Rattle.supersede.specs.Reach.{has};
 ghost use Rattle.requisites.specs.Nodes.{row};
-ghost use Rattle.zone_plans.specs.Readings.{all_needs};
-ghost use Rattle.plan_members.specs.Found.{AreNeeding, ArePut, AreResolving, ends_with, gives_one, lists_of, places_of, resolvers_in, with_once};
+ghost use Rattle.zone_plans.specs.Findings.{AreFindings, AreFoundOf};
+ghost use Rattle.zone_plans.specs.Plans.{resolvers_of};
+ghost use Rattle.plan_members.specs.Found.{AreNeeding, ArePut, ArePutBy, AreResolving, absent_givers, ends_with, gives_one, places_of, with_once};
 
 use faults::NoMemory;
 use listings::index_of;
 use mcs_reader::Id;
-use reports::list_among;
 use std::alloc::Global;
-use zone_plans::{ChosenResolver, Reading};
+use zone_plans::{ChosenResolver, Findings, Reading};
 
-/// For each member the members that need it, by their places: those that need what it gives. Handed is what gives each
-/// need.
+/// For each member the members that need it, by their places: those that need what it gives.
 pub(crate) fn needing_rows(
     alloc: Global,
     ids: &[Id],
-    needs: &[Id],
-    lists: &[Vec<Id>],
-    readings: &[Reading],
+    findings: &Findings,
 ) -> Result<Vec<Vec<usize>>, NoMemory>
-    requires ascend { Ascend ids.now }
-    requires needs { Ascend needs.now }
-    ensures { IfOk result (λ rows. (f : List ℕ → List (List ℕ)) → lists_of lists.now ≡ map f needs.now
-        → needs.now ≡ all_needs readings.now → AreNeeding f ids.now readings.now (places_of rows.items)) }
+    requires { Ascend ids.now }
+    ensures { IfOk result (λ rows. (content : Content) (zone : List ZoneRow)
+        → AreFoundOf content zone findings.now ids.now
+        → AreNeeding content zone ids.now (places_of rows.items)) }
 {
     let mut rows = no_places(alloc, ids.len())?;
-    put_readings(alloc, &mut rows, ids, needs, lists, readings)?;
+    put_members(alloc, &mut rows, ids, findings)?;
     Ok(rows)
 }
 
 // Adds the place of each member to the rows of those that it needs.
-fn put_readings(
+fn put_members(
     alloc: Global,
     rows: &mut [Vec<usize>],
     ids: &[Id],
-    needs: &[Id],
-    lists: &[Vec<Id>],
-    readings: &[Reading],
+    findings: &Findings,
 ) -> Result<(), NoMemory>
     requires ascend { Ascend ids.now }
-    requires needs { Ascend needs.now }
     requires len { length rows.old ≡ length ids.now }
     requires none { (q : ℕ) → row (places_of rows.old) q ≡ [] }
-    ensures put { OnOk result ((f : List ℕ → List (List ℕ)) → lists_of lists.now ≡ map f needs.now
-        → needs.now ≡ all_needs readings.now → AreNeeding f ids.now readings.now (places_of rows.new)) }
+    ensures put { OnOk result ((content : Content) (zone : List ZoneRow)
+        → AreFoundOf content zone findings.now ids.now
+        → AreNeeding content zone ids.now (places_of rows.new)) }
     ensures len { length rows.new ≡ length rows.old }
 {
-    for (place, reading) in readings.iter().enumerate() {
-        put_needs(alloc, rows, ids, needs, lists, reading.needs(), place)?;
+    let nothing = Reading::nothing(alloc);
+    for (place, id) in ids.iter().enumerate() {
+        let reading = findings.reading(&nothing, id);
+        put_needs(rows, ids, findings, reading.needs(), place)?;
     }
     Ok(())
 }
 
-/// For each member the holds for which it came, by their places. Handed is what gives each resolver.
+/// For each member the holds for which it came, by their places.
 pub(crate) fn resolving_rows(
     alloc: Global,
     ids: &[Id],
-    resolvers: &[Id],
-    lists: &[Vec<Id>],
+    findings: &Findings,
     resolved: &[ChosenResolver],
 ) -> Result<Vec<Vec<usize>>, NoMemory>
-    requires ascend { Ascend ids.now }
-    requires resolvers { Ascend resolvers.now }
-    ensures { IfOk result (λ rows. (f : List ℕ → List (List ℕ)) → lists_of lists.now ≡ map f resolvers.now
-        → resolvers.now ≡ resolvers_in resolved.now
-        → AreResolving f ids.now resolved.now (places_of rows.items)) }
+    requires { Ascend ids.now }
+    ensures { IfOk result (λ rows. (content : Content) (zone : List ZoneRow)
+        → AreFoundOf content zone findings.now (resolvers_of resolved.now)
+        → AreResolving content zone ids.now resolved.now (places_of rows.items)) }
 {
     let mut rows = no_places(alloc, ids.len())?;
-    put_resolved(alloc, &mut rows, ids, resolvers, lists, resolved)?;
+    put_resolved(alloc, &mut rows, ids, findings, resolved)?;
     Ok(rows)
 }
 
@@ -79,27 +76,20 @@ fn put_resolved(
     alloc: Global,
     rows: &mut [Vec<usize>],
     ids: &[Id],
-    resolvers: &[Id],
-    lists: &[Vec<Id>],
+    findings: &Findings,
     resolved: &[ChosenResolver],
 ) -> Result<(), NoMemory>
     requires ascend { Ascend ids.now }
-    requires resolvers { Ascend resolvers.now }
     requires len { length rows.old ≡ length ids.now }
     requires none { (q : ℕ) → row (places_of rows.old) q ≡ [] }
-    ensures put { OnOk result ((f : List ℕ → List (List ℕ)) → lists_of lists.now ≡ map f resolvers.now
-        → resolvers.now ≡ resolvers_in resolved.now
-        → AreResolving f ids.now resolved.now (places_of rows.new)) }
+    ensures put { OnOk result ((content : Content) (zone : List ZoneRow)
+        → AreFoundOf content zone findings.now (resolvers_of resolved.now)
+        → AreResolving content zone ids.now resolved.now (places_of rows.new)) }
     ensures len { length rows.new ≡ length rows.old }
 {
     let none = Vec::new(alloc);
     for (place, one) in resolved.iter().enumerate() {
-        put_all(
-            rows,
-            ids,
-            list_among(resolvers, lists, &none, &one.resolver),
-            place,
-        )?;
+        put_all(rows, ids, findings.givers(&none, &one.resolver), place)?;
     }
     Ok(())
 }
@@ -118,27 +108,45 @@ fn no_places(alloc: Global, count: usize) -> Result<Vec<Vec<usize>>, NoMemory>
 
 // Adds a place to the rows of the members that give one of some needs.
 fn put_needs(
-    alloc: Global,
     rows: &mut [Vec<usize>],
     ids: &[Id],
-    asked: &[Id],
-    lists: &[Vec<Id>],
+    findings: &Findings,
     needs: &[Id],
     place: usize,
 ) -> Result<(), NoMemory>
     requires ascend { Ascend ids.now }
-    requires asked { Ascend asked.now }
     requires len { length rows.old ≡ length ids.now }
-    ensures put { OnOk result ((f : List ℕ → List (List ℕ)) → lists_of lists.now ≡ map f asked.now
-        → ((need : List ℕ) → Contains needs.now need → has asked.now need ≡ true)
-        → ArePut (gives_one f needs.now) ids.now place (places_of rows.old) (places_of rows.new)) }
+    ensures put { OnOk result ((content : Content) (zone : List ZoneRow)
+        → AreFindings content zone findings.now
+        → ((need : List ℕ) → Contains needs.now need → Contains findings.now.asked need)
+        → ArePut (gives_one (absent_givers content zone) needs.now) ids.now place
+        (places_of rows.old) (places_of rows.new)) }
     ensures len { length rows.new ≡ length rows.old }
 {
-    let none = Vec::new(alloc);
+    let there = None;
     for need in needs {
-        put_all(rows, ids, list_among(asked, lists, &none, need), place)?;
+        put_answer(rows, ids, findings.answer(&there, need), place)?;
     }
     Ok(())
+}
+
+// Adds a place to the rows of the members that an answer has, and to none for what is there.
+fn put_answer(
+    rows: &mut [Vec<usize>],
+    ids: &[Id],
+    answer: &Option<Vec<Id>>,
+    place: usize,
+) -> Result<(), NoMemory>
+    requires ascend { Ascend ids.now }
+    requires len { length rows.old ≡ length ids.now }
+    ensures put { OnOk result (ArePutBy (option_map (λ ids. ids.items) answer.now) ids.now place
+        (places_of rows.old) (places_of rows.new)) }
+    ensures len { length rows.new ≡ length rows.old }
+{
+    match answer {
+        Some(givers) => put_all(rows, ids, givers, place),
+        None => Ok(()),
+    }
 }
 
 // Adds a place to the rows of the members that stand among some ids.

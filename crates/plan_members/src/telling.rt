@@ -1,9 +1,12 @@
 //! What is told of the members, step by step.
-ghost use Rattle.std.specs.Prelude.{◌≡◌, ◌++◌, [], ℕ, List, Contains, IfOk, OnOk, filter, map, not, slice_index_or};
+ghost use Rattle.std.specs.Prelude.{◌≡◌, ◌++◌, [], ℕ, List, Contains, IfOk, OnOk, filter, map, not};
 ghost use Rattle.std.specs.List.{cons_option, slice_get};
+ghost use Rattle.zone_lists.specs.declared.zones.ZoneRow.{ZoneRow};
+ghost use Rattle.catalogue.specs.Content.{Content};
 ghost use Rattle.catalogue.specs.Ids.{Ascend, in_order, same_id};
 ghost use Rattle.requisites.specs.Nodes.{row};
 ghost use Rattle.chains.specs.Indices.{IsAt};
+ghost use Rattle.zone_plans.specs.Findings.{AreFoundOf};
 ghost use Rattle.zone_plans.specs.Members.{joined};
 ghost use Rattle.plan_members.specs.Found.{IsTold, holds_at, others_at, places_of, told_at};
 ghost use Rattle.plan_members.specs.Members.{MemberLists, members_from};
@@ -16,34 +19,27 @@ use mcs_reader::Id;
 use report_holds::HoldOn;
 use reports::is_among;
 use std::alloc::Global;
-use zone_plans::{ChosenResolver, Reading, Steps};
+use zone_plans::{ChosenResolver, Reading, ZonePlan};
 
-/// The members of some steps, in their order, the steps numbered from 1.
+/// The members of a plan, in the order of its steps, the steps numbered from 1.
 pub(crate) fn told_members(
     alloc: Global,
-    steps: &Steps,
     received: &[Id],
-    resolved: &[ChosenResolver],
+    plan: &ZonePlan,
     found: &Found,
 ) -> Result<Vec<Member>, NoMemory>
     requires ascend { Ascend found.now.ids }
     requires received { Ascend received.now }
-    requires ids { found.now.ids ≡ in_order (joined steps.now) }
-    ensures { IfOk result (λ members. (at : ℕ → List ℕ → MemberLists)
-        → IsTold received.now resolved.now found.now at → members.items ≡ members_from at 1 steps.now) }
+    requires ids { found.now.ids ≡ in_order (joined plan.now.steps) }
+    ensures { IfOk result (λ members. (content : Content) (rows : List ZoneRow)
+        (at : ℕ → List ℕ → MemberLists) → IsTold content rows received.now plan.now found.now at
+        → members.items ≡ members_from at 1 plan.now.steps) }
 {
+    let steps = plan.steps();
     let mut members = Vec::with_capacity(alloc, found.ids.len())?;
     for index in 0..steps.len() {
         let step = steps.step(alloc, index)?;
-        push_step(
-            alloc,
-            &mut members,
-            received,
-            resolved,
-            found,
-            index + 1,
-            &step,
-        )?;
+        push_step(alloc, &mut members, received, plan, found, index + 1, &step)?;
     }
     Ok(members)
 }
@@ -53,7 +49,7 @@ fn push_step(
     alloc: Global,
     members: &mut Vec<Member>,
     received: &[Id],
-    resolved: &[ChosenResolver],
+    plan: &ZonePlan,
     found: &Found,
     number: usize,
     step: &[Id],
@@ -61,12 +57,13 @@ fn push_step(
     requires ascend { Ascend found.now.ids }
     requires received { Ascend received.now }
     requires listed { (id : List ℕ) → Contains step.now id → Contains found.now.ids id }
-    ensures { OnOk result ((at : ℕ → List ℕ → MemberLists) → IsTold received.now resolved.now found.now at
+    ensures { OnOk result ((content : Content) (rows : List ZoneRow) (at : ℕ → List ℕ → MemberLists)
+        → IsTold content rows received.now plan.now found.now at
         → members.new.items ≡ members.old.items ++ map (at number) step.now) }
 {
     for id in step {
         let index = place_of(&found.ids, id);
-        members.push(told_at(alloc, received, resolved, found, number, index, id)?)?;
+        members.push(told_at(alloc, received, plan, found, number, index, id)?)?;
     }
     Ok(())
 }
@@ -87,7 +84,7 @@ fn place_of(ids: &[Id], id: &Id) -> usize
 fn told_at(
     alloc: Global,
     received: &[Id],
-    resolved: &[ChosenResolver],
+    plan: &ZonePlan,
     found: &Found,
     step: usize,
     index: usize,
@@ -95,25 +92,17 @@ fn told_at(
 ) -> Result<Member, NoMemory>
     requires received { Ascend received.now }
     requires stands { IsAt found.now.ids id.now index }
-    ensures { IfOk result (λ member. member ≡ told_at received.now resolved.now found.now step index) }
+    ensures { IfOk result (λ member. (content : Content) (rows : List ZoneRow)
+        → AreFoundOf content rows plan.now.findings found.now.ids
+        → member ≡ told_at content rows received.now plan.now.resolved found.now step index) }
 {
     let nothing = Reading::nothing(alloc);
-    let reading = reading_at(&found.readings, &nothing, index);
+    let reading = plan.findings().reading(&nothing, id);
     let bare = Member::new(alloc, step, *id, is_among(received, id));
     let read = with_reading(alloc, bare, reading)?;
-    let holds = holds_at(alloc, resolved, row_at(&found.resolving, index))?;
+    let holds = holds_at(alloc, plan.resolved(), row_at(&found.resolving, index))?;
     let needed_by = others_at(alloc, &found.ids, id, row_at(&found.needing, index))?;
     Ok(read.with_causes(holds, needed_by))
-}
-
-// What was read of a member.
-fn reading_at<'a>(readings: &'a [Reading], other: &'a Reading, index: usize) -> &'a Reading
-    ensures { result.now ≡ slice_index_or readings.now index other.now }
-{
-    match readings.get(index) {
-        Some(reading) => reading,
-        None => other,
-    }
 }
 
 // The same with what was read of it.

@@ -39,15 +39,7 @@ pub fn err_plan_text<P: Published, J: Judge<P>>(
         (λ content. J.is_right judge.old content → J.is_right judge.new content) }
 {
     let plan = err_plan(alloc, source, judge, zone, received, holds)?;
-    told_text(
-        alloc,
-        source,
-        zone,
-        received,
-        Report::ErrSysmods,
-        name,
-        &plan,
-    )
+    Ok(told_text(alloc, received, Report::ErrSysmods, name, &plan)?)
 }
 
 /// The plan for the exception SYSMOD report on a zone, as JSON, from the ERROR holds on the SYSMODs that are installed
@@ -74,13 +66,5 @@ pub fn err_plan_json<P: Published, J: Judge<P>>(
         (λ content. J.is_right judge.old content → J.is_right judge.new content) }
 {
     let plan = err_plan(alloc, source, judge, zone, received, holds)?;
-    told_json(
-        alloc,
-        source,
-        zone,
-        received,
-        Report::ErrSysmods,
-        name,
-        &plan,
-    )
+    Ok(told_json(alloc, received, Report::ErrSysmods, name, &plan)?)
 }

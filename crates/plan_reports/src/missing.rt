@@ -41,15 +41,7 @@ pub fn missing_plan_text<P: Published, J: Judge<P>>(
         (λ content. J.is_right judge.old content → J.is_right judge.new content) }
 {
     let plan = missing_plan(alloc, source, judge, zone, received, patterns, holds)?;
-    told_text(
-        alloc,
-        source,
-        zone,
-        received,
-        Report::MissingFix,
-        name,
-        &plan,
-    )
+    Ok(told_text(alloc, received, Report::MissingFix, name, &plan)?)
 }
 
 /// The plan for the missing fix report on a zone, as JSON, from the FIXCAT holds on the SYSMODs that are installed in
@@ -77,13 +69,5 @@ pub fn missing_plan_json<P: Published, J: Judge<P>>(
         (λ content. J.is_right judge.old content → J.is_right judge.new content) }
 {
     let plan = missing_plan(alloc, source, judge, zone, received, patterns, holds)?;
-    told_json(
-        alloc,
-        source,
-        zone,
-        received,
-        Report::MissingFix,
-        name,
-        &plan,
-    )
+    Ok(told_json(alloc, received, Report::MissingFix, name, &plan)?)
 }

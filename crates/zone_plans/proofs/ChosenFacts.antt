@@ -23,7 +23,8 @@ use Rattle.chains.proofs.VerdictFacts.{found_verdict}
 use Rattle.report_holds.specs.Holds.{HoldLists}
 use Rattle.report_holds.specs.declared.holds.Resolver.{Resolver}
 use Rattle.zone_plans.specs.Choices.{is_given, of_status, or_all, received_or_all, same_status}
-use Rattle.zone_plans.specs.Graphs.{MayPlace, is_given_by, known_givers, not_given}
+use Rattle.zone_plans.specs.Findings.{known_givers}
+use Rattle.zone_plans.specs.Graphs.{MayPlace, is_given_by, not_given}
 use Rattle.zone_plans.proofs.PlannedFacts.{known_has, known_says}
 use Rattle.zone_plans.proofs.ValueFacts.{filter_on}
 

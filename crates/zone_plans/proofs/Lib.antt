@@ -1,5 +1,6 @@
 pub mod ChoiceFacts
 pub mod ChosenFacts
+pub mod FindingFacts
 pub mod GraphFacts
 pub mod MarkFacts
 pub mod OutdoneFacts

@@ -1,11 +1,12 @@
 -- The plan for the holds of a report.
-use Rattle.std.proofs.Common.{◌≡◌, ◌∙◌, ℕ, zero, suc, ◌-◌, List, [], ◌∷◌, Option, Some, None, length, map, refl, sym, ap, subst}
+use Rattle.std.proofs.Common.{◌≡◌, ◌∙◌, ℕ, zero, suc, ◌-◌, Err, List, [], ◌∷◌, Option, Result, Some, None, arith, inl, inr, length, map, refl, sym, ap, subst}
 use Rattle.std.specs.Prelude.{IfSome, not}
 use Rattle.std.specs.List.{Contains, filter_map, slice_get}
 use Rattle.lemmas.proofs.ListFacts.{first_inside, kept_from, made_from, map_found, map_from, map_inside, rest_inside}
 use Rattle.zone_lists.specs.declared.zones.ZoneRow.{ZoneRow}
 use Rattle.catalogue.specs.Content.{Content}
 use Rattle.catalogue.specs.Ids.{in_order}
+use Rattle.catalogue.specs.View.{HasFailed, IsLawful, IsOpen, MayAsk, View}
 use Rattle.catalogue.proofs.IdFacts.{in_order_has}
 use Rattle.chains.specs.Judge.{status_of}
 use Rattle.chains.specs.Verdicts.{verdict_of}
@@ -15,6 +16,8 @@ use Rattle.report_holds.specs.Holds.{AreTold, HoldLists}
 use Rattle.zone_plans.specs.Choices.{choice, is_given, of_status, on_top, received_or_all, same_status}
 use Rattle.blocked_needs.specs.Blocked.{AreBlockedNeeds, blocked_needs_of}
 use Rattle.blocked_needs.specs.declared.blocked.BlockedNeed.{BlockedNeed}
+use Rattle.chains.specs.United.{united}
+use Rattle.zone_plans.specs.Findings.{FindingLists, findings_of}
 use Rattle.zone_plans.specs.Members.{AreZoneSteps, IsGivenBy, joined, zone_steps_of}
 use Rattle.zone_plans.specs.Plans.{IsPlanFor, IsZonePlan, PlanLists, chosen_in, fate_by, held_in, if_held, placed, resolved_in, resolver_by, resolvers_of, unresolved_in}
 use Rattle.zone_plans.specs.declared.holds.ChosenResolver.{ChosenResolver}
@@ -89,6 +92,7 @@ module _ (content : Content) (rows : List ZoneRow) (holds : List HoldLists) wher
       let held : plan.held ≡ held_in (map (placed content) holds) = ap (λ (p : PlanLists). p.held) is.are in
       record {
         are = is.are;
+        good = chosen_are_good told;
         steps = is.steps;
         resolved = λ hold inside. each_resolved plan.steps is.steps hold inside (choice content Good hold) refl;
         blocked = is.blocked;
@@ -97,25 +101,42 @@ module _ (content : Content) (rows : List ZoneRow) (holds : List HoldLists) wher
       }
 
 -- a plan of its parts
-abbrev plan_as : List (List (List ℕ)) → List ChosenResolver → List HoldOn → List ChosenResolver → List BlockedNeed → PlanLists
-plan_as steps resolved unresolved held blocked = record { steps = steps; resolved = resolved; unresolved = unresolved; held = held; blocked = blocked }
+abbrev plan_as : List (List (List ℕ)) → FindingLists → List ChosenResolver → List HoldOn → List ChosenResolver → List BlockedNeed → PlanLists
+plan_as steps findings resolved unresolved held blocked =
+    record { steps = steps; findings = findings; resolved = resolved; unresolved = unresolved; held = held; blocked = blocked }
 
 -- a plan by what was found for it
-pub plan_found : (content : Content) (rows : List ZoneRow) (placed : List Placed) (chosen waiting : List (List ℕ)) (steps : List (List (List ℕ))) (resolved held : List ChosenResolver)
-    → (unresolved : List HoldOn) (blocked : List BlockedNeed) → chosen ≡ chosen_in placed → resolved ≡ resolved_in placed → unresolved ≡ unresolved_in placed → held ≡ held_in placed → waiting ≡ resolvers_of held
+pub plan_found : (content : Content) (rows : List ZoneRow) (placed : List Placed) (chosen waiting : List (List ℕ)) (steps : List (List (List ℕ))) (findings : FindingLists) (resolved held : List ChosenResolver)
+    → (unresolved : List HoldOn) (blocked : List BlockedNeed) → chosen ≡ chosen_in placed → findings ≡ findings_of content rows (united content rows chosen)
+    → resolved ≡ resolved_in placed → unresolved ≡ unresolved_in placed → held ≡ held_in placed → waiting ≡ resolvers_of held
     → AreZoneSteps content rows chosen steps → AreBlockedNeeds content rows waiting blocked
-    → IsPlanFor content rows placed (record { steps = steps; resolved = resolved; unresolved = unresolved; held = held; blocked = blocked })
-plan_found content rows placed chosen waiting steps resolved held unresolved blocked chosen_is resolved_is unresolved_is held_is waiting_is steps_are blocked_are =
+    → IsPlanFor content rows placed (record { steps = steps; findings = findings; resolved = resolved; unresolved = unresolved; held = held; blocked = blocked })
+plan_found content rows placed chosen waiting steps findings resolved held unresolved blocked chosen_is findings_are resolved_is unresolved_is held_is waiting_is steps_are blocked_are =
     let S : List (List ℕ) → Type 0 = λ l. AreZoneSteps content rows l steps in
     let B : List (List ℕ) → Type 0 = λ l. AreBlockedNeeds content rows l blocked in
     let all : waiting ≡ resolvers_of (held_in placed) = waiting_is ∙ ap resolvers_of held_is in
+    let all_steps = zone_steps_of content rows (chosen_in placed) in
+    let found = findings_of content rows (united content rows (chosen_in placed)) in
     record {
       are =
-          ap (λ s. plan_as s resolved unresolved held blocked) (steps_are.are ∙ ap (zone_steps_of content rows) chosen_is)
-          ∙ ap (λ r. plan_as (zone_steps_of content rows (chosen_in placed)) r unresolved held blocked) resolved_is
-          ∙ ap (λ u. plan_as (zone_steps_of content rows (chosen_in placed)) (resolved_in placed) u held blocked) unresolved_is
-          ∙ ap (λ h. plan_as (zone_steps_of content rows (chosen_in placed)) (resolved_in placed) (unresolved_in placed) h blocked) held_is
-          ∙ ap (plan_as (zone_steps_of content rows (chosen_in placed)) (resolved_in placed) (unresolved_in placed) (held_in placed)) (blocked_are.are ∙ ap (blocked_needs_of content rows) all);
+          ap (λ s. plan_as s findings resolved unresolved held blocked) (steps_are.are ∙ ap (zone_steps_of content rows) chosen_is)
+          ∙ ap (λ f. plan_as all_steps f resolved unresolved held blocked) (findings_are ∙ ap (λ l. findings_of content rows (united content rows l)) chosen_is)
+          ∙ ap (λ r. plan_as all_steps found r unresolved held blocked) resolved_is
+          ∙ ap (λ u. plan_as all_steps found (resolved_in placed) u held blocked) unresolved_is
+          ∙ ap (λ h. plan_as all_steps found (resolved_in placed) (unresolved_in placed) h blocked) held_is
+          ∙ ap (plan_as all_steps found (resolved_in placed) (unresolved_in placed) (held_in placed)) (blocked_are.are ∙ ap (blocked_needs_of content rows) all);
       steps = subst S chosen_is steps_are;
       blocked = subst B waiting_is blocked_are;
     }
+
+-- where the last of two calls that ask a source is refused, so are both
+pub refused_later : {Source Held Last Answer Fault : Type 0} (view : View Source Held) → IsLawful view → (device : Fault) (old mid new : Source) (fault : Fault) (result : Result Answer Fault)
+    → view.keeps old mid → (IsOpen view old → IsOpen view mid) → MayAsk view {Answer = Last} device mid new (Err fault) → result ≡ Err fault → MayAsk view device old new result
+refused_later view lawful device old mid new fault result keeps opens asks is = record {
+  keeps = lawful.on old mid new keeps asks.keeps;
+  cause = λ told. failed (asks.cause (let same : fault ≡ device = cc in ap Err same));
+  stays_open = λ other standing. asks.stays_open (λ told. other (let same : fault ≡ device = cc in is ∙ ap Err same)) (opens standing);
+} where
+  failed : HasFailed view mid new → HasFailed view old new
+  failed (inl more) = inl (omega (arith, (lawful.keeps old mid keeps).goes.failures_rise, more))
+  failed (inr most) = inr most

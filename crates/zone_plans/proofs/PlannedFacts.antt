@@ -21,7 +21,7 @@ use Rattle.chains.proofs.GoodFacts.{candidate_inside, good_from}
 use Rattle.chains.proofs.OrderFacts.{find_least}
 use Rattle.chains.proofs.StatusFacts.{candidate_gives, find_none, find_some, not_good}
 use Rattle.chains.proofs.VerdictFacts.{found_verdict, giver_passes, pick_gives}
-use Rattle.zone_plans.specs.Graphs.{givers_or, known_givers}
+use Rattle.zone_plans.specs.Findings.{givers_or, known_givers}
 use Rattle.zone_plans.specs.Members.{IsPlanned}
 
 module _ (content : Content) (rows : List ZoneRow) where

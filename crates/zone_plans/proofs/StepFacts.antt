@@ -32,7 +32,8 @@ use Rattle.chains.specs.United.{united}
 use Rattle.chains.proofs.AnswerFacts.{index_is}
 use Rattle.chains.proofs.IndexFacts.{at_inside, inside_at}
 use Rattle.chains.proofs.PartFacts.{at_map}
-use Rattle.zone_plans.specs.Graphs.{AreGiven, AreReachedFrom, AreStartsOf, ids_of_steps, known_givers, list_at, needs_at}
+use Rattle.zone_plans.specs.Findings.{known_givers}
+use Rattle.zone_plans.specs.Graphs.{AreGiven, AreReachedFrom, AreStartsOf, ids_of_steps, list_at, needs_at}
 use Rattle.zone_plans.specs.Readings.{ReadingLists, reading_of}
 use Rattle.zone_plans.specs.Members.{AreStepsAfter, AreZoneSteps, HasCause, IsGivenBy, IsPlanned, NeedsMember, joined, needs_id, outdoes}
 use Rattle.zone_plans.proofs.OutdoneFacts.{outdone_is}

@@ -6,28 +6,18 @@ use Rattle.mcs_reader.specs.declared.id.Id.{Id}
 use Rattle.zone_lists.specs.declared.zones.ZoneRow.{ZoneRow}
 use Rattle.catalogue.specs.Content.{Content}
 use Rattle.catalogue.specs.Ids.{same_id}
-use Rattle.supersede.specs.Giving.{givers_of}
 use Rattle.supersede.specs.Reach.{has}
 use Rattle.requisites.specs.Leads.{Leads}
 use Rattle.requisites.specs.Nodes.{IsMarked, Links}
 use Rattle.requisites.specs.Sources.{HasSource}
-use Rattle.chains.specs.Candidates.{candidates_unless_there}
 use Rattle.chains.specs.Cuts.{id_at}
 use Rattle.chains.specs.Indices.{RowsAre}
 use Rattle.chains.specs.Judge.{status_of}
 use Rattle.chains.specs.Verdicts.{verdict_of}
 use Rattle.report_holds.specs.Holds.{HoldLists}
 use Rattle.report_holds.specs.declared.holds.Resolver.{Resolver}
+use Rattle.zone_plans.specs.Findings.{known_givers}
 use Rattle.zone_plans.specs.Readings.{ReadingLists}
-
--- what is answered for a SYSMOD, or all that give it
-abbrev pub givers_or : Option (List (List ℕ)) → List (List ℕ) → List (List ℕ)
-givers_or None all = all
-givers_or (Some known) all = known
-
--- SYSMODs that give one: all candidates that do, and maybe others
-abbrev pub known_givers : Content → List ZoneRow → List ℕ → List (List ℕ)
-known_givers content rows id = givers_or (candidates_unless_there content rows id) (givers_of content id)
 
 abbrev pub lists_of : List (Vec Id) → List (List (List ℕ))
 lists_of lists = map (λ list. list.items) lists

@@ -1,5 +1,6 @@
 pub mod Choices
 pub mod Members
 pub mod Readings
+pub mod Findings
 pub mod Graphs
 pub mod Plans

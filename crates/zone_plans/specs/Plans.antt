@@ -5,12 +5,14 @@ use Rattle.zone_lists.specs.declared.zones.ZoneRow.{ZoneRow}
 use Rattle.catalogue.specs.Content.{Content}
 use Rattle.catalogue.specs.Ids.{in_order}
 use Rattle.chains.specs.Judge.{status_of}
+use Rattle.chains.specs.United.{united}
 use Rattle.chains.specs.Verdicts.{verdict_of}
 use Rattle.chains.specs.declared.verdict.Status.TheVariants as status
 use Rattle.blocked_needs.specs.Blocked.{AreBlockedNeeds, HasRow, blocked_needs_of}
 use Rattle.blocked_needs.specs.declared.blocked.BlockedNeed.{BlockedNeed}
 use Rattle.report_holds.specs.Holds.{HoldLists}
 use Rattle.zone_plans.specs.Choices.{choice}
+use Rattle.zone_plans.specs.Findings.{FindingLists, findings_of}
 use Rattle.zone_plans.specs.Members.{AreZoneSteps, IsGivenBy, joined, zone_steps_of}
 use Rattle.zone_plans.specs.declared.holds.ChosenResolver.{ChosenResolver}
 use Rattle.report_holds.specs.declared.holds.HoldOn.{HoldOn}
@@ -75,6 +77,7 @@ resolvers_of holds = map (λ one. one.resolver) holds
 -- A plan for a zone as contracts see it.
 pub record PlanLists : Type 0 where
   pub steps : List (List (List ℕ))
+  pub findings : FindingLists
   pub resolved : List ChosenResolver
   pub unresolved : List HoldOn
   pub held : List ChosenResolver
@@ -84,6 +87,7 @@ pub record PlanLists : Type 0 where
 abbrev pub plan_with : Content → List ZoneRow → List Placed → PlanLists
 plan_with content rows holds = record {
   steps = zone_steps_of content rows (chosen_in holds);
+  findings = findings_of content rows (united content rows (chosen_in holds));
   resolved = resolved_in holds;
   unresolved = unresolved_in holds;
   held = held_in holds;
@@ -92,15 +96,21 @@ plan_with content rows holds = record {
 
 -- The plan for the holds of a report: the steps that install what the resolvers want that are chosen of those that are GOOD;
 -- the holds that are resolved so, those without a resolver that is GOOD or HELD, and those of which none is GOOD; and what
--- blocks the resolvers that are chosen of these.
+-- blocks the resolvers that are chosen of these. With it goes what was found of what the chosen plans have together.
 abbrev pub plan_of : Content → List ZoneRow → List HoldLists → PlanLists
 plan_of content rows holds = plan_with content rows (map (placed content) holds)
 
--- What is so of the plan. Its steps install what the chosen resolvers want, and a member gives each of these: so for each hold
--- of which a resolver is GOOD there is a member that gives the one that is chosen. The table of blocked needs has a row of each
+-- the chosen resolvers are GOOD
+abbrev pub AreGood : Content → List ZoneRow → List Placed → Type 0
+AreGood content rows holds =
+    (id : List ℕ) → Contains (chosen_in holds) id → status_of (verdict_of content rows id) ≡ status.Good
+
+-- What is so of the plan. Its steps install what the chosen resolvers want, which are GOOD, and a member gives each of these: so for
+-- each hold of which a resolver is GOOD there is a member that gives the one that is chosen. The table of blocked needs has a row of each
 -- resolver that is chosen of those that are HELD.
 pub record IsZonePlan (content : Content) (rows : List ZoneRow) (holds : List HoldLists) (plan : PlanLists) : Type 0 where
   pub are : plan ≡ plan_of content rows holds
+  pub good : AreGood content rows (map (placed content) holds)
   pub steps : AreZoneSteps content rows (chosen_in (map (placed content) holds)) plan.steps
   pub resolved : (hold : HoldLists) → Contains holds hold → IfSome (choice content status.Good hold) (IsGivenBy content (joined plan.steps))
   pub blocked : AreBlockedNeeds content rows (resolvers_of plan.held) plan.blocked
@@ -111,11 +121,6 @@ pub record IsZonePlan (content : Content) (rows : List ZoneRow) (holds : List Ho
 -- the SYSMODs that resolve some holds, ascending, each once
 abbrev pub resolvers_named : List HoldLists → List (List ℕ)
 resolvers_named holds = in_order (flat_map (λ hold. map (λ resolver. resolver.id) hold.resolvers) holds)
-
--- the chosen resolvers are GOOD
-abbrev pub AreGood : Content → List ZoneRow → List Placed → Type 0
-AreGood content rows holds =
-    (id : List ℕ) → Contains (chosen_in holds) id → status_of (verdict_of content rows id) ≡ status.Good
 
 -- a plan by what becomes of each hold
 pub record IsPlanFor (content : Content) (rows : List ZoneRow) (holds : List Placed) (plan : PlanLists) : Type 0 where

@@ -4,7 +4,8 @@ ghost use Rattle.catalogue.specs.Ids.{Ascend};
 ghost use Rattle.catalogue.specs.View.{MayAsk, Tells};
 ghost use Rattle.catalogue.specs.declared.fault.SourceFault.TheVariants.{Device};
 ghost use Rattle.supersede.specs.Giving.{givers_of};
-ghost use Rattle.zone_plans.specs.Graphs.{givers_or, known_givers, lists_of};
+ghost use Rattle.zone_plans.specs.Findings.{givers_or, known_givers};
+ghost use Rattle.zone_plans.specs.Graphs.{lists_of};
 
 use crate::graph::Answer;
 use catalogue::{Published, SourceFault};
@@ -75,7 +76,8 @@ fn givers_at<P: Published>(
     }
 }
 
-fn copied(ids: &Vec<Id>) -> Result<Vec<Id>, NoMemory>
+/// The same ids once more.
+pub(crate) fn copied(ids: &Vec<Id>) -> Result<Vec<Id>, NoMemory>
     ensures { IfOk result (λ copy. copy.items ≡ ids.now.items) }
 {
     ids.clone()

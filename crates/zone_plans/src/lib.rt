@@ -4,7 +4,7 @@
 //! - [`err_plan`], [`missing_plan`]: the plans for the two reports, as a [`ZonePlan`]
 //! - [`zone_plan`]: the plan for some holds, each with what resolves it: [`HoldResolvers`], [`Resolver`]
 //! - [`Steps`]: what is to be installed, step by step
-//! - [`Reading`]: what is read of a member; [`readings`]: of each of some SYSMODs; [`needs_of_all`]: all that these need
+//! - [`Findings`]: what was found of the SYSMODs that the chosen plans have together; [`Reading`]: what was read of one
 //! - [`HoldOn`]: a hold by its SYSMOD and its reason; [`ChosenResolver`]: a hold with the resolver that is chosen for
 //!   it
 //!
@@ -23,6 +23,7 @@
 #![tactic(auto)]
 
 mod choice;
+mod findings;
 mod giving;
 mod graph;
 mod holds;
@@ -33,9 +34,10 @@ mod reading;
 mod report_plans;
 mod steps;
 
+pub use findings::Findings;
 pub use holds::ChosenResolver;
 pub use plan::{ZonePlan, zone_plan};
-pub use reading::{Reading, needs_of_all, readings};
+pub use reading::Reading;
 pub use report_holds::{HoldOn, HoldResolvers, Resolver};
 pub use report_plans::{err_plan, missing_plan};
 pub use steps::Steps;

@@ -1,24 +1,17 @@
 //! The plan for a zone.
-ghost use Rattle.std.specs.Prelude.{◌≡◌, IfOk, List, ℕ, Contains};
-ghost use Rattle.catalogue.specs.Ids.{Ascend};
+ghost use Rattle.std.specs.Prelude.{◌≡◌, IfOk};
 ghost use Rattle.catalogue.specs.View.{MayAsk, Tells};
 ghost use Rattle.catalogue.specs.declared.fault.SourceFault.TheVariants.{Device};
-ghost use Rattle.chains.specs.Judge.{status_of};
-ghost use Rattle.chains.specs.Verdicts.{verdict_of};
-ghost use Rattle.chains.specs.declared.verdict.Status.TheVariants as status;
-ghost use Rattle.zone_plans.specs.Members.{AreZoneSteps};
 ghost use Rattle.report_holds.specs.Holds.{AreTold};
 ghost use Rattle.zone_plans.specs.Plans.{AreGood, IsPlanFor, IsZonePlan};
 
-use crate::giving::givers_of_all;
+use crate::findings::{Findings, find};
 use crate::holds::ChosenResolver;
 use crate::placing::{Placed, PlacedHolds, chosen_in, place_all, placed_holds, resolvers_of};
-use crate::reading::{needs_of_all, readings};
 use crate::steps::{Steps, zone_steps};
 use blocked_needs::{BlockedNeed, blocked_needs};
 use catalogue::{Published, SourceFault};
 use chains::Judge;
-use mcs_reader::Id;
 use report_holds::{HoldOn, HoldResolvers};
 use std::alloc::Global;
 use std::marker::Model;
@@ -28,6 +21,7 @@ use supersede::Zone;
 #[derive(Debug, Drop)]
 pub struct ZonePlan {
     steps: Steps,
+    findings: Findings,
     holds: PlacedHolds,
     blocked: Vec<BlockedNeed>,
 }
@@ -39,6 +33,7 @@ impl Model for ZonePlan {
 
     ghost view = { λ plan. record {
       steps = plan.steps;
+      findings = plan.findings;
       resolved = plan.holds.resolved.items;
       unresolved = plan.holds.unresolved.items;
       held = plan.holds.held.items;
@@ -52,6 +47,13 @@ impl ZonePlan {
         ensures { result.now ≡ self.now.steps }
     {
         &self.steps
+    }
+
+    /// What was found of the SYSMODs that the chosen plans have together: of each member and of each chosen resolver.
+    pub fn findings(&self) -> &Findings
+        ensures { result.now ≡ self.now.findings }
+    {
+        &self.findings
     }
 
     /// The holds of which a resolver is GOOD, each with the one that is chosen.
@@ -130,37 +132,13 @@ fn plan_for<P: Published, J: Judge<P>>(
     let holds = placed_holds(alloc, placed)?;
     let chosen = chosen_in(alloc, placed)?;
     let waiting = resolvers_of(alloc, &holds.held)?;
-    let steps = steps_for(alloc, source, judge, zone, &chosen)?;
+    let findings = find(alloc, source, judge, zone, &chosen)?;
+    let steps = zone_steps(alloc, &findings, &chosen)?;
     let blocked = blocked_needs(alloc, source, judge, zone, &waiting)?;
     Ok(ZonePlan {
         steps,
+        findings,
         holds,
         blocked,
     })
-}
-
-// The steps in which is installed what some chosen resolvers want.
-fn steps_for<P: Published, J: Judge<P>>(
-    alloc: Global,
-    source: &mut P,
-    judge: &mut J,
-    zone: &Zone,
-    chosen: &[Id],
-) -> Result<Steps, SourceFault>
-    requires { Ascend chosen.now }
-    ensures asks { MayAsk P.content_view Device source.old source.new result }
-    ensures steps { IfOk result (λ steps. Tells P.content_view source.old source.new
-        (λ content. J.is_right judge.old content
-        → ((id : List ℕ) → Contains chosen.now id
-        → status_of (verdict_of content zone.now id) ≡ status.Good)
-        → AreZoneSteps content zone.now chosen.now steps)) }
-    ensures right { Tells P.content_view source.old source.new
-        (λ content. J.is_right judge.old content → J.is_right judge.new content) }
-{
-    let ids = judge.united(alloc, source, zone, chosen)?;
-    let readings = readings(alloc, source, zone, &ids)?;
-    let asked = needs_of_all(alloc, &readings)?;
-    let answers = judge.candidates(alloc, source, zone, &asked)?;
-    let givers = givers_of_all(alloc, source, judge, zone, &ids)?;
-    Ok(zone_steps(alloc, ids, &givers, &readings, &asked, &answers, chosen)?)
 }

@@ -88,11 +88,7 @@ impl Reading {
 }
 
 /// What is read of each of some SYSMODs, in their order.
-///
-/// # Errors
-///
-/// `Memory` where memory ran out, `Device` where the source failed.
-pub fn readings<P: Published>(
+pub(crate) fn readings<P: Published>(
     alloc: Global,
     source: &mut P,
     zone: &Zone,
@@ -191,11 +187,7 @@ fn push_where(needs: &mut Vec<Id>, zone: &Zone, conds: &[CondNeed]) -> Result<()
 }
 
 /// All that was read as a need, ascending, each once.
-///
-/// # Errors
-///
-/// `NoMemory` where memory ran out.
-pub fn needs_of_all(alloc: Global, readings: &[Reading]) -> Result<Vec<Id>, NoMemory>
+pub(crate) fn needs_of_all(alloc: Global, readings: &[Reading]) -> Result<Vec<Id>, NoMemory>
     ensures needs { IfOk result (λ needs. needs.items ≡ all_needs readings.now) }
     ensures ascend { IfOk result (λ needs. Ascend needs.items) }
 {

@@ -8,11 +8,14 @@ ghost use Rattle.chains.specs.Judge as judge;
 ghost use Rattle.chains.specs.Verdicts.{verdict_of};
 ghost use Rattle.chains.specs.declared.verdict.Status.TheVariants as status;
 ghost use Rattle.zone_lists.specs.declared.zones.ZoneRow.{ZoneRow};
-ghost use Rattle.zone_plans.specs.Graphs.{AreReachedFrom, AreStartsOf, AreWithin, ids_of_steps, known_givers, lists_of};
+ghost use Rattle.zone_plans.specs.Findings.{findings_of, known_givers};
+ghost use Rattle.zone_plans.specs.Graphs.{AreReachedFrom, AreStartsOf, AreWithin, ids_of_steps, lists_of};
 ghost use Rattle.zone_plans.specs.Readings.{all_needs, reading_of};
 ghost use Rattle.chains.specs.United.{united};
 ghost use Rattle.zone_plans.specs.Members.{AreZoneSteps};
 
+use crate::findings::Findings;
+use crate::giving::copied;
 use crate::graph::{Answer, member_rows, need_rows};
 use crate::marks::{left_and_sourced, marks_among, sourced};
 use crate::reading::Reading;
@@ -84,32 +87,30 @@ fn id_at(ids: &[Id], index: usize) -> Id
     ids[index]
 }
 
-/// The steps in which is installed what the chosen plans of some resolvers have, by what was read: what another
+/// The steps in which is installed what the chosen plans of some resolvers have, by what was found of it: what another
 /// member gives is left out, and what nothing needs then.
 pub(crate) fn zone_steps(
     alloc: Global,
-    ids: Vec<Id>,
-    givers: &[Vec<Id>],
-    readings: &[Reading],
-    asked: &[Id],
-    answers: &[Answer],
+    findings: &Findings,
     chosen: &[Id],
 ) -> Result<Steps, NoMemory>
-    requires ascend { Ascend ids.items }
-    requires asked { Ascend asked.now }
-    requires chosen { Ascend chosen.now }
+    requires { Ascend chosen.now }
     ensures { IfOk result (λ steps. (content : Content) (rows : List ZoneRow)
-        → ids.items ≡ united content rows chosen.now
-        → lists_of givers.now ≡ map (known_givers content rows) ids.items
-        → readings.now ≡ map (reading_of content rows) ids.items
-        → asked.now ≡ all_needs readings.now
-        → map (option_map (λ ids. ids.items)) answers.now
-        ≡ map (candidates_unless_there content rows) asked.now
+        → findings.now ≡ findings_of content rows (united content rows chosen.now)
         → ((id : List ℕ) → Contains chosen.now id
         → judge.status_of (verdict_of content rows id) ≡ status.Good)
         → AreZoneSteps content rows chosen.now steps) }
 {
-    let rows = step_rows(alloc, &ids, givers, readings, asked, answers, chosen)?;
+    let rows = step_rows(
+        alloc,
+        &findings.ids,
+        &findings.givers,
+        &findings.readings,
+        &findings.asked,
+        &findings.answers,
+        chosen,
+    )?;
+    let ids = copied(&findings.ids)?;
     Ok(Steps { ids, rows })
 }
 

@@ -1,22 +1,16 @@
 use Rattle.std.proofs.Common.{◌∙◌, ap}
-use Rattle.lemmas.proofs.ResultFacts.{ok_so}
-use Rattle.catalogue.proofs.SourceFacts.{told_sooner}
-use Rattle.catalogue.proofs.TellingFacts.{told_by_two}
+use Rattle.catalogue.proofs.SourceFacts.{told_so}
+use Rattle.reports.specs.ErrRows.{err_rows_of}
+use Rattle.report_holds.specs.Rows.{err_holds_of}
 use Rattle.plan_texts.specs.declared.report.Report.TheVariants.{ErrSysmods}
 use Rattle.plan_reports.specs.Replies.{json_of_plan}
 use Rattle.plan_reports.proofs.errors.err_plan_json.Goals as goal
 
 pub returns-clause-text : goal.returns-clause-text
 returns-clause-text g c =
-    let law = g.met.P.Published.lawful in
     let rows = c.args.zone.now in
     let received = c.args.received.now in
-    ok_so c.told_json.result c.told_json.ensures.text (λ text tells.
-    told_by_two (law.keeps _ _ c.in_ok-plan.ensures.asks.keeps) (law.keeps _ _ c.told_json.ensures.asks.keeps) c.in_ok-plan.ensures.plan tells (λ content planned told. λ right.
+    told_so c.in_ok-plan.ensures.plan (λ content planned. λ right.
     let is = planned right in
-    told is.steps.plan ∙ ap (json_of_plan content rows received ErrSysmods c.args.name.now) is.are))
-
-pub returns-clause-right : goal.returns-clause-right
-returns-clause-right g c =
-    let law = g.met.P.Published.lawful in
-    told_sooner c.in_ok-plan.ensures.right (law.keeps _ _ c.told_json.ensures.asks.keeps)
+    c.in_ok-told_json.ensures content rows (err_holds_of (err_rows_of content rows received c.args.holds.now)) is
+    ∙ ap (json_of_plan content rows received ErrSysmods c.args.name.now) is.are)

@@ -6,7 +6,8 @@ use Rattle.catalogue.proofs.SourceFacts.{no_fault}
 use Rattle.supersede.specs.Giving.{givers_of}
 use Rattle.catalogue.proofs.TellingFacts.{tells_on}
 use Rattle.supersede.proofs.ReachFacts.{has_from}
-use Rattle.zone_plans.specs.Graphs.{givers_or, lists_of}
+use Rattle.zone_plans.specs.Findings.{givers_or}
+use Rattle.zone_plans.specs.Graphs.{lists_of}
 use Rattle.zone_plans.proofs.ChoiceFacts.{map_more}
 use Rattle.zone_plans.proofs.GraphFacts.{item_inside}
 use Rattle.zone_plans.proofs.giving.givers_by.Goals as goal

@@ -3,7 +3,8 @@ use Rattle.std.specs.Global.{Vec}
 use Rattle.mcs_reader.specs.declared.id.Id.{Id}
 use Rattle.supersede.specs.Giving.{givers_of}
 use Rattle.catalogue.proofs.TellingFacts.{HasTold}
-use Rattle.zone_plans.specs.Graphs.{givers_or, lists_of}
+use Rattle.zone_plans.specs.Findings.{givers_or}
+use Rattle.zone_plans.specs.Graphs.{lists_of}
 use Rattle.zone_plans.proofs.giving.givers_by.Given as goal
 
 abbrev pub invariant-loop-id : goal.invariant-loop-id

@@ -7,7 +7,8 @@ use Rattle.supersede.specs.Reach.{has}
 use Rattle.supersede.proofs.ReachFacts.{has_from}
 use Rattle.report_holds.specs.Holds.{HoldLists}
 use Rattle.report_holds.specs.declared.holds.Resolver.{Resolver}
-use Rattle.zone_plans.specs.Graphs.{known_givers, lists_of}
+use Rattle.zone_plans.specs.Findings.{known_givers}
+use Rattle.zone_plans.specs.Graphs.{lists_of}
 use Rattle.zone_plans.specs.Plans.{resolvers_named}
 use Rattle.zone_plans.proofs.placing.place_all.Goals as goal
 
