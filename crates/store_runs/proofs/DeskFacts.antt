@@ -1,5 +1,5 @@
 -- What `init` leaves of a database, and what it and an opening tell.
-use Rattle.std.proofs.Common.{◌≡◌, ◌∙◌, ℕ, List, Option, Some, Ok, Err, Result, IfErr, IsTrue, ap, arith, inl, inr, refl, subst, sym, true}
+use Rattle.std.proofs.Common.{◌≡◌, ◌∙◌, ℕ, List, Option, Some, Ok, IsTrue, ap, arith, inl, inr, refl, subst, sym, true}
 use Rattle.std.specs.Io.KnownBytes.{Keeps}
 use Rattle.faults.specs.declared.any.AnyFault.{AnyFault}
 use Rattle.bureau_sql.proofs.CallersFacts.{callers_fit}
@@ -23,14 +23,12 @@ use Rattle.sql_writes.specs.Making.{AreFit}
 use Rattle.bureau_store.specs.Callers.{callers_of}
 use Rattle.bureau_store.specs.declared.caller.CallerRow.{CallerRow}
 use Rattle.bureau_store.specs.declared.fault.StoreFault.{StoreFault}
-use Rattle.store_runs.specs.Desk.{HasOpened, InitSurvives, IsInitLeft, IsInitRefused, IsInitRun, IsNewStore, IsOpenRefused, of_store}
-use Rattle.store_runs.specs.Ended.{HasFound, IsEndOf, IsNothing, IsRefused}
-use Rattle.run_parts.specs.Outputs.{IsTold, fault_in, run_status, IsToldAlone, Outputs}
-use Rattle.store_runs.specs.NamedStore.{IsInit, IsNotBegun}
-use Rattle.run_parts.specs.ProgramFault.{of_program}
+use Rattle.store_runs.specs.Desk.{HasOpened, InitSurvives, IsInitLeft, IsInitRefused, IsInitRun, IsOpenRefused, of_store}
+use Rattle.store_runs.specs.Ended.{HasFound, IsEndOf, IsRefused}
+use Rattle.run_parts.specs.Outputs.{IsTold, run_status, IsToldAlone, Outputs}
+use Rattle.store_runs.specs.NamedStore.{IsInit}
 use Rattle.run_parts.specs.Files.{KnownFile, IsContent}
 use Rattle.store_runs.specs.declared.ended.Ended.{Ended}
-use Rattle.run_parts.specs.declared.fault.ProgramFault.TheVariants.{NotWritten}
 use Rattle.store_runs.proofs.StayFacts.{kept_found}
 use Rattle.store_runs.proofs.KeptFacts.{kept_made}
 
@@ -38,13 +36,6 @@ use Rattle.store_runs.proofs.KeptFacts.{kept_made}
 
 pub nothing_committed : (at : State) → KeepsCommit at at
 nothing_committed at = record { was_open = λ h. h; committed = λ h. refl }
-
--- the tables are made, whether or not the line could be written
-pub tables_left : {T : Type 0} (outcome : Result T AnyFault) (source : List ℕ) (rows slice : List CallerRow) (before after : State) → callers_of source ≡ Ok rows
-    → slice ≡ rows → (HasCleanDisk after → IsNewStore slice after) → IfErr outcome (λ fault. fault ≡ of_program NotWritten)
-    → IsInitLeft (fault_in outcome) source before after
-tables_left (Ok done) source rows slice before after read same made fault = λ clean. (rows, read, subst (λ (these : List CallerRow). IsNewStore these after) same (made clean))
-tables_left (Err why) source rows slice before after read same made fault = inl (fault, λ clean. (rows, read, subst (λ (these : List CallerRow). IsNewStore these after) same (made clean)))
 
 pub none_left : (fault : AnyFault) (source : List ℕ) (before after : State) → IsInitRefused source before after fault → (HasCleanDisk after → KeepsCommit before after)
     → IsInitLeft (Some fault) source before after
@@ -143,11 +134,6 @@ module _ (files : List ℕ → KnownFile) (stores : List ℕ → Image → Type 
     kept = kept_found from ended refused.left;
     told = subst (λ (any : AnyFault). IsToldAlone any outputs status) is (keeps, told, status_is);
   }))
-
-  -- what is wrong was found before
-  pub not_begun : (name callers : List ℕ) (outputs : Outputs) (status : ℕ) (fault : AnyFault) → IsNotBegun (files callers) fault → Keeps outputs.output outputs.written
-      → IsTold (Some fault) outputs.errors outputs.told → status ≡ run_status (Some fault) → IsNothing ended → IsInit files stores from name callers outputs status ended
-  not_begun name callers outputs status fault why keeps told status_is nothing = inr (inr (fault, why, (keeps, told, status_is), nothing))
 
   -- the same of names that are the same
   pub same_init : (name name_slice callers callers_slice : List ℕ) (outputs : Outputs) (status : ℕ) → name_slice ≡ name → callers_slice ≡ callers

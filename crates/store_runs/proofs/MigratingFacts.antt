@@ -8,14 +8,9 @@ use Rattle.sqlite_wal.specs.Recovery.{Image}
 use Rattle.sqlite.specs.Files.{file_state}
 use Rattle.sqlite.specs.Held.{Held}
 use Rattle.sqlite.specs.State.{HasCleanDisk, KeepsCommit, State, Survives}
-use Rattle.sqlite_trees.specs.declared.store.Store.{Ghosts}
-use Rattle.sql_state.specs.Earlier.{IsOfVersion1, held_by_version_1}
-use Rattle.sql_tables.specs.Stored.{tables_of}
 use Rattle.bureau_sql.specs.Migrated.{AreMigrated, LeavesUntouched}
-use Rattle.bureau_sql.specs.Opening.{CanMakeConditions, HasTables, IsNotEarlier}
-use Rattle.sql_reads.specs.Version.{HasVersion}
-use Rattle.bureau_sql.specs.SqlState.{SqlState}
-use Rattle.bureau_sql.specs.SqlView.{IsAtRest, IsOurStore, shown, sql_view}
+use Rattle.bureau_sql.specs.Opening.{IsNotEarlier}
+use Rattle.bureau_sql.specs.SqlView.{IsAtRest}
 use Rattle.bureau_store.specs.declared.fault.StoreFault.{StoreFault}
 use Rattle.store_runs.specs.Desk.{of_store}
 use Rattle.store_runs.specs.Ended.{HasFound, IsEndOf, IsRefused}

@@ -1,5 +1,5 @@
 use Rattle.sqlite.specs.Held.{state}
-use Rattle.store_runs.proofs.DeskFacts.{none_left, none_made, tables_left}
+use Rattle.store_runs.proofs.DeskFacts.{none_left, none_made}
 use Rattle.store_runs.proofs.desk.make_and_print.Goals as goal
 
 pub returns-clause-left : goal.returns-clause-left

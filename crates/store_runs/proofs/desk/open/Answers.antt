@@ -1,7 +1,4 @@
-use Rattle.std.proofs.Common.{IsTrue, ap, subst, sym}
-use Rattle.sqlite.specs.Held.{Held, state}
-use Rattle.sqlite.specs.State.{HasCleanDisk}
-use Rattle.sql_state.specs.Ours.{IsOurs}
+use Rattle.sqlite.specs.Held.{state}
 use Rattle.store_runs.proofs.DeskFacts.{opened_over}
 use Rattle.store_runs.proofs.desk.open.Goals as goal
 
