@@ -266,7 +266,7 @@ build_program() {
     take_lock
     if ! is_current; then
         began=$SECONDS
-        say "the program is proved and built first, which takes some 40 minutes on four processors, once"
+        say "the program is proved and built first, which takes some 90 minutes on four processors, once"
         rm -f "$logs"/*
         build_from_sources || return 1
         end_if_stopped

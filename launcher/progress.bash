@@ -83,8 +83,8 @@ measure_part() { # CRATE
 # What five minutes do on four processors, in the tenths of a minute of docs/GATE.md: of all the work, and of the longest way to
 # the program, along which no two crates are proved side by side.
 usual_seconds=300
-usual_work=180
-usual_way=90
+usual_work=80
+usual_way=42
 
 # How much is done of all, and how many minutes are left, once that can be told. It goes by what the time so far has brought, with
 # five usual minutes before it: definitions are proved first, of which rt counts nothing, so that the first minutes would tell
