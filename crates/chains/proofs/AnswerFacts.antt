@@ -1,10 +1,10 @@
 -- What is answered for each of several ids.
-use Rattle.std.proofs.Common.{◌≡◌, ◌⊎◌, ◌∙◌, ℕ, ◌+◌, ◌<◌, ◌++◌, set, Bool, true, false, List, [], ◌∷◌, length, map, filter, take, get_or, is_some, Option, Some, None, IfSome, refl, sym, ap, subst, inl, inr, arith}
+use Rattle.std.proofs.Common.{◌≡◌, ◌⊎◌, ◌∙◌, ℕ, ◌+◌, ◌<◌, ◌++◌, set, Bool, true, false, List, [], ◌∷◌, length, map, filter, take, get_or, is_some, Option, Some, None, IfSome, refl, sym, ap, subst, inl, inr, arith, cond}
 use Rattle.std.specs.Prelude.{◌↔◌, ◌==◌, IfNone}
 use Rattle.std.specs.List.{Contains}
 use Rattle.std.proofs.lemmas.Bool.{cases_eq}
 use Rattle.std.proofs.lemmas.List.{get_or-set_other, get_or-set_same, map-append, take_more}
-use Rattle.std.proofs.lemmas.List.Elements.{Contains-push_cases}
+use Rattle.std.proofs.lemmas.List.Elements.{Contains-push_cases, filter_more}
 use Rattle.lemmas.proofs.ListFacts.{first_inside, kept_from, kept_inside, map_from, map_inside}
 use Rattle.zone_lists.specs.declared.zones.ZoneRow.{ZoneRow}
 use Rattle.catalogue.specs.Content.{Content, IsInOrder}
@@ -213,3 +213,11 @@ found_is content rows asked ids above below there absent candidates wanted order
   sourced p q within inside off leads None is =
       let L : ℕ → Type 0 = λ n. Leads (Links above n) p q in
       absurd (least.unreached q p is (record { is = marked p within inside off }) (subst L (sym as_many) leads))
+
+-- what is kept of the first of a list, and of one more
+pub kept_on : {X : Type 0} (p : X → Bool) (xs : List X) (i : ℕ) (d : X) (b : Bool) (old : List X) → i < length xs → b ≡ p (get_or xs i d) → old ≡ filter p (take i xs)
+    → old ++ cond b (get_or xs i d ∷ []) [] ≡ filter p (take (i + 1) xs)
+kept_on {X} p xs i d b old below is was =
+    ap (λ (l : List X). l ++ cond b (get_or xs i d ∷ []) []) was
+    ∙ ap (λ (t : Bool). filter p (take i xs) ++ cond t (get_or xs i d ∷ []) []) is
+    ∙ sym (filter_more p xs i d below)

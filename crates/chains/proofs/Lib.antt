@@ -1,6 +1,7 @@
 pub use Rattle.listings.proofs.IndexFacts
 pub use Rattle.listings.proofs.MarkFacts
 pub use Rattle.listings.proofs.OrderFacts
+pub mod AskingFacts
 pub mod SearchFacts
 pub mod GoodFacts
 pub mod StatusFacts

@@ -1,4 +1,4 @@
-use Rattle.std.proofs.Common.{refl, sym, ◌∙◌, ap}
+use Rattle.std.proofs.Common.{refl, sym, ◌∙◌, ap, rules}
 use Rattle.bureau_store.specs.Tables.{zone_named}
 use Rattle.bureau_store.specs.Effect.{zone_dropped}
 use Rattle.bureau_store.specs.declared.caller.Caller.TheVariants.{Client}
@@ -29,3 +29,18 @@ returns-clause-outcome g c =
       zone_there (zone_named c.args.zone.now (this.zones c.args.client.now)) _ (sym there ∙ c.if-not-branch.false) ∙ ap (λ text. accepted (zone_dropped c.args.zone.now) text) (sym c.in_ok-reply.ensures),
       (sym there ∙ c.if-not-branch.false, λ order. tt),
     ))
+
+pub returns-in_err-is_zone-clause-reads : goal.returns-in_err-is_zone-clause-reads
+returns-in_err-is_zone-clause-reads g c = record { keeps = g.met.S.Store.tables_lawful.on _ _ _ c.in_ok-number.ensures.reads.keeps c.in_err-is_zone.ensures.reads.keeps; is_open = search rules }
+
+pub returns-in_err-not_found-clause-reads : goal.returns-in_err-not_found-clause-reads
+returns-in_err-not_found-clause-reads g c = record { keeps = g.met.S.Store.tables_lawful.on _ _ _ c.in_ok-number.ensures.reads.keeps c.in_ok-is_zone.ensures.reads.keeps; is_open = search rules }
+
+pub returns-then-not-branch-clause-reads : goal.returns-then-not-branch-clause-reads
+returns-then-not-branch-clause-reads g c = record { keeps = g.met.S.Store.tables_lawful.on _ _ _ c.in_ok-number.ensures.reads.keeps c.in_ok-is_zone.ensures.reads.keeps; is_open = c.in_ok-is_zone.ensures.reads.is_open }
+
+pub returns-in_err-reply-clause-reads : goal.returns-in_err-reply-clause-reads
+returns-in_err-reply-clause-reads g c = record { keeps = g.met.S.Store.tables_lawful.on _ _ _ c.in_ok-number.ensures.reads.keeps c.in_ok-is_zone.ensures.reads.keeps; is_open = search rules }
+
+pub returns-clause-reads : goal.returns-clause-reads
+returns-clause-reads g c = record { keeps = g.met.S.Store.tables_lawful.on _ _ _ c.in_ok-number.ensures.reads.keeps c.in_ok-is_zone.ensures.reads.keeps; is_open = c.in_ok-is_zone.ensures.reads.is_open }

@@ -1,4 +1,4 @@
-use Rattle.std.proofs.Common.{refl, sym, ◌∙◌, ap, subst}
+use Rattle.std.proofs.Common.{refl, sym, ◌∙◌, ap, subst, rules}
 use Rattle.zone_lists.specs.PatternList.{patterns_of}
 use Rattle.bureau_store.specs.Tables.{zone_named}
 use Rattle.bureau_store.specs.Effect.{patterns_put}
@@ -46,3 +46,24 @@ returns-clause-outcome g c =
           ∙ ap (λ text. accepted (patterns_put c.args.zone.now patterns) text) (sym (c.in_ok-reply.ensures ∙ ap (patterns_text c.args.zone.now) c.deref.ensures.value)),
       (sym there ∙ c.if-not-branch.false, λ order. tt),
     ))
+
+pub returns-in_err-is_zone-clause-reads : goal.returns-in_err-is_zone-clause-reads
+returns-in_err-is_zone-clause-reads g c = record { keeps = g.met.S.Store.tables_lawful.on _ _ _ c.in_ok-number.ensures.reads.keeps c.in_err-is_zone.ensures.reads.keeps; is_open = search rules }
+
+pub returns-in_err-not_found-clause-reads : goal.returns-in_err-not_found-clause-reads
+returns-in_err-not_found-clause-reads g c = record { keeps = g.met.S.Store.tables_lawful.on _ _ _ c.in_ok-number.ensures.reads.keeps c.in_ok-is_zone.ensures.reads.keeps; is_open = search rules }
+
+pub returns-then-not-branch-clause-reads : goal.returns-then-not-branch-clause-reads
+returns-then-not-branch-clause-reads g c = record { keeps = g.met.S.Store.tables_lawful.on _ _ _ c.in_ok-number.ensures.reads.keeps c.in_ok-is_zone.ensures.reads.keeps; is_open = c.in_ok-is_zone.ensures.reads.is_open }
+
+pub returns-in_err-refusal-in-Err-patterns-clause-reads : goal.returns-in_err-refusal-in-Err-patterns-clause-reads
+returns-in_err-refusal-in-Err-patterns-clause-reads g c = record { keeps = g.met.S.Store.tables_lawful.on _ _ _ c.in_ok-number.ensures.reads.keeps c.in_ok-is_zone.ensures.reads.keeps; is_open = search rules }
+
+pub returns-in-Err-patterns-clause-reads : goal.returns-in-Err-patterns-clause-reads
+returns-in-Err-patterns-clause-reads g c = record { keeps = g.met.S.Store.tables_lawful.on _ _ _ c.in_ok-number.ensures.reads.keeps c.in_ok-is_zone.ensures.reads.keeps; is_open = c.in_ok-is_zone.ensures.reads.is_open }
+
+pub returns-in_err-reply-clause-reads : goal.returns-in_err-reply-clause-reads
+returns-in_err-reply-clause-reads g c = record { keeps = g.met.S.Store.tables_lawful.on _ _ _ c.in_ok-number.ensures.reads.keeps c.in_ok-is_zone.ensures.reads.keeps; is_open = search rules }
+
+pub returns-clause-reads : goal.returns-clause-reads
+returns-clause-reads g c = record { keeps = g.met.S.Store.tables_lawful.on _ _ _ c.in_ok-number.ensures.reads.keeps c.in_ok-is_zone.ensures.reads.keeps; is_open = c.in_ok-is_zone.ensures.reads.is_open }

@@ -1,4 +1,4 @@
-use Rattle.std.proofs.Common.{refl, sym, ◌∙◌, ap, subst}
+use Rattle.std.proofs.Common.{refl, sym, ◌∙◌, ap, subst, rules}
 use Rattle.std.specs.Prelude.{codes, if◌then◌else◌}
 use Rattle.zone_lists.specs.ZoneList.{zone_rows_of}
 use Rattle.bureau_store.specs.Effect.{zone_put}
@@ -50,3 +50,18 @@ returns-clause-outcome g c =
           ∙ ap (λ text. accepted (zone_put zone rows) text) (sym (c.in_ok-reply.ensures ∙ ap (zone_put_text zone) c.deref.ensures.value)),
       (tt, λ order. tt),
     ))
+
+pub returns-in_err-has_room_for-clause-reads : goal.returns-in_err-has_room_for-clause-reads
+returns-in_err-has_room_for-clause-reads g c = record { keeps = g.met.S.Store.tables_lawful.on _ _ _ c.in_ok-number.ensures.reads.keeps c.in_err-has_room_for.ensures.reads.keeps; is_open = search rules }
+
+pub returns-in_err-plain-clause-reads : goal.returns-in_err-plain-clause-reads
+returns-in_err-plain-clause-reads g c = record { keeps = g.met.S.Store.tables_lawful.on _ _ _ c.in_ok-number.ensures.reads.keeps c.in_ok-has_room_for.ensures.reads.keeps; is_open = search rules }
+
+pub returns-then-not-branch-clause-reads : goal.returns-then-not-branch-clause-reads
+returns-then-not-branch-clause-reads g c = record { keeps = g.met.S.Store.tables_lawful.on _ _ _ c.in_ok-number.ensures.reads.keeps c.in_ok-has_room_for.ensures.reads.keeps; is_open = c.in_ok-has_room_for.ensures.reads.is_open }
+
+pub returns-in_err-reply-clause-reads : goal.returns-in_err-reply-clause-reads
+returns-in_err-reply-clause-reads g c = record { keeps = g.met.S.Store.tables_lawful.on _ _ _ c.in_ok-number.ensures.reads.keeps c.in_ok-has_room_for.ensures.reads.keeps; is_open = search rules }
+
+pub returns-clause-reads : goal.returns-clause-reads
+returns-clause-reads g c = record { keeps = g.met.S.Store.tables_lawful.on _ _ _ c.in_ok-number.ensures.reads.keeps c.in_ok-has_room_for.ensures.reads.keeps; is_open = c.in_ok-has_room_for.ensures.reads.is_open }

@@ -1,4 +1,4 @@
-use Rattle.std.proofs.Common.{◌∙◌}
+use Rattle.std.proofs.Common.{◌∙◌, rules}
 use Rattle.lemmas.proofs.ResultFacts.{ok_so}
 use Rattle.catalogue.proofs.SourceFacts.{no_fault, told_so}
 use Rattle.bureau.proofs.QuestionFacts.{told_then, with_rows, missing_told}
@@ -27,3 +27,18 @@ pub returns-clause-right : goal.returns-clause-right
 returns-clause-right g c =
     let law = g.met.S.Store.tables_lawful in
     then_shown g.met.S.Store.shows_content law (law.on _ _ _ (law.on _ _ _ (law.on _ _ _ c.in_ok-rows.ensures.reads.asks.keeps c.in_ok-received.ensures.reads.asks.keeps) c.in_ok-patterns.ensures.reads.asks.keeps) c.in_ok-holds.ensures.reads.asks.keeps) c.missing_reply.ensures.reads.keeps c.missing_reply.ensures.right
+
+pub returns-in_err-received-clause-reads : goal.returns-in_err-received-clause-reads
+returns-in_err-received-clause-reads g c =
+    let law = g.met.S.Store.tables_lawful in
+    record { keeps = law.on _ _ _ c.in_ok-rows.ensures.reads.asks.keeps c.in_err-received.ensures.reads.asks.keeps; is_open = search rules }
+
+pub returns-in_err-patterns-clause-reads : goal.returns-in_err-patterns-clause-reads
+returns-in_err-patterns-clause-reads g c =
+    let law = g.met.S.Store.tables_lawful in
+    record { keeps = law.on _ _ _ (law.on _ _ _ c.in_ok-rows.ensures.reads.asks.keeps c.in_ok-received.ensures.reads.asks.keeps) c.in_err-patterns.ensures.reads.asks.keeps; is_open = search rules }
+
+pub returns-in_err-holds-clause-reads : goal.returns-in_err-holds-clause-reads
+returns-in_err-holds-clause-reads g c =
+    let law = g.met.S.Store.tables_lawful in
+    record { keeps = law.on _ _ _ (law.on _ _ _ (law.on _ _ _ c.in_ok-rows.ensures.reads.asks.keeps c.in_ok-received.ensures.reads.asks.keeps) c.in_ok-patterns.ensures.reads.asks.keeps) c.in_err-holds.ensures.reads.asks.keeps; is_open = search rules }

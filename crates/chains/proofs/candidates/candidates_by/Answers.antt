@@ -1,5 +1,5 @@
-use Rattle.std.proofs.Common.{◌≡◌, ◌∙◌, Bool, List, ℕ, Option, length, subst, sym}
-use Rattle.catalogue.proofs.SourceFacts.{told_both}
+use Rattle.std.proofs.Common.{◌≡◌, ◌∙◌, Bool, List, ℕ, Option, length, rules, subst, sym}
+use Rattle.catalogue.proofs.SourceFacts.{no_fault, told_both}
 use Rattle.catalogue.proofs.TellingFacts.{told_by_two}
 use Rattle.requisites.specs.Sources.{AreLeastSources, HasSource}
 use Rattle.supersede.specs.Giving.{is_candidate}
@@ -9,6 +9,7 @@ use Rattle.listings.specs.Indices.{AreThere, MarksAre}
 use Rattle.chains.proofs.AboveFacts.{unheld_above}
 use Rattle.chains.proofs.AnswerFacts.{AreMarked, found_is, one_inside}
 use Rattle.listings.proofs.SupersederFacts.{unheld, unheld_in_order}
+use Rattle.chains.proofs.AskingFacts.{failed_since}
 use Rattle.chains.proofs.candidates.candidates_by.Goals as goal
 
 pub returns-clause-candidates : goal.returns-clause-candidates
@@ -45,3 +46,30 @@ returns-clause-candidates g c =
     (subst S c.deref-4.ensures.value c.in_ok-wanted.ensures.sources)
     (subst D c.deref-6.ensures.value (subst C c.deref-5.ensures.value (marked at_hand))) in
     c.in_ok-found_among.ensures bare rows (subst F (sym c.deref-7.ensures.value) (subst G (sym c.deref-8.ensures.value) found)))
+
+pub returns-in_err-candidates-clause-asks : goal.returns-in_err-candidates-clause-asks
+returns-in_err-candidates-clause-asks g c =
+    let law = g.met.P.Published.lawful in
+    record {
+      keeps = law.on _ _ _ c.in_ok-climb.ensures.asks.keeps c.in_err-candidates.ensures.asks.keeps;
+      cause = λ failed. failed_since (law.keeps _ _ c.in_ok-climb.ensures.asks.keeps).goes (c.in_err-candidates.ensures.asks.cause (search rules));
+      stays_open = λ fault is_open. c.in_err-candidates.ensures.asks.stays_open (λ failed. fault (search rules)) (c.in_ok-climb.ensures.asks.stays_open (no_fault _) is_open);
+    }
+
+pub returns-in_err-found_among-clause-asks : goal.returns-in_err-found_among-clause-asks
+returns-in_err-found_among-clause-asks g c =
+    let law = g.met.P.Published.lawful in
+    record {
+      keeps = law.on _ _ _ c.in_ok-climb.ensures.asks.keeps c.in_ok-candidates.ensures.asks.keeps;
+      cause = search rules;
+      stays_open = λ fault is_open. c.in_ok-candidates.ensures.asks.stays_open (no_fault _) (c.in_ok-climb.ensures.asks.stays_open (no_fault _) is_open);
+    }
+
+pub returns-clause-asks : goal.returns-clause-asks
+returns-clause-asks g c =
+    let law = g.met.P.Published.lawful in
+    record {
+      keeps = law.on _ _ _ c.in_ok-climb.ensures.asks.keeps c.in_ok-candidates.ensures.asks.keeps;
+      cause = search rules;
+      stays_open = λ fault is_open. c.in_ok-candidates.ensures.asks.stays_open (no_fault _) (c.in_ok-climb.ensures.asks.stays_open (no_fault _) is_open);
+    }

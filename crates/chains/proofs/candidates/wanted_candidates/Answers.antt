@@ -1,4 +1,4 @@
-use Rattle.std.proofs.Common.{◌≡◌, ◌∙◌, ◌+◌, [], ℕ, ap, length, subst, arith}
+use Rattle.std.proofs.Common.{◌≡◌, ◌∙◌, ◌+◌, [], ℕ, ap, length, subst, arith, rules}
 use Rattle.lemmas.proofs.ListFacts.{get_any}
 use Rattle.catalogue.proofs.SourceFacts.{no_fault, told_so}
 use Rattle.requisites.specs.Sources.{HasSource}
@@ -7,6 +7,7 @@ use Rattle.catalogue.proofs.TellingFacts.{tells_on}
 use Rattle.listings.specs.Cuts.{id_at}
 use Rattle.listings.specs.Indices.{MarksAre}
 use Rattle.listings.proofs.IndexFacts.{length-push, marks_more}
+use Rattle.chains.proofs.AskingFacts.{failed_since}
 use Rattle.chains.proofs.candidates.wanted_candidates.Goals as goal
 
 pub loop-index-preserved : goal.loop-index-preserved
@@ -35,3 +36,21 @@ returns-clause-are g c =
     told_so c.loop-index.invariant.has_told.told (λ content marks at_hand.
     let M : ℕ → Type 0 = λ n. MarksAre (λ p mark. HasSource c.args.wanted.now p → mark ≡ is_candidate content c.args.zone.now (id_at c.args.ids.now p)) n c.loop-index.are.items in
     subst M all (marks at_hand))
+
+pub returns-in_err-is_wanted_candidate-clause-asks : goal.returns-in_err-is_wanted_candidate-clause-asks
+returns-in_err-is_wanted_candidate-clause-asks g c =
+    let law = g.met.P.Published.lawful in
+    record {
+      keeps = law.on _ _ _ c.loop-index.invariant.has_told.keeps c.in_err-is_wanted_candidate.ensures.asks.keeps;
+      cause = λ failed. failed_since (law.keeps _ _ c.loop-index.invariant.has_told.keeps).goes (c.in_err-is_wanted_candidate.ensures.asks.cause (search rules));
+      stays_open = λ fault is_open. c.in_err-is_wanted_candidate.ensures.asks.stays_open (λ failed. fault (search rules)) (c.loop-index.invariant.has_told.still_open is_open);
+    }
+
+pub returns-in_err-push-clause-asks : goal.returns-in_err-push-clause-asks
+returns-in_err-push-clause-asks g c =
+    let law = g.met.P.Published.lawful in
+    record {
+      keeps = law.on _ _ _ c.loop-index.invariant.has_told.keeps c.in_ok-is_wanted_candidate.ensures.asks.keeps;
+      cause = search rules;
+      stays_open = λ fault is_open. c.in_ok-is_wanted_candidate.ensures.asks.stays_open (no_fault _) (c.loop-index.invariant.has_told.still_open is_open);
+    }

@@ -6,6 +6,7 @@ use Rattle.catalogue.proofs.TellingFacts.{tells_on}
 use Rattle.listings.specs.Gathered.{AreRead}
 use Rattle.chains.proofs.ClimbFacts.{above_now, asked_now, listed_ends, listed_now, starts_stay}
 use Rattle.listings.proofs.WalkFacts.{all_asked}
+use Rattle.chains.proofs.AskingFacts.{failed_since}
 use Rattle.chains.proofs.climbing.superseders_of.Goals as goal
 
 pub loop-at-preserved : goal.loop-at-preserved
@@ -46,3 +47,30 @@ returns-clause-above g c = told_so c.loop-at.invariant.has_told.told (λ content
 
 pub returns-clause-ordered : goal.returns-clause-ordered
 returns-clause-ordered g c = told_so c.loop-at.invariant.has_told.told (λ content told at_hand. (told at_hand).1)
+
+pub returns-in_err-above-clause-asks : goal.returns-in_err-above-clause-asks
+returns-in_err-above-clause-asks g c =
+    let law = g.met.P.Published.lawful in
+    record {
+      keeps = law.on _ _ _ c.loop-at.invariant.has_told.keeps c.in_err-above.ensures.asks.keeps;
+      cause = λ failed. failed_since (law.keeps _ _ c.loop-at.invariant.has_told.keeps).goes (c.in_err-above.ensures.asks.cause (search rules));
+      stays_open = λ fault is_open. c.in_err-above.ensures.asks.stays_open (λ failed. fault (search rules)) (c.loop-at.invariant.has_told.still_open is_open);
+    }
+
+pub returns-in_err-extend_from_slice-clause-asks : goal.returns-in_err-extend_from_slice-clause-asks
+returns-in_err-extend_from_slice-clause-asks g c =
+    let law = g.met.P.Published.lawful in
+    record {
+      keeps = law.on _ _ _ c.loop-at.invariant.has_told.keeps c.in_ok-above.ensures.asks.keeps;
+      cause = search rules;
+      stays_open = λ fault is_open. c.in_ok-above.ensures.asks.stays_open (no_fault _) (c.loop-at.invariant.has_told.still_open is_open);
+    }
+
+pub returns-in_err-insert-clause-asks : goal.returns-in_err-insert-clause-asks
+returns-in_err-insert-clause-asks g c =
+    let law = g.met.P.Published.lawful in
+    record {
+      keeps = law.on _ _ _ c.loop-at.invariant.has_told.keeps c.in_ok-above.ensures.asks.keeps;
+      cause = search rules;
+      stays_open = λ fault is_open. c.in_ok-above.ensures.asks.stays_open (no_fault _) (c.loop-at.invariant.has_told.still_open is_open);
+    }

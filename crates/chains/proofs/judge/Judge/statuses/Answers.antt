@@ -1,10 +1,11 @@
-use Rattle.std.proofs.Common.{◌∙◌, ap, map}
+use Rattle.std.proofs.Common.{◌∙◌, ap, map, rules}
 use Rattle.std.proofs.lemmas.List.{take_all}
 use Rattle.catalogue.proofs.SourceFacts.{no_fault, told_both, told_so}
 use Rattle.catalogue.proofs.TellingFacts.{tells_on, told_by_two}
 use Rattle.chains.specs.Judge.{status_of}
 use Rattle.chains.specs.Verdicts.{verdict_of}
 use Rattle.listings.proofs.IndexFacts.{made_more}
+use Rattle.chains.proofs.AskingFacts.{failed_since}
 use Rattle.chains.proofs.judge.Judge.statuses.Goals as goal
 
 pub loop-id-preserved : goal.loop-id-preserved
@@ -34,3 +35,21 @@ pub returns-clause-statuses : goal.returns-clause-statuses
 returns-clause-statuses g c =
     told_so c.loop-id.invariant.told (λ content so_far held.
     (so_far held).0 ∙ ap (map (λ id. status_of (verdict_of content c.args.zone.now id))) (take_all c.loop-id.id-index c.args.ids.now c.loop-id-test.false))
+
+pub returns-in_err-verdict-clause-asks : goal.returns-in_err-verdict-clause-asks
+returns-in_err-verdict-clause-asks g c =
+    let law = g.met.P.Published.lawful in
+    record {
+      keeps = law.on _ _ _ c.loop-id.invariant.keeps c.in_err-verdict.ensures.asks.keeps;
+      cause = λ failed. failed_since (law.keeps _ _ c.loop-id.invariant.keeps).goes (c.in_err-verdict.ensures.asks.cause (search rules));
+      stays_open = λ fault is_open. c.in_err-verdict.ensures.asks.stays_open (λ failed. fault (search rules)) (c.loop-id.invariant.still_open is_open);
+    }
+
+pub returns-in_err-push-clause-asks : goal.returns-in_err-push-clause-asks
+returns-in_err-push-clause-asks g c =
+    let law = g.met.P.Published.lawful in
+    record {
+      keeps = law.on _ _ _ c.loop-id.invariant.keeps c.in_ok-verdict.ensures.asks.keeps;
+      cause = search rules;
+      stays_open = λ fault is_open. c.in_ok-verdict.ensures.asks.stays_open (no_fault _) (c.loop-id.invariant.still_open is_open);
+    }
