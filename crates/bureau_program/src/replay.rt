@@ -1,12 +1,15 @@
 //! `replay`: from the callers and the bytes of connections to the bytes of their replies.
 ghost use Rattle.std.specs.Prelude.{◌≡◌, false, map, IfErr, IfOk, OnOk, OnErr};
 ghost use Rattle.std.specs.Io.KnownBytes.{Appends};
+ghost use Rattle.bureau.specs.Answering.{bureau_view};
 ghost use Rattle.bureau.specs.Joint.{IsRun};
 ghost use Rattle.bureau_http.specs.List.{AreServed};
 ghost use Rattle.bureau_http.specs.Replay.{IsReplayed};
 ghost use Rattle.run_parts.specs.Outputs.{fault_in};
-ghost use Rattle.bureau_program.specs.Replay.{IsAlwaysClean, IsAlwaysRight, IsNewDatabase, IsNotReplayed, IsNotServed, IsReplayOutput, IsReplayRun, joined};
+ghost use Rattle.bureau_program.specs.Replay.{IsAlwaysClean, IsNewDatabase, IsNotReplayed, IsNotServed, IsReplayOutput, IsReplayRun, joined};
 ghost use Rattle.bureau_store.specs.Tables.{opened};
+ghost use Rattle.catalogue.specs.Content.{Content};
+ghost use Rattle.catalogue.specs.View.{Tells};
 ghost use Rattle.sqlite.specs.Files.{file_state};
 ghost use Rattle.sqlite.specs.Held.{state};
 ghost use Rattle.transfer.specs.Transfer.{AppendsFront};
@@ -16,7 +19,7 @@ use bureau::Bureau;
 use bureau_http::serve_list;
 use bureau_sql::{SqlStore, init};
 use bureau_store::{CallerRow, Store, StoreFault};
-use chain_cache::ChainCache;
+use chains::Judge;
 use faults::AnyFault;
 use ram_disk::RamDisk;
 use run_parts::{ProgramFault, told};
@@ -110,16 +113,16 @@ fn serve_rows(
     serve_over(alloc, conn, judge, rows, files)
 }
 
-// The same over an empty database, where its files return what was written to them.
-fn serve_over<S: Alter + Drop>(
+// The same over an empty database, where its files return what was written to them, and by any judge.
+fn serve_over<S: Alter + Drop, J: Judge<SqlStore<S>> + Drop>(
     alloc: Global,
     conn: Connection<S>,
-    judge: ChainCache,
+    judge: J,
     rows: &[CallerRow],
     files: Vec<Vec<u8>>,
 ) -> Result<Vec<Vec<u8>>, AnyFault>
     requires rest { conn.in_transaction ≡ false }
-    ensures served { IsAlwaysClean S.Store → IsAlwaysRight judge
+    ensures served { IsAlwaysClean S.Store → ((content : Content) → J.is_right judge content)
         → IfOk result (λ written. AreServed IsRun (opened rows.now)
         (map (λ file. file.items) files.items) (map (λ text. text.items) written.items)) }
     ensures fault { IsAlwaysClean S.Store → IsNewDatabase (state S.Store conn)
@@ -131,7 +134,21 @@ fn serve_over<S: Alter + Drop>(
         Err(fault) => return Err(of_store(fault)),
     }
     let mut bureau = Bureau::new(alloc, SqlStore::over(alloc, conn), judge);
-    let served = serve_list(alloc, &mut bureau, files);
+    serve_files(alloc, &mut bureau, files)
+}
+
+// What is written to connections that a bureau serves one after the other.
+fn serve_files<T: Store, J: Judge<T>>(
+    alloc: Global,
+    bureau: &mut Bureau<T, J>,
+    files: Vec<Vec<u8>>,
+) -> Result<Vec<Vec<u8>>, AnyFault>
+    ensures served { IfOk result (λ written.
+        Tells (bureau_view T.tables_view J.is_right) bureau.old bureau.new (λ this. AreServed IsRun this
+        (map (λ file. file.items) files.items) (map (λ text. text.items) written.items))) }
+    ensures fault { IfErr result IsNotServed }
+{
+    let served = serve_list(alloc, bureau, files);
     if bureau.store().device_failed() {
         return Err(of_store(StoreFault::Device));
     }

@@ -207,9 +207,10 @@ fn prepare<S: Surroundings>(
     ensures within { IfOk result (λ prepared. IsWithin prepared.connections) }
     ensures fault { IfErr result IsNotListening }
 {
-    let cache = new_cache(surroundings, alloc, service.cache)?;
-    let connections = free_slots(alloc, service.most_open)?;
+    // The cache is the largest, and made last: what stands before a call that may fail is let go there too.
     let routes = routes(alloc)?;
+    let connections = free_slots(alloc, service.most_open)?;
+    let cache = new_cache(surroundings, alloc, service.cache)?;
     Ok(Prepared {
         cache,
         connections,
@@ -307,6 +308,8 @@ pub fn serve_in_rounds<S: Store, R: Rounds>(
     } = prepared;
     let mut bureau = Bureau::new(alloc, store, cache);
     let served = serve_rounds(alloc, &mut bureau, &routes, &mut connections, rounds, count);
-    let (store, _) = bureau.into_parts();
+    let (store, cache) = bureau.into_parts();
+    // By a call, which is proved once. At the end of the scope each list in it would be let go here.
+    drop(cache);
     (served, store)
 }
