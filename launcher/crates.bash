@@ -10,11 +10,11 @@ weight_of_lines() { # FOLDER
     echo $((lines / 80 + 1))
 }
 
-# The program is built after its check, from all crates on one processor: tenths of a minute.
-build_weight=65
+# The program is built after its check, by two compilers, one after the other: tenths of a minute.
+build_weight=52
 
 # Takes the minutes of a check from the table of docs/GATE.md.
-read_weights() { # FOLDER
+read_weights() {
     local name tenths
     local -A measured=()
     while read -r name tenths; do measured[$name]=$tenths; done < <(
@@ -22,19 +22,20 @@ read_weights() { # FOLDER
     )
     for name in "${!libraries[@]}"; do
         tenths=${measured[$name]:-0}
-        [ "$tenths" -gt 0 ] || tenths=$(weight_of_lines "$1/crates/$name")
+        [ "$tenths" -gt 0 ] || tenths=$(weight_of_lines "$top/crates/$name")
         weight[$name]=$tenths
     done
     weight[bureau_main]=$((weight[bureau_main] + build_weight))
 }
 
-# Reads the crates below the program, each with the crates of this repository that it names.
-read_crates() { # FOLDER
+# Reads the crates below the program, each with the crates of this repository that it names. It fails where they stand on each other
+# in a circle.
+read_crates() {
     local line name library found
     local -A listed=()
     while IFS= read -r line; do
         [[ $line =~ ^([a-z0-9_]+):(.*)$ ]] && listed[${BASH_REMATCH[1]}]=${BASH_REMATCH[2]}
-    done <"$1/crates.txt"
+    done <"$top/crates.txt"
     local -a left=(bureau_main)
     while [ ${#left[@]} -gt 0 ]; do
         name=${left[0]}
@@ -46,7 +47,8 @@ read_crates() { # FOLDER
         done
         libraries[$name]=$found
     done
-    read_weights "$1"
+    read_weights
+    measure_ways
 }
 
 # What the longest way from each crate up to the program weighs. It fails where crates stand on each other in a circle.
@@ -66,19 +68,4 @@ measure_ways() {
         [ -z "$grown" ] && return 0
     done
     return 1
-}
-
-# All crates that a crate stands on, each once: there are a hundred thousand ways down from the program.
-below() { # CRATE
-    local name
-    local -A found=()
-    local -a left=(${libraries[$1]})
-    while [ ${#left[@]} -gt 0 ]; do
-        name=${left[0]}
-        left=("${left[@]:1}")
-        [ -n "${found[$name]+is}" ] && continue
-        found[$name]=1
-        left+=(${libraries[$name]})
-    done
-    [ ${#found[@]} -eq 0 ] || printf '%s\n' "${!found[@]}" | sort
 }
