@@ -1,57 +1,14 @@
 -- That words have at most one line, and that none has a line whose command lacks an argument.
-use Rattle.std.proofs.Common.{◌≡◌, ℕ, zero, suc, false, if◌then◌else◌, List, [], ◌∷◌, ap, ap₂, codes, Option, Some, None, refl, sym, ◌∙◌, subst}
+use Rattle.std.proofs.Common.{◌≡◌, ◌∙◌, ℕ, Bool, true, false, if◌then◌else◌, List, [], ◌∷◌, ap, ap₂, inr, Option, Some, None, refl, subst, sym, unwrap_or}
+use Rattle.std.proofs.lemmas.Slice.Eq.{bytes_eq-Decides}
 use Rattle.std.specs.Str.{bytes_eq}
+use Rattle.std.specs.Str.Parse.{digits_value, without_leading_plus}
 use Rattle.clap.specs.Words.{Row, Text, all_of, first_of, one_of, subcommand_of}
-use Rattle.command_line.specs.Line.{HasOneLine, HasValue, HasValues, IsLineIn, IsLineWith, IsNumberIn, Value, bureau_app, command_of, flag, given, maybe, number, one, said, several}
+use Rattle.command_line.specs.Line.{HasOneLine, HasValue, HasValues, IsLineIn, IsLineWith, IsNumberIn, Value, bureau_app, command_of, flag, given, is_set, maybe, number, one, said, several}
+use Rattle.command_line.specs.Wanted.{IsUnread, arguments_of, outline, plain, value_among}
 use Rattle.command_line.specs.declared.line.Line.{Line}
 use Rattle.command_line.specs.declared.line.Line.TheVariants.{Callers, Chain, Check, ErrSysmods, Holds, Init, Migrate, MissingFix, Replay, Serve}
-
--- a value but for what it is: which kind it is of, and in which range
-abbrev plain : Value → Value
-plain (one text) = one []
-plain (several texts) = several []
-plain (number least most n) = number least most 0
-plain (flag is) = flag false
-plain (maybe text) = maybe None
-
-abbrev outline : List (Text × Value) → List (Text × Value)
-outline [] = []
-outline ((name, value) ∷ more) = (name, plain value) ∷ outline more
-
-abbrev report_files : List (Text × Value)
-report_files =
-    (codes "zone", one []) ∷ (codes "categories", maybe None) ∷ (codes "received", maybe None) ∷ (codes "name", maybe None) ∷ (codes "files", several []) ∷ []
-
--- the arguments of each command
-abbrev commands : List (Text × List (Text × Value))
-commands =
-    (codes "holds", (codes "file", one []) ∷ [])
-    ∷ (codes "init", (codes "store", one []) ∷ (codes "callers", one []) ∷ [])
-    ∷ (
-      codes "serve",
-      (codes "port", number 1 65535 0)
-          ∷ (codes "cache", number 1 65536 0)
-          ∷ (codes "connections", number 1 1000000 0)
-          ∷ (codes "open", number 1 8192 0)
-          ∷ (codes "log", flag false)
-          ∷ (codes "store", one [])
-          ∷ [],
-    )
-    ∷ (codes "replay", (codes "cache", number 1 65536 0) ∷ (codes "callers", one []) ∷ (codes "files", several []) ∷ [])
-    ∷ (codes "migrate", (codes "store", one []) ∷ [])
-    ∷ (codes "errsysmods", report_files)
-    ∷ (codes "missingfix", report_files)
-    ∷ (codes "chain", (codes "sysmod", one []) ∷ report_files)
-    ∷ (codes "callers", (codes "store", one []) ∷ (codes "callers", one []) ∷ [])
-    ∷ (codes "check", (codes "store", one []) ∷ [])
-    ∷ []
-
-abbrev of_command : List (Text × List (Text × Value)) → Text → List (Text × Value)
-of_command [] name = []
-of_command ((command, arguments) ∷ more) name = if bytes_eq name command then arguments else of_command more name
-
-abbrev pub arguments_of : Text → List (Text × Value)
-arguments_of = of_command commands
+use Rattle.command_line.specs.declared.line.LineFault.{LineFault}
 
 -- a line gives a value for each argument of its command
 gives_each : (line : Line) → outline (given line) ≡ arguments_of (command_of line)
@@ -66,60 +23,50 @@ gives_each (Chain sysmod files) = refl
 gives_each (Callers store callers) = refl
 gives_each (Check store) = refl
 
-some_once : {X : Type 0} (found : Option X) (x y : X) → found ≡ Some x → found ≡ Some y → x ≡ y
-some_once found x y is other = let both : Some x ≡ Some y = sym is ∙ other in cc
+-- ---- words have at most one line
 
-one_number : (least most low high : ℕ) (text : Option Text) (n m : ℕ) → IsNumberIn least most text n → IsNumberIn low high text m → n ≡ m
-one_number least most low high None n m is also = absurd is
-one_number least most low high (Some text) n m is also = is.0.1 ∙ sym also.0.1
+-- the number that a text says
+abbrev number_in : Option Text → ℕ
+number_in None = 0
+number_in (Some text) = digits_value 10 (without_leading_plus text)
 
--- the value of an argument, of one kind and in one range, is one
-one_value : (rows : List Row) (name : Text) (x y : Value) → plain x ≡ plain y → HasValue rows name x → HasValue rows name y → x ≡ y
-one_value rows name (one x) (one y) same is also = ap one (some_once _ x y is also)
-one_value rows name (several xs) (several ys) same is also = ap several (some_once _ xs ys is also)
-one_value rows name (number least most n) (number low high m) same is also = let equal : n ≡ m = one_number least most low high _ n m is also in cc
-one_value rows name (flag x) (flag y) same is also = ap flag (is ∙ sym also)
-one_value rows name (maybe x) (maybe y) same is also = ap maybe (sym is ∙ also)
-one_value rows name (one x) (several ys) same is also = cc
-one_value rows name (one x) (number low high m) same is also = cc
-one_value rows name (one x) (flag y) same is also = cc
-one_value rows name (one x) (maybe y) same is also = cc
-one_value rows name (several xs) (one y) same is also = cc
-one_value rows name (several xs) (number low high m) same is also = cc
-one_value rows name (several xs) (flag y) same is also = cc
-one_value rows name (several xs) (maybe y) same is also = cc
-one_value rows name (number least most n) (one y) same is also = cc
-one_value rows name (number least most n) (several ys) same is also = cc
-one_value rows name (number least most n) (flag y) same is also = cc
-one_value rows name (number least most n) (maybe y) same is also = cc
-one_value rows name (flag x) (one y) same is also = cc
-one_value rows name (flag x) (several ys) same is also = cc
-one_value rows name (flag x) (number low high m) same is also = cc
-one_value rows name (flag x) (maybe y) same is also = cc
-one_value rows name (maybe x) (one y) same is also = cc
-one_value rows name (maybe x) (several ys) same is also = cc
-one_value rows name (maybe x) (number low high m) same is also = cc
-one_value rows name (maybe x) (flag y) same is also = cc
+-- the value that the matches have for an argument, of this kind and in this range
+abbrev value_in : List Row → Text → Value → Value
+value_in rows name (one text) = one (unwrap_or (first_of name rows) [])
+value_in rows name (several texts) = several (unwrap_or (all_of name rows) [])
+value_in rows name (number least most n) = number least most (number_in (one_of name rows))
+value_in rows name (flag is) = flag (is_set (first_of name rows))
+value_in rows name (maybe text) = maybe (first_of name rows)
 
-one_values : (rows : List Row) (xs ys : List (Text × Value)) → outline xs ≡ outline ys → HasValues rows xs → HasValues rows ys → xs ≡ ys
-one_values rows [] [] same is also = refl
-one_values rows [] ((name, y) ∷ ys) same is also = cc
-one_values rows ((name, x) ∷ xs) [] same is also = cc
-one_values rows ((name, x) ∷ xs) ((other, y) ∷ ys) same is also =
-    let heads : ◌≡◌ {A = Text × Value} (name, plain x) (other, plain y) = cc in
-    let names : name ≡ other = ap (λ (head : Text × Value). head.0) heads in
-    let kinds : plain x ≡ plain y = ap (λ (head : Text × Value). head.1) heads in
-    let value : x ≡ y = one_value rows name x y kinds is.0 (subst (λ n. HasValue rows n y) (sym names) also.0) in
-    let rest : outline xs ≡ outline ys = cc in
-    ap₂ (λ (head : Text × Value) (more : List (Text × Value)). head ∷ more) (ap₂ (λ (n : Text) (v : Value). (n, v)) names value)
-    (one_values rows xs ys rest is.1 also.1)
+abbrev values_in : List Row → List (Text × Value) → List (Text × Value)
+values_in rows [] = []
+values_in rows ((name, value) ∷ more) = (name, value_in rows name value) ∷ values_in rows more
 
--- two lines of one command with the same matches are one
+number_is : (least most : ℕ) (text : Option Text) (n : ℕ) → IsNumberIn least most text n → n ≡ number_in text
+number_is least most None n is = absurd is
+number_is least most (Some text) n is = is.0.1
+
+value_is : (rows : List Row) (name : Text) (value : Value) → HasValue rows name value → value ≡ value_in rows name (plain value)
+value_is rows name (one text) is = ap one (sym (ap (λ (found : Option Text). unwrap_or found []) is))
+value_is rows name (several texts) is = ap several (sym (ap (λ (found : Option (List Text)). unwrap_or found []) is))
+value_is rows name (number least most n) is = ap (λ (k : ℕ). number least most k) (number_is least most (one_of name rows) n is)
+value_is rows name (flag set) is = ap flag is
+value_is rows name (maybe text) is = ap maybe (sym is)
+
+values_are : (rows : List Row) (values : List (Text × Value)) → HasValues rows values → values ≡ values_in rows (outline values)
+values_are rows [] are = refl
+values_are rows ((name, value) ∷ more) are =
+    ap₂ (λ (v : Value) (rest : List (Text × Value)). (name, v) ∷ rest) (value_is rows name value are.0) (values_are rows more are.1)
+
+given_is : (rows : List Row) (line : Line) → HasValues rows (given line) → given line ≡ values_in rows (arguments_of (command_of line))
+given_is rows line are = values_are rows (given line) are ∙ ap (values_in rows) (gives_each line)
+
+-- two lines of one command with the same matches say the same
 one_with : (name : Text) (rows : List Row) (line other : Line) → IsLineWith name rows line → IsLineWith name rows other → said line ≡ said other
 one_with name rows line other is also =
     let command : command_of line ≡ command_of other = sym is.0 ∙ also.0 in
     ap₂ (λ (name : Text) (values : List (Text × Value)). (name, values)) command
-    (one_values rows (given line) (given other) (gives_each line ∙ ap arguments_of command ∙ sym (gives_each other)) is.1 also.1)
+    (given_is rows line is.1 ∙ ap (λ (name : Text). values_in rows (arguments_of name)) command ∙ sym (given_is rows other also.1))
 
 one_in : (found : Option (Text × List Row)) (line other : Line) → IsLineIn found line → IsLineIn found other → said line ≡ said other
 one_in None line other is also = absurd is
@@ -128,30 +75,41 @@ one_in (Some (name, rows)) line other is also = one_with name rows line other is
 pub one_line : (words : List Text) → HasOneLine words
 one_line words line other is also = one_in (subcommand_of bureau_app words) line other is also
 
-abbrev pub argument_at : ℕ → List (Text × Value) → Option (Text × Value)
-argument_at k [] = None
-argument_at zero (argument ∷ more) = Some argument
-argument_at (suc k) (argument ∷ more) = argument_at k more
+-- ---- where the matches lack an argument
 
--- the matches lack an argument that must be given
-abbrev pub Lack : List Row → Option (Text × Value) → Type 0
-Lack rows None = ⊥
-Lack rows (Some (name, one text)) = first_of name rows ≡ None
-Lack rows (Some (name, several texts)) = all_of name rows ≡ None
-Lack rows (Some (name, number least most n)) = (n : ℕ) → IsNumberIn least most (one_of name rows) n → ⊥
-Lack rows (Some (name, flag is)) = ⊥
-Lack rows (Some (name, maybe text)) = ⊥
+-- the matches have no value for an argument that must be given, of this kind and in this range
+abbrev pub Lack : List Row → Text → Value → Type 0
+Lack rows name (one text) = first_of name rows ≡ None
+Lack rows name (several texts) = all_of name rows ≡ None
+Lack rows name (number least most n) = (n : ℕ) → IsNumberIn least most (one_of name rows) n → ⊥
+Lack rows name (flag is) = ⊥
+Lack rows name (maybe text) = ⊥
 
-lacking : (rows : List Row) (k : ℕ) (values : List (Text × Value)) → HasValues rows values → Lack rows (argument_at k (outline values)) → ⊥
-lacking rows k [] has lack = lack
-lacking rows zero ((name, one text) ∷ more) has lack = let no : None ≡ Some text = sym lack ∙ has.0 in cc
-lacking rows zero ((name, several texts) ∷ more) has lack = let no : None ≡ Some texts = sym lack ∙ has.0 in cc
-lacking rows zero ((name, number least most n) ∷ more) has lack = lack n has.0
-lacking rows zero ((name, flag is) ∷ more) has lack = lack
-lacking rows zero ((name, maybe text) ∷ more) has lack = lack
-lacking rows (suc k) ((name, value) ∷ more) has lack = lacking rows k more has.1 lack
+has_none : (rows : List Row) (name : Text) (value : Value) → HasValue rows name value → Lack rows name (plain value) → ⊥
+has_none rows name (one text) has lack = let no : None ≡ Some text = sym lack ∙ has in cc
+has_none rows name (several texts) has lack = let no : None ≡ Some texts = sym lack ∙ has in cc
+has_none rows name (number least most n) has lack = lack n has
+has_none rows name (flag is) has lack = lack
+has_none rows name (maybe text) has lack = lack
 
--- where the matches lack an argument of a command, by its place among them, they have no line of that command
-pub no_line : (k : ℕ) (name : Text) (rows : List Row) (line : Line) → Lack rows (argument_at k (arguments_of name)) → IsLineWith name rows line → ⊥
-no_line k name rows line lack is =
-    lacking rows k (given line) is.1 (subst (λ arguments. Lack rows (argument_at k arguments)) (ap arguments_of is.0 ∙ sym (gives_each line)) lack)
+module _ (rows : List Row) (name : Text) (kind : Value) (lack : Lack rows name kind) where
+  lacks_first : (same : Bool) (other : Text) (value : Value) (more : List (Text × Value)) → bytes_eq other name ≡ same
+      → (if same then Some (plain value) else value_among name (outline more)) ≡ Some kind
+      → HasValue rows other value → (value_among name (outline more) ≡ Some kind → ⊥) → ⊥
+  lacks_first true other value more same wanted has rest =
+      let kinds : plain value ≡ kind = cc in
+      has_none rows name value (subst (λ (named : Text). HasValue rows named value) ((bytes_eq-Decides other name).0 same) has)
+      (subst (λ (of : Value). Lack rows name of) (sym kinds) lack)
+  lacks_first false other value more same wanted has rest = rest wanted
+
+  lacks_one : (values : List (Text × Value)) → value_among name (outline values) ≡ Some kind → HasValues rows values → ⊥
+  lacks_one [] wanted has = cc
+  lacks_one ((other, value) ∷ more) wanted has =
+      lacks_first (bytes_eq other name) other value more refl wanted has.0 (λ wants. lacks_one more wants has.1)
+
+-- where the matches lack an argument that each line of a command has a value for, they have no line of it
+pub unread : (command name : Text) (kind : Value) (rows : List Row) (fault : LineFault) → value_among name (arguments_of command) ≡ Some kind
+    → Lack rows name kind → IsUnread command rows fault
+unread command name kind rows fault wanted lack =
+    inr (λ line is. lacks_one rows name kind lack (given line)
+    (subst (λ (values : List (Text × Value)). value_among name values ≡ Some kind) (ap arguments_of is.0 ∙ sym (gives_each line)) wanted) is.1)

@@ -1,5 +1,5 @@
 -- What the words of a command line ask for, as clap defines the matches of a command.
-use Rattle.std.specs.Prelude.{◌≡◌, ◌⊎◌, ◌≤◌, ⊤, ℕ, pos, Bool, true, false, List, [], ◌∷◌, codes, map, Option, Some, None, Ok, option_map, string_bytes}
+use Rattle.std.specs.Prelude.{◌≡◌, ◌≤◌, ⊤, ℕ, pos, Bool, true, false, List, [], ◌∷◌, codes, map, Option, Some, None, Ok, option_map, string_bytes}
 use Rattle.std.specs.Str.{bytes_eq}
 use Rattle.std.specs.Str.Parse.{ParsesUnsigned}
 use Rattle.clap.specs.Words.{App, Row, Rule, Text, all_of, first_of, new_app, new_rule, one_of, subcommand_of, with_rule, with_subcommand}
@@ -237,13 +237,3 @@ said line = (command_of line, given line)
 -- words have at most one line
 abbrev pub HasOneLine : List Text → Type 0
 HasOneLine words = (line other : Line) → IsLineOf words line → IsLineOf words other → said line ≡ said other
-
--- Serves private contracts alone: the names of a report's files, or the zone or the publications aren't given.
-abbrev pub AreFilesFound : List Row → Option ReportFiles → Type 0
-AreFilesFound rows (Some files) = HasValues rows (files_given files)
-AreFilesFound rows None = (first_of (codes "zone") rows ≡ None) ⊎ (all_of (codes "files") rows ≡ None)
-
--- Serves private contracts alone: the line is such a one, or there is no such line.
-abbrev pub IsFound : {A : Type 0} → (A → Type 0) → Option A → Type 0
-IsFound {A} Is None = (line : A) → Is line → ⊥
-IsFound Is (Some line) = Is line

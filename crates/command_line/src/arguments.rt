@@ -1,76 +1,170 @@
-//! Arguments of a command by their kind, as `clap` reads them: a value that must be given, several, an option, a flag.
+//! The arguments of the commands, as rows, and how `clap` reads one.
 ghost use Rattle.std.specs.Prelude.{◌≡◌, false};
 ghost use Rattle.clap.specs.Words.{rule_of};
-ghost use Rattle.command_line.specs.Line.{log_rule, number_rule, required_rule, several_rule, text_rule};
+ghost use Rattle.command_line.specs.Commands.{rule_for};
 
 use clap::{Arg, ArgAction};
 use std::alloc::Global;
 
-/// `VALUE`: one value, which must be given.
-pub fn required<'a>(alloc: Global, name: &'a str, value: &'a str, help: &'a str) -> Arg<'a>
-    ensures rule { rule_of result ≡ required_rule name.now }
-    ensures local { result.global ≡ false }
-{
-    Arg::new(alloc, name)
-        .required(true)
-        .action(ArgAction::Set)
-        .value_name(value)
-        .help(help)
+/// An argument of a command.
+#[derive(Clone, Copy)]
+pub struct Argument {
+    /// By which it is found among the matches. An option has this name in the words too.
+    pub name: &'static str,
+    /// How it is given.
+    pub kind: Kind,
+    /// What the help says of it.
+    pub help: &'static str,
 }
 
-/// `VALUE..`: one value or more, which must be given.
-pub fn several<'a>(alloc: Global, name: &'a str, value: &'a str, help: &'a str) -> Arg<'a>
-    ensures rule { rule_of result ≡ several_rule name.now }
-    ensures local { result.global ≡ false }
-{
-    Arg::new(alloc, name)
-        .required(true)
-        .action(ArgAction::Append)
-        .num_args(1..)
-        .value_name(value)
-        .help(help)
+/// How an argument is given. First stands what the help calls its value.
+#[derive(Clone, Copy)]
+pub enum Kind {
+    /// `VALUE`: one value, which must be given.
+    One(&'static str),
+    /// `VALUE..`: one value or more, which must be given.
+    Several(&'static str),
+    /// `--NAME VALUE`: a text, which must be given.
+    Text(&'static str),
+    /// `--NAME VALUE`: a text, which may be left out.
+    MaybeText(&'static str),
+    /// `--NAME VALUE`: a number from 1 to this one; where it isn't given, the one in the text.
+    Number(&'static str, u32, &'static str),
+    /// `--NAME`: a flag.
+    Flag,
 }
 
-/// `--NAME VALUE`: a text, which may be left out.
-pub fn text_option<'a>(alloc: Global, name: &'a str, value: &'a str, help: &'a str) -> Arg<'a>
-    ensures rule { rule_of result ≡ text_rule name.now }
-    ensures local { result.global ≡ false }
-{
-    Arg::new(alloc, name)
-        .long(name)
-        .action(ArgAction::Set)
-        .value_name(value)
-        .help(help)
-}
+/// `FILE` of `holds`
+pub const FILE: Argument = Argument {
+    name: "file",
+    kind: Kind::One("FILE"),
+    help: "The HOLDDATA to read; `-` is standard input",
+};
 
-/// `--NAME VALUE`: a number from 1 to `most`; where it isn't given, the one in `default`.
-pub fn number_option<'a>(
-    alloc: Global,
-    name: &'a str,
-    value: &'a str,
-    most: u32,
-    default: &'a str,
-    help: &'a str,
-) -> Arg<'a>
-    ensures rule { rule_of result ≡ number_rule name.now 1 most default.now }
-    ensures local { result.global ≡ false }
-{
-    Arg::new(alloc, name)
-        .long(name)
-        .action(ArgAction::Set)
-        .value_parser(clap::value_parser!(u32).range(1..=i64::from(most)))
-        .value_name(value)
-        .default_value(default)
-        .help(help)
-}
+/// `STORE`
+pub const STORE: Argument = Argument {
+    name: "store",
+    kind: Kind::One("STORE"),
+    help: "The file that keeps all that the desk has",
+};
 
-/// `--log`: whether a line is written for each request.
-pub fn log_option<'a>(alloc: Global) -> Arg<'a>
-    ensures rule { rule_of result ≡ log_rule }
+/// `CALLERS`
+pub const CALLERS: Argument = Argument {
+    name: "callers",
+    kind: Kind::One("CALLERS"),
+    help: "The callers of the desk: CSV with the header NAME,TOKEN",
+};
+
+/// `SYSMOD`
+pub const SYSMOD: Argument = Argument {
+    name: "sysmod",
+    kind: Kind::One("SYSMOD"),
+    help: "The SYSMOD whose chain is asked for",
+};
+
+/// `FILE..` of `replay`
+pub const CONNECTION_FILES: Argument = Argument {
+    name: "files",
+    kind: Kind::Several("FILE"),
+    help: "The bytes of a connection to the desk: HTTP/1.1 requests one after the other",
+};
+
+/// `FILE..` of a report
+pub const PUBLICATIONS: Argument = Argument {
+    name: "files",
+    kind: Kind::Several("FILE"),
+    help: "HOLDDATA, SYSMODs or both, in the order in which they are published; `-` is standard input",
+};
+
+/// `--zone ZONE`
+pub const ZONE: Argument = Argument {
+    name: "zone",
+    kind: Kind::Text("ZONE"),
+    help: "The SYSMODs of the zone: CSV with the header SYSMOD,STATE",
+};
+
+/// `--categories CATEGORIES`
+pub const CATEGORIES: Argument = Argument {
+    name: "categories",
+    kind: Kind::Text("CATEGORIES"),
+    help: "The fix categories that are asked for: CSV with the header CATEGORY",
+};
+
+/// `--received RECEIVED`
+pub const RECEIVED: Argument = Argument {
+    name: "received",
+    kind: Kind::MaybeText("RECEIVED"),
+    help: "The SYSMODs that are received: CSV with the header SYSMOD",
+};
+
+/// `--name NAME`
+pub const NAME: Argument = Argument {
+    name: "name",
+    kind: Kind::MaybeText("NAME"),
+    help: "The name of the zone; without it that of its file up to the period, in upper case",
+};
+
+/// `--port P`
+pub const PORT: Argument = Argument {
+    name: "port",
+    kind: Kind::Number("P", 65_535, "8080"),
+    help: "The port to listen on, 1 to 65535",
+};
+
+/// `--cache N`
+pub const CACHE: Argument = Argument {
+    name: "cache",
+    kind: Kind::Number("N", 65_536, "1024"),
+    help: "How many frames are kept at most, 1 to 65536",
+};
+
+/// `--connections K`
+pub const CONNECTIONS: Argument = Argument {
+    name: "connections",
+    kind: Kind::Number("K", 1_000_000, "1000000"),
+    help: "How many connections are served before the program ends, 1 to 1000000",
+};
+
+/// `--open M`
+pub const OPEN: Argument = Argument {
+    name: "open",
+    kind: Kind::Number("M", 8192, "1024"),
+    help: "How many connections are open at once at most, 1 to 8192",
+};
+
+/// `--log`
+pub const LOG: Argument = Argument {
+    name: "log",
+    kind: Kind::Flag,
+    help: "Writes a line to standard error for each request and each connection that failed",
+};
+
+/// An argument, as `clap` reads it.
+pub fn arg_of<'a>(alloc: Global, argument: &Argument) -> Arg<'a>
+    ensures rule { rule_of result ≡ rule_for argument.now }
     ensures local { result.global ≡ false }
 {
-    Arg::new(alloc, "log")
-        .long("log")
-        .action(ArgAction::SetTrue)
-        .help("Writes a line to standard error for each request and each connection that failed")
+    let name = argument.name;
+    let arg = Arg::new(alloc, name).help(argument.help);
+    match argument.kind {
+        Kind::One(value) => arg.required(true).action(ArgAction::Set).value_name(value),
+        Kind::Several(value) => arg
+            .required(true)
+            .action(ArgAction::Append)
+            .num_args(1..)
+            .value_name(value),
+        Kind::Text(value) => arg
+            .long(name)
+            .required(true)
+            .action(ArgAction::Set)
+            .value_name(value),
+        Kind::MaybeText(value) => arg.long(name).action(ArgAction::Set).value_name(value),
+        Kind::Number(value, most, default) => arg
+            .long(name)
+            .action(ArgAction::Set)
+            .value_parser(clap::value_parser!(u32).range(1..=i64::from(most)))
+            .value_name(value)
+            .default_value(default),
+        Kind::Flag => arg.long(name).action(ArgAction::SetTrue),
+    }
 }

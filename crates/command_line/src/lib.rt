@@ -7,5 +7,7 @@ mod arguments;
 mod commands;
 mod help;
 mod line;
+mod subcommands;
+mod values;
 
 pub use line::{Line, LineFault, line_of};

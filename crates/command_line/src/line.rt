@@ -1,12 +1,14 @@
 //! The words of a command line, read with `clap`.
-ghost use Rattle.std.specs.Prelude.{◌≡◌, ◌≢◌, ℕ, false, [], codes, map, option_map, string_bytes, IfOk, IfErr, IfSome, IsNone, OnOk};
-ghost use Rattle.clap.specs.Words.{fault_of, first_of, found_of, kind_of, one_of, rows_of, subcommand_rows_of};
+ghost use Rattle.std.specs.Prelude.{◌≡◌, ◌≢◌, [], codes, map, string_bytes, IfErr, IfOk, OnOk};
+ghost use Rattle.clap.specs.Words.{fault_of, kind_of, subcommand_rows_of};
 ghost use Rattle.faults.specs.Refusal.{IsRefusal};
-ghost use Rattle.command_line.specs.Line.{bureau_app, AreFilesFound, HasOneLine, IsFound, IsLineIn, IsLineOf, IsLineWith, IsNumberIn, IsPort, is_set};
+ghost use Rattle.command_line.specs.Line.{bureau_app, HasOneLine, IsLineOf};
+ghost use Rattle.command_line.specs.Wanted.{IsRead, IsReadAs, rows_in};
 ghost use Rattle.command_line.specs.declared.line.Line.{Line};
 ghost use Rattle.command_line.specs.declared.line.LineFault.TheVariants.{Memory};
 
 use crate::commands::command;
+use crate::values::{files, flag_with, number, port, text, texts};
 use clap::ArgMatches;
 use clap::error::ErrorKind;
 use faults::NoMemory;
@@ -80,6 +82,16 @@ pub enum LineFault {
     Memory,
 }
 
+impl LineFault {
+    // What these words tell, where there is memory for them.
+    pub(crate) fn in_words(text: Result<String, NoMemory>) -> LineFault {
+        match text {
+            Ok(text) => LineFault::Words(text),
+            Err(_) => LineFault::Memory,
+        }
+    }
+}
+
 impl From<NoMemory> for LineFault {
     ghost from_gives = { λ _ fault. fault ≡ Memory };
 
@@ -107,21 +119,17 @@ pub fn line_of(alloc: Global, words: &[String]) -> Result<Line, LineFault>
 
 // The line that matches give.
 fn line_in(alloc: Global, matches: &ArgMatches) -> Result<Line, LineFault>
-    ensures line { IfOk result (IsLineIn (subcommand_rows_of matches.now)) }
-    ensures none { IfErr result (IsRefusal Memory
-        (λ _. (line : Line) → IsLineIn (subcommand_rows_of matches.now) line → ⊥)) }
+    ensures { IsRead (subcommand_rows_of matches.now) result }
 {
-    if let Some((name, matches)) = matches.subcommand() {
-        if let Some(line) = line_with(alloc, name, matches)? {
-            return Ok(line);
-        }
+    match matches.subcommand() {
+        Some((name, found)) => line_with(alloc, name, found),
+        None => Err(unnamed(alloc)),
     }
-    Err(LineFault::Words(String::from_str(alloc, "no command is named\n")?))
 }
 
-// The line that the command of this name has with its matches.
-fn line_with(alloc: Global, name: &str, matches: &ArgMatches) -> Result<Option<Line>, NoMemory>
-    ensures { IfOk result (IsFound (IsLineWith name.now (rows_of (found_of matches.now)))) }
+// The line of the command of this name, by its matches.
+fn line_with(alloc: Global, name: &str, matches: &ArgMatches) -> Result<Line, LineFault>
+    ensures { IsReadAs name.now (rows_in matches.now) result }
 {
     match name {
         "holds" => holds_with(alloc, matches),
@@ -134,213 +142,103 @@ fn line_with(alloc: Global, name: &str, matches: &ArgMatches) -> Result<Option<L
         "chain" => chain_with(alloc, matches),
         "callers" => callers_with(alloc, matches),
         "check" => check_with(alloc, matches),
-        _ => Ok(None),
+        _ => Err(unnamed(alloc)),
     }
 }
 
-fn holds_with(alloc: Global, matches: &ArgMatches) -> Result<Option<Line>, NoMemory>
-    ensures { IfOk result (IsFound (IsLineWith (codes "holds") (rows_of (found_of matches.now)))) }
+fn holds_with(alloc: Global, matches: &ArgMatches) -> Result<Line, LineFault>
+    ensures { IsReadAs (codes "holds") (rows_in matches.now) result }
 {
-    let Some(file) = text_with(alloc, matches, "file")? else {
-        return Ok(None);
-    };
-    Ok(Some(Line::Holds { file }))
+    Ok(Line::Holds {
+        file: text(alloc, matches, "holds", "file")?,
+    })
 }
 
-fn init_with(alloc: Global, matches: &ArgMatches) -> Result<Option<Line>, NoMemory>
-    ensures { IfOk result (IsFound (IsLineWith (codes "init") (rows_of (found_of matches.now)))) }
+fn init_with(alloc: Global, matches: &ArgMatches) -> Result<Line, LineFault>
+    ensures { IsReadAs (codes "init") (rows_in matches.now) result }
 {
-    let Some(store) = text_with(alloc, matches, "store")? else {
-        return Ok(None);
-    };
-    let Some(callers) = text_with(alloc, matches, "callers")? else {
-        return Ok(None);
-    };
-    Ok(Some(Line::Init { store, callers }))
+    Ok(Line::Init {
+        store: text(alloc, matches, "init", "store")?,
+        callers: text(alloc, matches, "init", "callers")?,
+    })
 }
 
-fn serve_with(alloc: Global, matches: &ArgMatches) -> Result<Option<Line>, NoMemory>
-    ensures { IfOk result (IsFound (IsLineWith (codes "serve") (rows_of (found_of matches.now)))) }
+fn serve_with(alloc: Global, matches: &ArgMatches) -> Result<Line, LineFault>
+    ensures { IsReadAs (codes "serve") (rows_in matches.now) result }
 {
-    let Some(port) = port_with(matches) else {
-        return Ok(None);
-    };
-    let Some(cache) = number_with(matches, "cache", 1, 65_536) else {
-        return Ok(None);
-    };
-    let Some(connections) = number_with(matches, "connections", 1, 1_000_000) else {
-        return Ok(None);
-    };
-    let Some(most_open) = number_with(matches, "open", 1, 8192) else {
-        return Ok(None);
-    };
-    let log = flag_with(matches, "log");
-    let Some(store) = text_with(alloc, matches, "store")? else {
-        return Ok(None);
-    };
-    Ok(Some(Line::Serve {
-        port,
-        cache,
-        connections,
-        most_open,
-        log,
-        store,
-    }))
+    Ok(Line::Serve {
+        port: port(alloc, matches)?,
+        cache: number(alloc, matches, "serve", "cache", 1, 65_536)?,
+        connections: number(alloc, matches, "serve", "connections", 1, 1_000_000)?,
+        most_open: number(alloc, matches, "serve", "open", 1, 8192)?,
+        log: flag_with(matches, "log"),
+        store: text(alloc, matches, "serve", "store")?,
+    })
 }
 
-fn replay_with(alloc: Global, matches: &ArgMatches) -> Result<Option<Line>, NoMemory>
-    ensures { IfOk result (IsFound (IsLineWith (codes "replay") (rows_of (found_of matches.now)))) }
+fn replay_with(alloc: Global, matches: &ArgMatches) -> Result<Line, LineFault>
+    ensures { IsReadAs (codes "replay") (rows_in matches.now) result }
 {
-    let Some(cache) = number_with(matches, "cache", 1, 65_536) else {
-        return Ok(None);
-    };
-    let Some(callers) = text_with(alloc, matches, "callers")? else {
-        return Ok(None);
-    };
-    let Some(files) = matches.get_strs("files") else {
-        return Ok(None);
-    };
-    let files = strings(alloc, files)?;
-    Ok(Some(Line::Replay {
-        cache,
-        callers,
-        files,
-    }))
+    Ok(Line::Replay {
+        cache: number(alloc, matches, "replay", "cache", 1, 65_536)?,
+        callers: text(alloc, matches, "replay", "callers")?,
+        files: texts(alloc, matches, "replay", "files")?,
+    })
 }
 
-fn migrate_with(alloc: Global, matches: &ArgMatches) -> Result<Option<Line>, NoMemory>
-    ensures { IfOk result (IsFound (IsLineWith (codes "migrate") (rows_of (found_of matches.now)))) }
+fn migrate_with(alloc: Global, matches: &ArgMatches) -> Result<Line, LineFault>
+    ensures { IsReadAs (codes "migrate") (rows_in matches.now) result }
 {
-    let Some(store) = text_with(alloc, matches, "store")? else {
-        return Ok(None);
-    };
-    Ok(Some(Line::Migrate { store }))
+    Ok(Line::Migrate {
+        store: text(alloc, matches, "migrate", "store")?,
+    })
 }
 
-fn err_sysmods_with(alloc: Global, matches: &ArgMatches) -> Result<Option<Line>, NoMemory>
-    ensures { IfOk result (IsFound (IsLineWith (codes "errsysmods") (rows_of (found_of matches.now)))) }
+fn err_sysmods_with(alloc: Global, matches: &ArgMatches) -> Result<Line, LineFault>
+    ensures { IsReadAs (codes "errsysmods") (rows_in matches.now) result }
 {
-    let Some(files) = files_with(alloc, matches)? else {
-        return Ok(None);
-    };
-    Ok(Some(Line::ErrSysmods { files }))
+    Ok(Line::ErrSysmods {
+        files: files(alloc, matches, "errsysmods")?,
+    })
 }
 
-fn missing_fix_with(alloc: Global, matches: &ArgMatches) -> Result<Option<Line>, NoMemory>
-    ensures { IfOk result (IsFound (IsLineWith (codes "missingfix") (rows_of (found_of matches.now)))) }
+fn missing_fix_with(alloc: Global, matches: &ArgMatches) -> Result<Line, LineFault>
+    ensures { IsReadAs (codes "missingfix") (rows_in matches.now) result }
 {
-    let Some(files) = files_with(alloc, matches)? else {
-        return Ok(None);
-    };
-    Ok(Some(Line::MissingFix { files }))
+    Ok(Line::MissingFix {
+        files: files(alloc, matches, "missingfix")?,
+    })
 }
 
-fn chain_with(alloc: Global, matches: &ArgMatches) -> Result<Option<Line>, NoMemory>
-    ensures { IfOk result (IsFound (IsLineWith (codes "chain") (rows_of (found_of matches.now)))) }
+fn chain_with(alloc: Global, matches: &ArgMatches) -> Result<Line, LineFault>
+    ensures { IsReadAs (codes "chain") (rows_in matches.now) result }
 {
-    let Some(sysmod) = text_with(alloc, matches, "sysmod")? else {
-        return Ok(None);
-    };
-    let Some(files) = files_with(alloc, matches)? else {
-        return Ok(None);
-    };
-    Ok(Some(Line::Chain { sysmod, files }))
+    Ok(Line::Chain {
+        sysmod: text(alloc, matches, "chain", "sysmod")?,
+        files: files(alloc, matches, "chain")?,
+    })
 }
 
-fn callers_with(alloc: Global, matches: &ArgMatches) -> Result<Option<Line>, NoMemory>
-    ensures { IfOk result (IsFound (IsLineWith (codes "callers") (rows_of (found_of matches.now)))) }
+fn callers_with(alloc: Global, matches: &ArgMatches) -> Result<Line, LineFault>
+    ensures { IsReadAs (codes "callers") (rows_in matches.now) result }
 {
-    let Some(store) = text_with(alloc, matches, "store")? else {
-        return Ok(None);
-    };
-    let Some(callers) = text_with(alloc, matches, "callers")? else {
-        return Ok(None);
-    };
-    Ok(Some(Line::Callers { store, callers }))
+    Ok(Line::Callers {
+        store: text(alloc, matches, "callers", "store")?,
+        callers: text(alloc, matches, "callers", "callers")?,
+    })
 }
 
-fn check_with(alloc: Global, matches: &ArgMatches) -> Result<Option<Line>, NoMemory>
-    ensures { IfOk result (IsFound (IsLineWith (codes "check") (rows_of (found_of matches.now)))) }
+fn check_with(alloc: Global, matches: &ArgMatches) -> Result<Line, LineFault>
+    ensures { IsReadAs (codes "check") (rows_in matches.now) result }
 {
-    let Some(store) = text_with(alloc, matches, "store")? else {
-        return Ok(None);
-    };
-    Ok(Some(Line::Check { store }))
+    Ok(Line::Check {
+        store: text(alloc, matches, "check", "store")?,
+    })
 }
 
-// The names of a report's files. What a command has no argument for isn't among its matches.
-fn files_with(alloc: Global, matches: &ArgMatches) -> Result<Option<ReportFiles>, NoMemory>
-    ensures { IfOk result (AreFilesFound (rows_of (found_of matches.now))) }
-{
-    let Some(zone) = text_with(alloc, matches, "zone")? else {
-        return Ok(None);
-    };
-    let Some(publications) = matches.get_strs("files") else {
-        return Ok(None);
-    };
-    Ok(Some(ReportFiles {
-        zone,
-        categories: text_with(alloc, matches, "categories")?,
-        received: text_with(alloc, matches, "received")?,
-        name: text_with(alloc, matches, "name")?,
-        publications: strings(alloc, publications)?,
-    }))
-}
-
-// The text of an argument, where it is given.
-fn text_with(alloc: Global, matches: &ArgMatches, name: &str) -> Result<Option<String>, NoMemory>
-    ensures { IfOk result (λ text. first_of name.now (rows_of (found_of matches.now))
-        ≡ option_map string_bytes text) }
-{
-    match matches.get_str(name) {
-        Some(text) => Ok(Some(String::from_str(alloc, text)?)),
-        None => Ok(None),
-    }
-}
-
-// Whether a flag is set.
-fn flag_with(matches: &ArgMatches, name: &str) -> bool
-    ensures { result ≡ is_set (first_of name.now (rows_of (found_of matches.now))) }
-{
-    match matches.get_str(name) {
-        Some(text) => text == "true",
-        None => false,
-    }
-}
-
-// The port. clap lets no other number through.
-fn port_with(matches: &ArgMatches) -> Option<u16>
-    ensures some { IfSome result (IsPort (one_of (codes "port") (rows_of (found_of matches.now)))) }
-    ensures none { IsNone result → (number : ℕ)
-        → IsPort (one_of (codes "port") (rows_of (found_of matches.now))) number → ⊥ }
-{
-    let port = number_with(matches, "port", 1, 65_535)?;
-    u16::try_from(port).ok()
-}
-
-// The number of an option, in its range. clap lets no other number through.
-fn number_with(matches: &ArgMatches, name: &str, least: u32, most: u32) -> Option<u32>
-    ensures some { IfSome result (IsNumberIn least most (one_of name.now (rows_of (found_of matches.now)))) }
-    ensures none { IsNone result → (number : ℕ)
-        → IsNumberIn least most (one_of name.now (rows_of (found_of matches.now))) number → ⊥ }
-{
-    let number = matches.get_one::<u32>(name)?;
-    if (least..=most).contains(&number) {
-        Some(number)
-    } else {
-        None
-    }
-}
-
-// The texts, each as a string of its own.
-fn strings(alloc: Global, texts: &[&str]) -> Result<Vec<String>, NoMemory>
-    ensures { IfOk result (λ strings. map string_bytes strings.items ≡ map (λ text. text.now) texts.now) }
-{
-    let mut strings = Vec::with_capacity(alloc, texts.len())?;
-    for text in texts {
-        strings.push(String::from_str(alloc, text)?)?;
-    }
-    Ok(strings)
+// What is told where no command is named. clap lets no such words through.
+fn unnamed(alloc: Global) -> LineFault {
+    LineFault::in_words(String::from_str(alloc, "no command is named\n"))
 }
 
 // What clap has to tell.
@@ -350,8 +248,5 @@ fn told(alloc: Global, error: &clap::Error) -> LineFault
     if error.kind() == ErrorKind::OutOfMemory {
         return LineFault::Memory;
     }
-    match error.to_string(alloc) {
-        Ok(text) => LineFault::Words(text),
-        Err(_) => LineFault::Memory,
-    }
+    LineFault::in_words(error.to_string(alloc))
 }

@@ -6,6 +6,7 @@ use Rattle.clap.specs.Faults.{is_simple_and_free}
 use Rattle.clap.proofs.OnLiterals.{clap_on_literals}
 use Rattle.faults.specs.Refusal.{IsRefusal}
 use Rattle.command_line.specs.Line.{IsLineIn, IsLineOf, bureau_app}
+use Rattle.command_line.specs.Wanted.{IsRead}
 use Rattle.command_line.specs.declared.line.Line.{Line}
 use Rattle.command_line.specs.declared.line.LineFault.{LineFault}
 use Rattle.command_line.specs.declared.line.LineFault.TheVariants.{Memory}
@@ -27,7 +28,7 @@ on_any (Err _) fact = tt
 
 -- the line that the matches have is that of the words
 line_found : (result : Result Line LineFault) (met asked : Option (Text × List Row)) → met ≡ asked
-    → IfOk result (λ line. IsLineIn met line) → IfOk result (λ line. IsLineIn asked line)
+    → IsRead met result → IfOk result (λ line. IsLineIn asked line)
 line_found (Ok found) met asked same is = subst (λ rows. IsLineIn rows found) same is
 line_found (Err fault) met asked same is = tt
 
@@ -36,7 +37,7 @@ returns-in-Ok-clause-line c =
     let words = map string_bytes c.args.words.now in
     let app = c.in_ok-command.ensures in
     let found = subst (λ (app : App). HasMatchesOf app words c.in-Ok.matches) app c.in-Ok.ensures.matches in
-    line_found c.line_in.result (subcommand_rows_of c.in-Ok.matches) (subcommand_of bureau_app words) (found is_clear).1 c.line_in.ensures.line
+    line_found c.line_in.result (subcommand_rows_of c.in-Ok.matches) (subcommand_of bureau_app words) (found is_clear).1 c.line_in.ensures
 
 pub returns-in-Ok-clause-understood : goal.returns-in-Ok-clause-understood
 returns-in-Ok-clause-understood c =
@@ -61,8 +62,7 @@ refused_line Is (k ∷ kinds) error result (inr among) told = inr (λ line is no
 
 -- matches that are no line's come from words that are none
 no_line : (result : Result Line LineFault) (met asked : Option (Text × List Row)) (kinds : Kinds) → met ≡ asked
-    → IfErr result (IsRefusal Memory (λ _. (line : Line) → IsLineIn met line → ⊥))
-    → IfErr result (IsRefusal Memory (λ _. (line : Line) → IsLineIn asked line → kinds ≢ []))
+    → IsRead met result → IfErr result (IsRefusal Memory (λ _. (line : Line) → IsLineIn asked line → kinds ≢ []))
 no_line (Ok found) met asked kinds same none = tt
 no_line (Err fault) met asked kinds same (inl memory) = inl memory
 no_line (Err fault) met asked kinds same (inr none) = inr (λ line is. absurd (none line (subst (λ rows. IsLineIn rows line) (sym same) is)))
@@ -72,7 +72,7 @@ returns-in-Ok-clause-refused c =
     let words = map string_bytes c.args.words.now in
     let app = c.in_ok-command.ensures in
     let found = subst (λ (app : App). HasMatchesOf app words c.in-Ok.matches) app c.in-Ok.ensures.matches in
-    no_line c.line_in.result (subcommand_rows_of c.in-Ok.matches) (subcommand_of bureau_app words) (fault_of bureau_app words) (found is_clear).1 c.line_in.ensures.none
+    no_line c.line_in.result (subcommand_rows_of c.in-Ok.matches) (subcommand_of bureau_app words) (fault_of bureau_app words) (found is_clear).1 c.line_in.ensures
 
 pub returns-in-Err-clause-refused : goal.returns-in-Err-clause-refused
 returns-in-Err-clause-refused c =

@@ -1,6 +1,0 @@
--- the texts that were taken over so far
-use Rattle.std.proofs.Common.{◌≡◌, map, take, string_bytes}
-use Rattle.command_line.proofs.line.strings.Given as goal
-
-abbrev pub invariant-loop-text : goal.invariant-loop-text
-invariant-loop-text l = map string_bytes l.strings.items ≡ map (λ t. t.now) (take l.text-index l.texts)
