@@ -5,7 +5,7 @@ ghost use Rattle.catalogue.specs.View.{MayAsk, Tells};
 ghost use Rattle.catalogue.specs.declared.fault.SourceFault.TheVariants.{Device};
 ghost use Rattle.plan_reports.specs.Replies.{err_plan_json_of, err_plan_text_of};
 
-use crate::told::{told_json, told_text};
+use crate::told::{Form, told_as};
 use catalogue::{Published, SourceFault};
 use chains::Judge;
 use holddata::Hold;
@@ -39,7 +39,7 @@ pub fn err_plan_text<P: Published, J: Judge<P>>(
         (λ content. J.is_right judge.old content → J.is_right judge.new content) }
 {
     let plan = err_plan(alloc, source, judge, zone, received, holds)?;
-    Ok(told_text(alloc, received, Report::ErrSysmods, name, &plan)?)
+    Ok(told_as(alloc, Form::Text, received, Report::ErrSysmods, name, &plan)?)
 }
 
 /// The plan for the exception SYSMOD report on a zone, as JSON, from the ERROR holds on the SYSMODs that are installed
@@ -66,5 +66,5 @@ pub fn err_plan_json<P: Published, J: Judge<P>>(
         (λ content. J.is_right judge.old content → J.is_right judge.new content) }
 {
     let plan = err_plan(alloc, source, judge, zone, received, holds)?;
-    Ok(told_json(alloc, received, Report::ErrSysmods, name, &plan)?)
+    Ok(told_as(alloc, Form::Json, received, Report::ErrSysmods, name, &plan)?)
 }

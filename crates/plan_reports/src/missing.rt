@@ -5,7 +5,7 @@ ghost use Rattle.catalogue.specs.View.{MayAsk, Tells};
 ghost use Rattle.catalogue.specs.declared.fault.SourceFault.TheVariants.{Device};
 ghost use Rattle.plan_reports.specs.Replies.{missing_plan_json_of, missing_plan_text_of};
 
-use crate::told::{told_json, told_text};
+use crate::told::{Form, told_as};
 use catalogue::{Published, SourceFault};
 use chains::Judge;
 use holddata::Hold;
@@ -41,7 +41,7 @@ pub fn missing_plan_text<P: Published, J: Judge<P>>(
         (λ content. J.is_right judge.old content → J.is_right judge.new content) }
 {
     let plan = missing_plan(alloc, source, judge, zone, received, patterns, holds)?;
-    Ok(told_text(alloc, received, Report::MissingFix, name, &plan)?)
+    Ok(told_as(alloc, Form::Text, received, Report::MissingFix, name, &plan)?)
 }
 
 /// The plan for the missing fix report on a zone, as JSON, from the FIXCAT holds on the SYSMODs that are installed in
@@ -69,5 +69,5 @@ pub fn missing_plan_json<P: Published, J: Judge<P>>(
         (λ content. J.is_right judge.old content → J.is_right judge.new content) }
 {
     let plan = missing_plan(alloc, source, judge, zone, received, patterns, holds)?;
-    Ok(told_json(alloc, received, Report::MissingFix, name, &plan)?)
+    Ok(told_as(alloc, Form::Json, received, Report::MissingFix, name, &plan)?)
 }

@@ -1,39 +1,32 @@
-//! A plan in print and as JSON, with what is said of its members.
+//! A plan in print or as JSON, with what is said of its members.
 ghost use Rattle.std.specs.Prelude.{◌≡◌, List, IfOk};
 ghost use Rattle.zone_lists.specs.declared.zones.ZoneRow.{ZoneRow};
 ghost use Rattle.catalogue.specs.Content.{Content};
 ghost use Rattle.catalogue.specs.Ids.{Ascend};
 ghost use Rattle.report_holds.specs.Holds.{HoldLists};
 ghost use Rattle.zone_plans.specs.Plans.{IsZonePlan};
-ghost use Rattle.plan_reports.specs.Replies.{json_of_plan, text_of_plan};
+ghost use Rattle.plan_reports.specs.Form as Spec;
 
 use faults::NoMemory;
 use mcs_reader::Id;
-use plan_members::plan_members;
+use plan_members::{Member, plan_members};
 use plan_texts::{Report, plan_json, plan_text};
 use std::alloc::Global;
 use zone_plans::ZonePlan;
 
-/// A plan in print.
-pub(crate) fn told_text(
-    alloc: Global,
-    received: &[Id],
-    report: Report,
-    name: &Id,
-    plan: &ZonePlan,
-) -> Result<Vec<u8>, NoMemory>
-    requires { Ascend received.now }
-    ensures { IfOk result (λ text. (content : Content) (rows : List ZoneRow) (holds : List HoldLists)
-        → IsZonePlan content rows holds plan.now
-        → text.items ≡ text_of_plan content rows received.now report name.now plan.now) }
-{
-    let members = plan_members(alloc, received, plan)?;
-    plan_text(alloc, report, name, &members, plan)
+/// The form in which a plan is told.
+#[derive(Clone, Copy)]
+pub(crate) enum Form {
+    /// In print.
+    Text,
+    /// As JSON.
+    Json,
 }
 
-/// A plan as JSON.
-pub(crate) fn told_json(
+/// A plan in a form.
+pub(crate) fn told_as(
     alloc: Global,
+    form: Form,
     received: &[Id],
     report: Report,
     name: &Id,
@@ -42,8 +35,26 @@ pub(crate) fn told_json(
     requires { Ascend received.now }
     ensures { IfOk result (λ text. (content : Content) (rows : List ZoneRow) (holds : List HoldLists)
         → IsZonePlan content rows holds plan.now
-        → text.items ≡ json_of_plan content rows received.now report name.now plan.now) }
+        → text.items ≡ Spec.told_as form content rows received.now report name.now plan.now) }
 {
     let members = plan_members(alloc, received, plan)?;
-    plan_json(alloc, report, name, &members, plan)
+    written_as(alloc, form, report, name, &members, plan)
+}
+
+// The text of a plan and its members in a form.
+fn written_as(
+    alloc: Global,
+    form: Form,
+    report: Report,
+    name: &Id,
+    members: &[Member],
+    plan: &ZonePlan,
+) -> Result<Vec<u8>, NoMemory>
+    ensures { IfOk result
+        (λ text. text.items ≡ Spec.written_as form report name.now members.now plan.now) }
+{
+    match form {
+        Form::Text => plan_text(alloc, report, name, members, plan),
+        Form::Json => plan_json(alloc, report, name, members, plan),
+    }
 }

@@ -18,6 +18,7 @@ mod json;
 mod member_tables;
 mod report;
 mod text;
+mod values;
 
 pub use json::plan_json;
 pub use report::Report;

@@ -1,8 +1,8 @@
 //! The tables of the members.
-ghost use Rattle.std.specs.Prelude.{◌≡◌, ◌++◌, ◌∷◌, [], ℕ, List, Option, IfOk, OnOk, decimal, map};
-ghost use Rattle.columns.specs.Table.{table_with};
+ghost use Rattle.std.specs.Prelude.{◌≡◌, ◌∷◌, [], IfOk, OnOk, decimal, map};
 ghost use Rattle.mcs_reader.specs.Bytes.{bytes_of_each};
 ghost use Rattle.mcs_reader.specs.Id.{text_of};
+ghost use Rattle.plan_texts.specs.Adding.{AddsRows};
 ghost use Rattle.plan_texts.specs.Tables as Spec;
 
 use crate::fields::{dash, list_field, received_field, whole};
@@ -12,6 +12,7 @@ use faults::NoMemory;
 use itoa::Buffer;
 use mcs_reader::Id;
 use plan_members::Member;
+use reports::titled;
 use std::alloc::Global;
 use zone_plans::HoldOn;
 
@@ -85,19 +86,8 @@ pub(crate) fn plan_table(
     table.finish()
 }
 
-// A title that ends with the zone's name.
-fn titled(alloc: Global, title: &[u8], zone: &Id) -> Result<Vec<u8>, NoMemory>
-    ensures { IfOk result (λ titled. titled.items ≡ title.now ++ text_of zone.now) }
-{
-    let mut titled = Vec::from_slice(alloc, title)?;
-    titled.extend_from_slice(zone.as_bytes())?;
-    Ok(titled)
-}
-
 fn push_member(alloc: Global, table: &mut Table, member: &Member) -> Result<(), NoMemory>
-    ensures { OnOk result ((columns : List (ℕ × List ℕ)) (title : Option (List ℕ))
-        (rows : List (List (List ℕ))) → table.old ≡ table_with columns title rows
-        → table.new ≡ table_with columns title (rows ++ Spec.plan_fields member.now ∷ [])) }
+    ensures { OnOk result (AddsRows (Spec.plan_fields member.now ∷ []) table.old table.new) }
 {
     let fmids = list_field(alloc, member.fmids())?;
     let step = number_field(alloc, member.step())?;
@@ -142,9 +132,7 @@ pub(crate) fn cause_table(alloc: Global, members: &[Member]) -> Result<Vec<u8>, 
 }
 
 fn push_causes(table: &mut Table, member: &Member) -> Result<(), NoMemory>
-    ensures { OnOk result ((columns : List (ℕ × List ℕ)) (title : Option (List ℕ))
-        (rows : List (List (List ℕ))) → table.old ≡ table_with columns title rows
-        → table.new ≡ table_with columns title (rows ++ Spec.causes_of member.now)) }
+    ensures { OnOk result (AddsRows (Spec.causes_of member.now) table.old table.new) }
 {
     let id = member.id();
     push_hold_causes(table, &id, member.holds())?;
@@ -153,9 +141,7 @@ fn push_causes(table: &mut Table, member: &Member) -> Result<(), NoMemory>
 }
 
 fn push_hold_causes(table: &mut Table, id: &Id, holds: &[HoldOn]) -> Result<(), NoMemory>
-    ensures { OnOk result ((columns : List (ℕ × List ℕ)) (title : Option (List ℕ))
-        (rows : List (List (List ℕ))) → table.old ≡ table_with columns title rows
-        → table.new ≡ table_with columns title (rows ++ map (Spec.hold_cause id.now) holds.now)) }
+    ensures { OnOk result (AddsRows (map (Spec.hold_cause id.now) holds.now) table.old table.new) }
 {
     for hold in holds {
         table.push(&hold_cause(id, hold))?;
@@ -164,9 +150,7 @@ fn push_hold_causes(table: &mut Table, id: &Id, holds: &[HoldOn]) -> Result<(), 
 }
 
 fn push_need_causes(table: &mut Table, id: &Id, others: &[Id]) -> Result<(), NoMemory>
-    ensures { OnOk result ((columns : List (ℕ × List ℕ)) (title : Option (List ℕ))
-        (rows : List (List (List ℕ))) → table.old ≡ table_with columns title rows
-        → table.new ≡ table_with columns title (rows ++ map (Spec.need_cause id.now) others.now)) }
+    ensures { OnOk result (AddsRows (map (Spec.need_cause id.now) others.now) table.old table.new) }
 {
     for other in others {
         table.push(&need_cause(id, other))?;
@@ -203,9 +187,7 @@ pub(crate) fn heed_table(alloc: Global, members: &[Member]) -> Result<Vec<u8>, N
 }
 
 fn push_member_heeds(table: &mut Table, member: &Member) -> Result<(), NoMemory>
-    ensures { OnOk result ((columns : List (ℕ × List ℕ)) (title : Option (List ℕ))
-        (rows : List (List (List ℕ))) → table.old ≡ table_with columns title rows
-        → table.new ≡ table_with columns title (rows ++ Spec.heeds_of member.now)) }
+    ensures { OnOk result (AddsRows (Spec.heeds_of member.now) table.old table.new) }
 {
     let id = member.id();
     push_heeds(table, &id, b"SYSTEM", member.system())?;
@@ -214,9 +196,8 @@ fn push_member_heeds(table: &mut Table, member: &Member) -> Result<(), NoMemory>
 }
 
 fn push_heeds(table: &mut Table, id: &Id, kind: &[u8], reasons: &[Id]) -> Result<(), NoMemory>
-    ensures { OnOk result ((columns : List (ℕ × List ℕ)) (title : Option (List ℕ))
-        (rows : List (List (List ℕ))) → table.old ≡ table_with columns title rows
-        → table.new ≡ table_with columns title (rows ++ map (Spec.heed_fields id.now kind.now) reasons.now)) }
+    ensures { OnOk result
+        (AddsRows (map (Spec.heed_fields id.now kind.now) reasons.now) table.old table.new) }
 {
     for reason in reasons {
         table.push(&heed_fields(id, kind, reason))?;

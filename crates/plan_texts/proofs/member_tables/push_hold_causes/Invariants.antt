@@ -1,8 +1,7 @@
-use Rattle.std.proofs.Common.{◌≡◌, ◌++◌, ℕ, List, Option, map, take}
-use Rattle.columns.specs.Table.{table_with}
+use Rattle.std.proofs.Common.{map, take}
+use Rattle.plan_texts.specs.Adding.{AddsRows}
 use Rattle.plan_texts.specs.Tables.{hold_cause}
 use Rattle.plan_texts.proofs.member_tables.push_hold_causes.Given as goal
 
 abbrev pub invariant-loop-hold : goal.invariant-loop-hold
-invariant-loop-hold l = (columns : List (ℕ × List ℕ)) (title : Option (List ℕ)) (rows : List (List (List ℕ))) → l.fn.table ≡ table_with columns title rows
-    → l.table ≡ table_with columns title (rows ++ map (hold_cause l.id) (take l.hold-index l.holds))
+invariant-loop-hold l = AddsRows (map (hold_cause l.id) (take l.hold-index l.holds)) l.fn.table l.table
