@@ -28,9 +28,9 @@ use Rattle.sql_texts.specs.Meaning.{Reads}
 use Rattle.sql_texts.specs.Schema.{bureau}
 use Rattle.sql_texts.specs.Reads as read
 use Rattle.sql_texts.specs.Reads.{count_of, how_many}
-use Rattle.sql_state.specs.Ours.{IsOurs, held_by}
 use Rattle.sql_state.specs.Reading.{Finds}
 use Rattle.sql_reads.specs.Answering.{Answers, one_of}
+use Rattle.sql_reads.specs.Counts.{Counts}
 use Rattle.sql_reads.proofs.LengthFacts.{holds_length, sysmods_length, zones_length}
 use Rattle.sql_reads.proofs.TableFacts.{finds_of_two}
 use Rattle.sql_state.proofs.TextFacts.{of_given}
@@ -123,10 +123,9 @@ module _ (trees : Trees) (rows : List Row) (found : ℕ) (whole : IsWhole (store
 
 pub count_found : {Fault : Type 0} (text : List ℕ) (params asked : Row) → params ≡ asked → (old new : State) (query : Query) (parameters : ℕ)
     → Reads bureau text query (codes "count(*)" ∷ []) parameters → (rows : Vec Row Global) (seen : List Row) → seen ≡ rows.items → Answers {Fault = Fault} text params old new (Ok rows)
-    → (result : Result ℕ Fault) → IfOk result (λ found. one_of (λ row. number_in (column row 0)) seen ≡ Some (Some found)) → IfOk result (λ found. found < most) → (many : Stored → ℕ)
-    → (IsOurs old.committed → IsAnswer query old.committed.trees asked seen → (found : ℕ) → one_of (λ row. number_in (column row 0)) seen ≡ Some (Some found) → found < most → found ≡ many (held_by old.committed))
-    → Finds old new result (λ stored found. found ≡ many stored)
+    → (result : Result ℕ Fault) → IfOk result (λ found. one_of (λ row. number_in (column row 0)) seen ≡ Some (Some found)) → IfOk result (λ found. found < most)
+    → (many : Stored → ℕ) → Counts query asked many → Finds old new result (λ stored found. found ≡ many stored)
 count_found text params asked same_params old new query parameters reads rows seen same answers result count below many law =
     finds_of_two text params asked same_params old new query (codes "count(*)" ∷ []) parameters reads rows seen same answers result
     (λ found. one_of (λ row. number_in (column row 0)) seen ≡ Some (Some found)) (λ found. found < most) count below
-    (λ stored found. found ≡ many stored) law
+    (λ stored found. found ≡ many stored) (λ ours answer found said under. law old.committed.trees seen found ours.rows.whole said under answer)

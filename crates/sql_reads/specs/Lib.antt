@@ -1,5 +1,6 @@
 pub mod Answering
 pub mod Columns
+pub mod Counts
 pub mod Orders
 pub mod Rows
 pub mod Runs

@@ -1,11 +1,16 @@
 //! Reads that count rows.
-ghost use Rattle.std.specs.Prelude.{◌≡◌, ◌<◌, false, length, IfOk, Some};
+ghost use Rattle.std.specs.Prelude.{◌≡◌, ◌<◌, ◌∷◌, [], ℕ, codes, false, length, IfOk, Some};
 ghost use Rattle.sqlite.specs.Held.{state};
+ghost use Rattle.sqlite.specs.Query.{Query};
+ghost use Rattle.sqlite.specs.Values.{bound};
 ghost use Rattle.sqlite_value.specs.Order as order;
-ghost use Rattle.sql_reads.specs.Answering.{one_of};
+ghost use Rattle.sql_reads.specs.Answering.{IsRead, one_of};
+ghost use Rattle.sql_reads.specs.Counts.{Counts};
 ghost use Rattle.sql_state.specs.Reading.{Finds};
-ghost use Rattle.sql_tables.specs.Stored.{tables_of};
+ghost use Rattle.sql_tables.specs.Stored.{Stored, tables_of};
 ghost use Rattle.sql_tables.specs.Values as value;
+ghost use Rattle.sql_texts.specs.Meaning.{Reads};
+ghost use Rattle.sql_texts.specs.Schema.{bureau};
 
 use crate::ReadFault;
 use crate::one::only;
@@ -14,6 +19,7 @@ use mcs_reader::Id;
 use sql_rows::id_of;
 use sql_tables::count_in;
 use sql_texts::read;
+use sqlite::types::ValueRef;
 use sqlite::{Alter, Connection, Row};
 
 /// How many SYSMODs are catalogued and how many holds the book has. It goes through all of them.
@@ -28,31 +34,11 @@ pub fn counts<S: Alter>(conn: &mut Connection<S>) -> Result<(u64, u64), ReadFaul
         (λ stored counts. (counts.0 ≡ length (tables_of stored).content.sysmods)
         × (counts.1 ≡ length (tables_of stored).content.holds)) }
 {
-    let sysmods = sysmod_count(conn)?;
-    match hold_count(conn) {
+    let sysmods = count(conn, read::sysmod_count(), &[])?;
+    match count(conn, read::hold_count(), &[]) {
         Ok(holds) => Ok((sysmods, holds)),
         Err(fault) => Err(fault),
     }
-}
-
-fn sysmod_count<S: Alter>(conn: &mut Connection<S>) -> Result<u64, ReadFault>
-    requires rest { conn.old.in_transaction ≡ false }
-    ensures mode { conn.new.in_transaction ≡ false }
-    ensures finds { Finds (state S.Store conn.old) (state S.Store conn.new) result
-        (λ stored count. count ≡ length (tables_of stored).content.sysmods) }
-{
-    let rows = rows_of(conn, read::sysmod_count(), &[])?;
-    number(rows.as_slice())
-}
-
-fn hold_count<S: Alter>(conn: &mut Connection<S>) -> Result<u64, ReadFault>
-    requires rest { conn.old.in_transaction ≡ false }
-    ensures mode { conn.new.in_transaction ≡ false }
-    ensures finds { Finds (state S.Store conn.old) (state S.Store conn.new) result
-        (λ stored count. count ≡ length (tables_of stored).content.holds) }
-{
-    let rows = rows_of(conn, read::hold_count(), &[])?;
-    number(rows.as_slice())
 }
 
 /// How many zones a client has.
@@ -67,7 +53,25 @@ pub fn zone_count<S: Alter>(conn: &mut Connection<S>, client: &Id) -> Result<u64
         (λ stored count. count ≡ length ((tables_of stored).zones client.now)) }
 {
     let params = [id_of(client)];
-    let rows = rows_of(conn, read::zone_count(), &params)?;
+    count(conn, read::zone_count(), &params)
+}
+
+// The count that a text tells, with these parameters.
+fn count<S: Alter>(
+    conn: &mut Connection<S>,
+    text: &str,
+    params: &[ValueRef<'_>],
+) -> Result<u64, ReadFault>
+    requires rest { conn.old.in_transaction ≡ false }
+    requires read { IsRead text.now }
+    ensures mode { conn.new.in_transaction ≡ false }
+    ensures finds { (query : Query) (parameters : ℕ) (given : order.Row) (many : Stored → ℕ)
+        → Reads bureau text.now query (codes "count(*)" ∷ []) parameters
+        → bound params.now ≡ given → Counts query given many
+        → Finds (state S.Store conn.old) (state S.Store conn.new) result
+        (λ stored count. count ≡ many stored) }
+{
+    let rows = rows_of(conn, text, params)?;
     number(rows.as_slice())
 }
 

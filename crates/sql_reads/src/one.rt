@@ -1,5 +1,5 @@
 //! The read of a single row, or of none.
-ghost use Rattle.std.specs.Prelude.{◌≡◌, Option, Some, false, filter, is_some, option_map, IfOk};
+ghost use Rattle.std.specs.Prelude.{◌≡◌, [], List, Option, Some, false, filter, is_some, option_and_then, option_map, unwrap_or, IfOk};
 ghost use Rattle.sqlite.specs.Held.{state};
 ghost use Rattle.sqlite_value.specs.Order.{Row as Values};
 ghost use Rattle.sql_reads.specs.Answering.{one_of};
@@ -8,34 +8,33 @@ ghost use Rattle.sql_tables.specs.Stored.{Stored, first, shown as show};
 ghost use Rattle.sql_tables.specs.Whole.{IsWhole};
 
 use crate::ReadFault;
+use crate::entry::{Ordered, ascending};
 use crate::selection::{Selection, select};
 use sql_rows::Key;
+use sql_tables::NoMemory;
 use sqlite::{Alter, Connection, Row};
 use std::alloc::Global;
 
-/// A selection that finds one row of a key at most.
+/// A selection that finds one row of a key at most, which says a list. Where there is none, nothing stands in the list.
 pub(crate) trait One<K: Key>: Selection<K> {
-    /// What is said of a key.
-    type Item: Drop;
+    /// What stands in the list.
+    type Item: Ordered + Drop;
 
-    /// What a row says, and what is said where there is none.
-    ghost says: { Option Values → Self.Item → Type 0 };
-
-    /// What holds of all that is said.
-    ghost is_proper: { Self.Item → Type 0 };
+    /// What the columns that are shown say.
+    ghost found: { Values → Option (List Self.Item) };
 
     /// What the store says of a key.
-    ghost tells: { K → Stored → Self.Item → Type 0 };
+    ghost tells: { K → Stored → List Self.Item → Type 0 };
 
-    /// What the row says, if there is one.
-    fn item(alloc: Global, row: Option<&Row>) -> Result<Self::Item, ReadFault>
-        ensures says { IfOk result (says (option_map (λ row. row.now) row.entry)) }
-        ensures proper { IfOk result is_proper };
+    /// What a row says, or `None` where nothing was written as it.
+    fn in_row(alloc: Global, row: &Row) -> Result<Option<Vec<Self::Item>>, NoMemory>
+        ensures { IfOk result (λ list. option_map (λ items. items.items) list ≡ found row.now) };
 
     /// What the row of a key says is what the store says of it.
-    ghost told: { (key : K) (stored : Stored) → IsWhole stored → (item : Self.Item)
-        → says (option_map (show Self.shown) (first (filter (K.has key) (Self.rows stored)))) item
-        → tells key stored item };
+    ghost told: { (key : K) (stored : Stored) → IsWhole stored → (items : List Self.Item)
+        → items ≡ unwrap_or (option_and_then found
+        (option_map (show Self.shown) (first (filter (K.has key) (Self.rows stored))))) []
+        → tells key stored items };
 }
 
 /// The one row, if there is one. More are a fault.
@@ -56,17 +55,38 @@ pub(crate) fn any(rows: &[Row]) -> bool
     !rows.is_empty()
 }
 
-// What the one row says, or what is said where there is none.
-fn item_of<K: Key, T: One<K>>(alloc: Global, rows: &[Row]) -> Result<T::Item, ReadFault>
-    ensures said { IfOk result (λ item.
-        (row : Option Values) × (one_of Some rows.now ≡ Some row) × T.says row item) }
-    ensures proper { IfOk result T.is_proper }
+// What the row says; nothing where there is no row.
+fn said<K: Key, T: One<K>>(alloc: Global, row: Option<&Row>) -> Result<Vec<T::Item>, ReadFault>
+    ensures { IfOk result (λ list. list.items
+        ≡ unwrap_or (option_and_then T.found (option_map (λ row. row.now) row.entry)) []) }
 {
-    let row = only(rows)?;
-    <T as One<K>>::item(alloc, row)
+    match row {
+        Some(row) => <T as One<K>>::in_row(alloc, row)?.ok_or(ReadFault::Device),
+        None => Ok(Vec::new(alloc)),
+    }
 }
 
-/// What the one row of a key says, or what is said where there is none.
+// The same, in ascending order.
+fn item<K: Key, T: One<K>>(alloc: Global, row: Option<&Row>) -> Result<Vec<T::Item>, ReadFault>
+    ensures says { IfOk result (λ list. list.items
+        ≡ unwrap_or (option_and_then T.found (option_map (λ row. row.now) row.entry)) []) }
+    ensures ascend { IfOk result (λ list. T.Item.ascend list.items) }
+{
+    let list = said::<K, T>(alloc, row)?;
+    ascending(list).ok_or(ReadFault::Device)
+}
+
+// What the one of these rows says.
+fn item_of<K: Key, T: One<K>>(alloc: Global, rows: &[Row]) -> Result<Vec<T::Item>, ReadFault>
+    ensures said { IfOk result (λ list. (row : Option Values) × (one_of Some rows.now ≡ Some row)
+        × (list.items ≡ unwrap_or (option_and_then T.found row) [])) }
+    ensures ascend { IfOk result (λ list. T.Item.ascend list.items) }
+{
+    let row = only(rows)?;
+    item::<K, T>(alloc, row)
+}
+
+/// What the one row of a key says, in ascending order.
 ///
 /// # Errors
 ///
@@ -75,12 +95,12 @@ pub(crate) fn read_one<K: Key, T: One<K>, S: Alter>(
     alloc: Global,
     conn: &mut Connection<S>,
     key: &K,
-) -> Result<T::Item, ReadFault>
+) -> Result<Vec<T::Item>, ReadFault>
     requires rest { conn.old.in_transaction ≡ false }
     ensures mode { conn.new.in_transaction ≡ false }
     ensures finds { Finds (state S.Store conn.old) (state S.Store conn.new) result
-        (λ stored item. T.tells key.now stored item) }
-    ensures proper { IfOk result T.is_proper }
+        (λ stored list. T.tells key.now stored list.items) }
+    ensures ascend { IfOk result (λ list. T.Item.ascend list.items) }
 {
     let rows = select::<K, T, S>(conn, key)?;
     item_of::<K, T>(alloc, rows.as_slice())

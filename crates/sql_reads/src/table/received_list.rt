@@ -1,27 +1,24 @@
 //! The table `received_list`: what a client has received.
-ghost use Rattle.std.specs.Prelude.{◌≡◌, [], option_and_then, option_map, unwrap_or, false, IfOk};
+ghost use Rattle.std.specs.Prelude.{◌≡◌, false, IfOk};
 ghost use Rattle.catalogue.specs.Ids.{Ascend};
 ghost use Rattle.sqlite.specs.Held.{state};
-ghost use Rattle.sqlite_value.specs.Order.{column};
 ghost use Rattle.sql_state.specs.Reading.{Finds};
 ghost use Rattle.sql_tables.specs.Stored.{tables_of};
-ghost use Rattle.sql_tables.specs.Values.{ids_in};
 ghost use Rattle.sql_reads.specs.Columns.{ShowsAll};
 ghost use Rattle.sql_texts.specs.Schema as schema;
 
 use crate::ReadFault;
 use crate::all_columns::AllColumns;
-use crate::entry::ascending;
 use crate::one::{One, read_one};
 use crate::selection::Selection;
 use mcs_reader::Id;
 use sql_rows::Received;
-use sql_tables::ids_row_in;
+use sql_tables::{NoMemory, ids_row_in};
 use sqlite::{Alter, Connection, Row};
 use std::alloc::Global;
 
 impl Selection<Id> for Received {
-    ghost use Rattle.std.specs.Prelude.{◌∷◌, codes};
+    ghost use Rattle.std.specs.Prelude.{◌∷◌, [], codes};
 
     ghost shown = { 1 ∷ [] };
 
@@ -36,38 +33,25 @@ impl Selection<Id> for Received {
 }
 
 impl One<Id> for Received {
-    ghost use Rattle.std.specs.Prelude.{◌∷◌, filter};
+    ghost use Rattle.std.specs.Prelude.{◌∷◌, [], filter};
+    ghost use Rattle.sqlite_value.specs.Order.{column};
     ghost use Rattle.sql_tables.specs.Stored.{first, is_of, shown};
+    ghost use Rattle.sql_tables.specs.Values.{ids_in};
     ghost use Rattle.sql_reads.specs.Rows.{said_of_shown};
 
-    type Item = Vec<Id>;
+    type Item = Id;
 
-    ghost says = { λ row ids. ids.items ≡ unwrap_or (option_and_then (λ row. ids_in (column row 0)) row) [] };
+    ghost found = { λ row. ids_in (column row 0) };
 
-    ghost is_proper = { λ ids. Ascend ids.items };
+    ghost tells = { λ client stored ids. ids ≡ (tables_of stored).received client };
 
-    ghost tells = { λ client stored ids. ids.items ≡ (tables_of stored).received client };
-
-    fn item(alloc: Global, row: Option<&Row>) -> Result<Vec<Id>, ReadFault> {
-        let ids = ids(alloc, row)?;
-        ascending(ids).ok_or(ReadFault::Device)
+    fn in_row(alloc: Global, row: &Row) -> Result<Option<Vec<Id>>, NoMemory> {
+        ids_row_in(alloc, row)
     }
 
     ghost told = { λ client stored whole ids says.
         said_of_shown (λ row. ids_in (column row 0)) (shown (1 ∷ [])) []
-        (first (filter (is_of client) stored.received)) ids.items says };
-}
-
-// The ids in the row; none where there is no row.
-fn ids(alloc: Global, row: Option<&Row>) -> Result<Vec<Id>, ReadFault>
-    ensures { IfOk result (λ ids. ids.items
-        ≡ unwrap_or (option_and_then (λ row. ids_in (column row 0))
-        (option_map (λ row. row.now) row.entry)) []) }
-{
-    match row {
-        Some(row) => ids_row_in(alloc, row)?.ok_or(ReadFault::Device),
-        None => Ok(Vec::new(alloc)),
-    }
+        (first (filter (is_of client) stored.received)) ids says };
 }
 
 /// The SYSMODs that a client has received, ascending.

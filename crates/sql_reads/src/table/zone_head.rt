@@ -1,23 +1,21 @@
 //! The table `zone_head`: the zones of a client, each with the patterns that are asked for in it.
-ghost use Rattle.std.specs.Prelude.{◌≡◌, [], false, is_some, option_and_then, option_map, unwrap_or, IfOk};
+ghost use Rattle.std.specs.Prelude.{◌≡◌, false, is_some, IfOk};
 ghost use Rattle.bureau_store.specs.Tables as tables;
 ghost use Rattle.bureau_store.specs.Tables.{PatternsAscend, zone_named};
 ghost use Rattle.sqlite.specs.Held.{state};
-ghost use Rattle.sqlite_value.specs.Order.{column};
 ghost use Rattle.sql_state.specs.Reading.{Finds};
 ghost use Rattle.sql_tables.specs.Stored.{tables_of};
-ghost use Rattle.sql_tables.specs.Values.{patterns_in};
 ghost use Rattle.sql_reads.specs.Columns.{ShowsAll};
 ghost use Rattle.sql_texts.specs.Schema as schema;
 
 use crate::ReadFault;
 use crate::all_columns::AllColumns;
-use crate::entry::{Ordered, ascending};
+use crate::entry::Ordered;
 use crate::one::{One, any, read_one};
 use crate::selection::{Selection, select};
 use mcs_reader::Id;
 use sql_rows::{Heads, Zone};
-use sql_tables::patterns_row_in;
+use sql_tables::{NoMemory, patterns_row_in};
 use sqlite::{Alter, Connection, Row};
 use std::alloc::Global;
 use zone_lists::Pattern;
@@ -40,7 +38,7 @@ impl Ordered for Pattern {
 }
 
 impl Selection<Zone> for Heads {
-    ghost use Rattle.std.specs.Prelude.{◌∷◌, codes};
+    ghost use Rattle.std.specs.Prelude.{◌∷◌, [], codes};
 
     ghost shown = { 2 ∷ [] };
 
@@ -55,40 +53,26 @@ impl Selection<Zone> for Heads {
 }
 
 impl One<Zone> for Heads {
-    ghost use Rattle.std.specs.Prelude.{◌∷◌, filter};
+    ghost use Rattle.std.specs.Prelude.{◌∷◌, [], filter};
+    ghost use Rattle.sqlite_value.specs.Order.{column};
     ghost use Rattle.sql_tables.specs.Stored.{first, is_of_both, shown};
+    ghost use Rattle.sql_tables.specs.Values.{patterns_in};
     ghost use Rattle.sql_reads.specs.Rows.{patterns_said, said_of_shown};
 
-    type Item = Vec<Pattern>;
+    type Item = Pattern;
 
-    ghost says = { λ row patterns. patterns.items
-        ≡ unwrap_or (option_and_then (λ row. patterns_in (column row 0)) row) [] };
+    ghost found = { λ row. patterns_in (column row 0) };
 
-    ghost is_proper = { λ patterns. PatternsAscend patterns.items };
-
-    ghost tells = { λ key stored patterns. patterns.items
+    ghost tells = { λ key stored patterns. patterns
         ≡ tables.patterns_of (zone_named key.zone ((tables_of stored).zones key.client)) };
 
-    fn item(alloc: Global, row: Option<&Row>) -> Result<Vec<Pattern>, ReadFault> {
-        let patterns = patterns_in_row(alloc, row)?;
-        ascending(patterns).ok_or(ReadFault::Device)
+    fn in_row(alloc: Global, row: &Row) -> Result<Option<Vec<Pattern>>, NoMemory> {
+        patterns_row_in(alloc, row)
     }
 
-    ghost told = { λ key stored whole patterns says. patterns_said stored key.client key.zone patterns.items
+    ghost told = { λ key stored whole patterns says. patterns_said stored key.client key.zone patterns
         (said_of_shown (λ row. patterns_in (column row 0)) (shown (2 ∷ [])) []
-        (first (filter (is_of_both key.client key.zone) stored.heads)) patterns.items says) };
-}
-
-// The patterns in the row; none where there is no row.
-fn patterns_in_row(alloc: Global, row: Option<&Row>) -> Result<Vec<Pattern>, ReadFault>
-    ensures { IfOk result (λ patterns. patterns.items
-        ≡ unwrap_or (option_and_then (λ row. patterns_in (column row 0))
-        (option_map (λ row. row.now) row.entry)) []) }
-{
-    match row {
-        Some(row) => patterns_row_in(alloc, row)?.ok_or(ReadFault::Device),
-        None => Ok(Vec::new(alloc)),
-    }
+        (first (filter (is_of_both key.client key.zone) stored.heads)) patterns says) };
 }
 
 /// The patterns of the fix categories that a client asks for in a zone, ascending; none where it has no such zone.

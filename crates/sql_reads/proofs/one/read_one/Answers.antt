@@ -1,5 +1,5 @@
-use Rattle.std.proofs.Common.{◌≡◌, Some, ap, subst, sym, ◌∙◌}
-use Rattle.std.specs.Prelude.{Option, filter}
+use Rattle.std.proofs.Common.{◌≡◌, [], Some, ap, subst, sym, ◌∙◌}
+use Rattle.std.specs.Prelude.{Option, filter, option_and_then, unwrap_or}
 use Rattle.sqlite.specs.Held.{state}
 use Rattle.sqlite_value.specs.Order.{Row}
 use Rattle.sql_tables.specs.Stored.{shown}
@@ -14,7 +14,9 @@ returns-clause-finds g c =
     let key = c.args.key.now in
     let rows = c.in_ok-rows.rows in
     finds_from (state g.S.Store c.args.conn.now) (state g.S.Store c.select.new.conn) rows c.item_of.result _
-    (λ stored item. o.tells key stored item) c.in_ok-rows.ensures.finds
-    (λ item. (row : Option Row) × (one_of Some c.as_slice.result.now ≡ Some row) × o.says row item) o.is_proper c.item_of.ensures.said c.item_of.ensures.proper
-    (λ stored whole item shows said proper. g.met.T.One.told key stored whole item
-    (subst (λ row. o.says row item) (sym (one_shown (shown t.shown) (filter (g.K.Key.has key) (g.T.Table.rows stored)) rows.items said.0 shows (ap (one_of Some) (sym c.as_slice.ensures.value) ∙ said.1))) said.2))
+    (λ stored list. o.tells key stored list.items) c.in_ok-rows.ensures.finds
+    (λ list. (row : Option Row) × (one_of Some c.as_slice.result.now ≡ Some row) × (list.items ≡ unwrap_or (option_and_then o.found row) [])) (λ list. g.T.Item.Ordered.ascend list.items)
+    c.item_of.ensures.said c.item_of.ensures.ascend
+    (λ stored whole list shows said ascend. g.met.T.One.told key stored whole list.items
+    (subst (λ row. list.items ≡ unwrap_or (option_and_then o.found row) [])
+    (sym (one_shown (shown t.shown) (filter (g.K.Key.has key) (g.T.Table.rows stored)) rows.items said.0 shows (ap (one_of Some) (sym c.as_slice.ensures.value) ∙ said.1))) said.2))
