@@ -1,4 +1,4 @@
--- What stands in the columns of a row, and what is known of a table: the file of each table has that of its own.
+-- What stands in the columns of a row, and what is known of a table: the file of each table says what its rows keep to.
 use Rattle.std.specs.Prelude.{◌≡◌, ℕ, Bool, true, false, List, IsSome, Some}
 use Rattle.std.specs.List.{AllByRecursion}
 use Rattle.bureau_store.specs.Tables.{PatternsAscend}
@@ -42,6 +42,10 @@ pub record Known : Type 1 where
   pub rows : Stored → List Row
   -- what each of them keeps to
   pub Keeps : Row → Type 0
+
+-- a table with these rows, which keep to such a thing
+abbrev pub known_by : Table → (Stored → List Row) → (Row → Type 0) → Known
+known_by table rows keeps_to = record { table = table; rows = rows; Keeps = keeps_to }
 
 -- the names of its columns
 abbrev pub names_of : Known → List (List ℕ)

@@ -48,12 +48,16 @@ of_rows table = of_known (known_of table)
 abbrev pub of_callers : Question
 of_callers = record { query = read.callers; names = codes "name" ∷ codes "token" ∷ []; params = [] }
 
+-- what a query counts
+abbrev pub of_count : Query → Question
+of_count query = record { query = query; names = codes "count(*)" ∷ []; params = [] }
+
 -- how many SYSMODs are catalogued, and how many holds there are
 abbrev pub of_sysmods : Question
-of_sysmods = record { query = read.sysmod_count; names = codes "count(*)" ∷ []; params = [] }
+of_sysmods = of_count read.sysmod_count
 
 abbrev pub of_holds : Question
-of_holds = record { query = read.hold_count; names = codes "count(*)" ∷ []; params = [] }
+of_holds = of_count read.hold_count
 
 -- the last change of the caller of this name, and its zones, each with how many rows it has
 abbrev pub of_last : List ℕ → Question

@@ -1,14 +1,17 @@
 //! What a store is asked for a tally.
-ghost use Rattle.std.specs.Prelude.{◌≡◌, false, length, map, sum_by, IfErr, IfOk};
+ghost use Rattle.std.specs.Prelude.{◌≡◌, [], ℕ, false, length, map, sum_by, IfErr, IfOk};
 ghost use Rattle.std.specs.List.Sorted.{IsPermutation};
 ghost use Rattle.bureau_store.specs.Caller.{caller_named};
 ghost use Rattle.bureau_store.specs.Tables.{NamesAscend};
 ghost use Rattle.sqlite.specs.Held.{state};
+ghost use Rattle.sqlite.specs.Query.{Query};
 ghost use Rattle.sqlite.specs.State.{HasCleanDisk};
 ghost use Rattle.sql_checks.specs.Tally.{tally_of};
+ghost use Rattle.sql_reads.specs.Answering.{IsRead};
+ghost use Rattle.sql_reads.specs.Counts.{Counts};
 ghost use Rattle.sql_state.specs.Reading.{Finds};
-ghost use Rattle.sql_tables.specs.Stored.{tables_of};
-ghost use Rattle.sql_checks.specs.Refused.{AreUncounted, IsCausedBy, IsUncounted, IsUnsaid, SaysCallers, SaysCount, SaysLast, SaysZones, of_callers, of_holds, of_last, of_sysmods, of_zones};
+ghost use Rattle.sql_tables.specs.Stored.{Stored, tables_of};
+ghost use Rattle.sql_checks.specs.Refused.{AreUncounted, IsAskedBy, IsCausedBy, IsUncounted, IsUnsaid, SaysCallers, SaysCount, SaysLast, SaysZones, of_callers, of_count, of_last, of_zones};
 
 use crate::{CallerTally, said};
 use bureau_store::CallerRow;
@@ -58,38 +61,27 @@ pub(crate) fn counts<S: Alter>(conn: &mut Connection<S>) -> Result<(u64, u64), R
     ensures cause { IfErr result (λ fault. fault ≡ ReadFault.Device → HasCleanDisk (state S.Store conn.new)
         → IsCausedBy AreUncounted (state S.Store conn.old) (state S.Store conn.new)) }
 {
-    match sysmod_count(conn) {
-        Ok(sysmods) => match hold_count(conn) {
-            Ok(holds) => Ok((sysmods, holds)),
-            Err(fault) => Err(fault),
-        },
+    let sysmods = count(conn, read::sysmod_count())?;
+    match count(conn, read::hold_count()) {
+        Ok(holds) => Ok((sysmods, holds)),
         Err(fault) => Err(fault),
     }
 }
 
-fn sysmod_count<S: Alter>(conn: &mut Connection<S>) -> Result<u64, ReadFault>
+// The count that a text tells.
+fn count<S: Alter>(conn: &mut Connection<S>, text: &str) -> Result<u64, ReadFault>
     requires rest { conn.old.in_transaction ≡ false }
+    requires read { IsRead text.now }
     ensures mode { conn.new.in_transaction ≡ false }
-    ensures finds { Finds (state S.Store conn.old) (state S.Store conn.new) result
-        (λ stored count. count ≡ length (tables_of stored).content.sysmods) }
-    ensures cause { IfErr result (λ fault. fault ≡ ReadFault.Device → HasCleanDisk (state S.Store conn.new)
-        → IsCausedBy (IsUnsaid of_sysmods SaysCount) (state S.Store conn.old) (state S.Store conn.new)) }
+    ensures finds { (query : Query) (many : Stored → ℕ) → IsAskedBy (of_count query) text.now
+        → Counts query [] many → Finds (state S.Store conn.old) (state S.Store conn.new) result
+        (λ stored count. count ≡ many stored) }
+    ensures cause { (query : Query) → IsAskedBy (of_count query) text.now
+        → IfErr result (λ fault. fault ≡ ReadFault.Device → HasCleanDisk (state S.Store conn.new)
+        → IsCausedBy (IsUnsaid (of_count query) SaysCount)
+        (state S.Store conn.old) (state S.Store conn.new)) }
 {
-    match rows_of(conn, read::sysmod_count(), &[]) {
-        Ok(rows) => said::count(rows.as_slice()),
-        Err(fault) => Err(fault),
-    }
-}
-
-fn hold_count<S: Alter>(conn: &mut Connection<S>) -> Result<u64, ReadFault>
-    requires rest { conn.old.in_transaction ≡ false }
-    ensures mode { conn.new.in_transaction ≡ false }
-    ensures finds { Finds (state S.Store conn.old) (state S.Store conn.new) result
-        (λ stored count. count ≡ length (tables_of stored).content.holds) }
-    ensures cause { IfErr result (λ fault. fault ≡ ReadFault.Device → HasCleanDisk (state S.Store conn.new)
-        → IsCausedBy (IsUnsaid of_holds SaysCount) (state S.Store conn.old) (state S.Store conn.new)) }
-{
-    match rows_of(conn, read::hold_count(), &[]) {
+    match rows_of(conn, text, &[]) {
         Ok(rows) => said::count(rows.as_slice()),
         Err(fault) => Err(fault),
     }

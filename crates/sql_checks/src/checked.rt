@@ -1,11 +1,9 @@
 //! A table of a store with all that a check knows of it.
 ghost use Rattle.std.specs.Prelude.{◌≡◌, ◌↔◌, IfOk, IsTrue};
-ghost use Rattle.sqlite.specs.Tree.{Trees};
 ghost use Rattle.sqlite_value.specs.Order.{Row as Values};
 ghost use Rattle.sql_checks.specs.Known.{Known};
 ghost use Rattle.sql_checks.specs.Shapes.{table_of_shape};
 ghost use Rattle.sql_reads.specs.Columns.{indices_of};
-ghost use Rattle.sql_tables.specs.InTrees.{columns_of, stored_in};
 ghost use Rattle.sql_texts.specs.Found.{shown as show};
 
 use crate::shapes::TableShape;
@@ -16,25 +14,19 @@ use std::alloc::Global;
 
 /// A table of a store, apart from that of the version.
 pub(crate) trait Checked: AllColumns {
-    /// How the database makes it, its rows, and what each of them keeps to.
-    ghost known: { Known };
+    /// What each of its rows keeps to.
+    ghost keeps_to: { Values → Type 0 };
 
     /// How the bureau makes it.
     fn shape() -> TableShape
-        ensures { table_of_shape result ≡ known.table };
+        ensures { table_of_shape result ≡ Self.table };
 
     /// Whether a row is one that the bureau writes and that a read takes.
     fn keeps(alloc: Global, row: &Row) -> Result<bool, NoMemory>
-        ensures { IfOk result (λ keeps. IsTrue keeps ↔ known.Keeps row.now) };
+        ensures { IfOk result (λ keeps. IsTrue keeps ↔ keeps_to row.now) };
 
     /// A row keeps to the table just where its columns do, as the text shows them.
-    ghost as_shown: { (row : Values) → known.Keeps (show (indices_of known.table) row) ↔ known.Keeps row };
-
-    /// The table is that of which the text shows all columns.
-    ghost own: { Self.table ≡ known.table };
-
-    /// Its rows are those of its tree.
-    ghost here: { (trees : Trees) → columns_of (trees known.table.tree) ≡ known.rows (stored_in trees) };
+    ghost as_shown: { (row : Values) → keeps_to (show (indices_of Self.table) row) ↔ keeps_to row };
 }
 
 /// One of the tables of a store.

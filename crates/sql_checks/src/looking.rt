@@ -2,6 +2,7 @@
 ghost use Rattle.std.specs.Prelude.{◌≡◌, ◌↔◌, false, IfErr, IfOk, IsTrue};
 ghost use Rattle.std.specs.List.{AllByRecursion};
 ghost use Rattle.sqlite.specs.Held.{state};
+ghost use Rattle.sql_checks.specs.Known.{known_by};
 ghost use Rattle.sql_checks.specs.Looked.{IsLooked};
 
 use crate::checked::Checked;
@@ -20,7 +21,8 @@ pub(crate) fn rows_keep<T: Checked, S: Alter>(
 ) -> Result<bool, ReadFault>
     requires rest { conn.old.in_transaction ≡ false }
     ensures mode { conn.new.in_transaction ≡ false }
-    ensures looked { IsLooked T.known (state S.Store conn.old) (state S.Store conn.new) result }
+    ensures looked { IsLooked (known_by T.table T.rows T.keeps_to)
+        (state S.Store conn.old) (state S.Store conn.new) result }
 {
     match rows_of(conn, T::all_columns(), &[]) {
         Ok(rows) => all_keep::<T>(alloc, rows.as_slice()),
@@ -30,7 +32,7 @@ pub(crate) fn rows_keep<T: Checked, S: Alter>(
 
 // Whether all of these rows are such.
 fn all_keep<T: Checked>(alloc: Global, rows: &[Row]) -> Result<bool, ReadFault>
-    ensures keep { IfOk result (λ keep. IsTrue keep ↔ AllByRecursion T.known.Keeps rows.now) }
+    ensures keep { IfOk result (λ keep. IsTrue keep ↔ AllByRecursion T.keeps_to rows.now) }
     ensures memory { IfErr result (λ fault. fault ≡ ReadFault.Memory) }
 {
     for row in rows {

@@ -18,7 +18,9 @@ use crate::checked::{Checked, Listed};
 use crate::looking::rows_keep;
 use crate::shapes::{IndexShape, TableShape};
 use sql_reads::ReadFault;
-use sql_rows::{Callers, Conds, Heads, Holds, LastChanges, Received, Sups, Sysmods, ZoneRows};
+use sql_rows::{
+    Callers, Conds, Heads, Holds, LastChanges, Received, Sups, Sysmods, Table, ZoneRows,
+};
 use sqlite::{Alter, Connection};
 use std::alloc::Global;
 
@@ -59,18 +61,22 @@ const TABLES: [StoreTable; 9] = [
 ];
 
 impl Listed for StoreTable {
+    ghost use Rattle.sql_checks.specs.Known.{known_by};
     ghost use Rattle.sql_checks.specs.declared.table.StoreTable.TheVariants.{Caller, LastChange, Sysmod, SysmodSup, SysmodCond, HoldRow, ZoneHead, ZoneRow, ReceivedList};
 
     ghost known = { elim [
-      | Caller ↦ ⟦<Callers as Checked>⟧.known
-      | LastChange ↦ ⟦<LastChanges as Checked>⟧.known
-      | Sysmod ↦ ⟦<Sysmods as Checked>⟧.known
-      | SysmodSup ↦ ⟦<Sups as Checked>⟧.known
-      | SysmodCond ↦ ⟦<Conds as Checked>⟧.known
-      | HoldRow ↦ ⟦<Holds as Checked>⟧.known
-      | ZoneHead ↦ ⟦<Heads as Checked>⟧.known
-      | ZoneRow ↦ ⟦<ZoneRows as Checked>⟧.known
-      | ReceivedList ↦ ⟦<Received as Checked>⟧.known
+      | Caller ↦ known_by ⟦<Callers as Table>⟧.table ⟦<Callers as Table>⟧.rows ⟦<Callers as Checked>⟧.keeps_to
+      | LastChange ↦ known_by ⟦<LastChanges as Table>⟧.table ⟦<LastChanges as Table>⟧.rows
+          ⟦<LastChanges as Checked>⟧.keeps_to
+      | Sysmod ↦ known_by ⟦<Sysmods as Table>⟧.table ⟦<Sysmods as Table>⟧.rows ⟦<Sysmods as Checked>⟧.keeps_to
+      | SysmodSup ↦ known_by ⟦<Sups as Table>⟧.table ⟦<Sups as Table>⟧.rows ⟦<Sups as Checked>⟧.keeps_to
+      | SysmodCond ↦ known_by ⟦<Conds as Table>⟧.table ⟦<Conds as Table>⟧.rows ⟦<Conds as Checked>⟧.keeps_to
+      | HoldRow ↦ known_by ⟦<Holds as Table>⟧.table ⟦<Holds as Table>⟧.rows ⟦<Holds as Checked>⟧.keeps_to
+      | ZoneHead ↦ known_by ⟦<Heads as Table>⟧.table ⟦<Heads as Table>⟧.rows ⟦<Heads as Checked>⟧.keeps_to
+      | ZoneRow ↦ known_by ⟦<ZoneRows as Table>⟧.table ⟦<ZoneRows as Table>⟧.rows
+          ⟦<ZoneRows as Checked>⟧.keeps_to
+      | ReceivedList ↦ known_by ⟦<Received as Table>⟧.table ⟦<Received as Table>⟧.rows
+          ⟦<Received as Checked>⟧.keeps_to
     ] };
 }
 

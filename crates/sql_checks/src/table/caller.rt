@@ -10,16 +10,11 @@ use sqlite_schema::schema::Kind;
 use std::alloc::Global;
 
 impl Checked for Callers {
-    ghost use Rattle.std.specs.Prelude.{IsTrue, refl};
+    ghost use Rattle.std.specs.Prelude.{IsTrue};
     ghost use Rattle.sqlite_value.specs.Order.{column};
     ghost use Rattle.sql_checks.specs.Known.{IsIdColumn, is_any_text};
-    ghost use Rattle.sql_texts.specs.Schema as made;
 
-    ghost known = { record {
-      table = made.caller;
-      rows = λ stored. stored.callers;
-      Keeps = λ row. IsIdColumn row 0 × IsTrue (is_any_text (column row 1));
-    } };
+    ghost keeps_to = { λ row. IsIdColumn row 0 × IsTrue (is_any_text (column row 1)) };
 
     fn shape() -> TableShape {
         TableShape {
@@ -38,8 +33,4 @@ impl Checked for Callers {
     }
 
     ghost as_shown = { λ row. (λ keeps. keeps, λ keeps. keeps) };
-
-    ghost own = { refl };
-
-    ghost here = { λ trees. refl };
 }

@@ -9,15 +9,10 @@ use sqlite_schema::schema::Kind;
 use std::alloc::Global;
 
 impl Checked for Holds {
-    ghost use Rattle.std.specs.Prelude.{IsSome, refl};
+    ghost use Rattle.std.specs.Prelude.{IsSome};
     ghost use Rattle.sql_tables.specs.Rows.{hold_found};
-    ghost use Rattle.sql_texts.specs.Schema as made;
 
-    ghost known = { record {
-      table = made.hold_row;
-      rows = λ stored. stored.holds;
-      Keeps = λ row. IsSome (hold_found row);
-    } };
+    ghost keeps_to = { λ row. IsSome (hold_found row) };
 
     fn shape() -> TableShape {
         TableShape {
@@ -45,8 +40,4 @@ impl Checked for Holds {
     }
 
     ghost as_shown = { λ row. (λ keeps. keeps, λ keeps. keeps) };
-
-    ghost own = { refl };
-
-    ghost here = { λ trees. refl };
 }

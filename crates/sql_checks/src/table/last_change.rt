@@ -11,17 +11,12 @@ use sqlite_sql::ops::CompareOp;
 use std::alloc::Global;
 
 impl Checked for LastChanges {
-    ghost use Rattle.std.specs.Prelude.{IsSome, refl};
+    ghost use Rattle.std.specs.Prelude.{IsSome};
     ghost use Rattle.sqlite_value.specs.Order.{column};
     ghost use Rattle.sql_checks.specs.Known.{IsIdColumn};
     ghost use Rattle.sql_tables.specs.Values.{bytes_in, number_in};
-    ghost use Rattle.sql_texts.specs.Schema as made;
 
-    ghost known = { record {
-      table = made.last_change;
-      rows = λ stored. stored.changes;
-      Keeps = λ row. IsIdColumn row 0 × IsSome (number_in (column row 1)) × IsSome (bytes_in (column row 2));
-    } };
+    ghost keeps_to = { λ row. IsIdColumn row 0 × IsSome (number_in (column row 1)) × IsSome (bytes_in (column row 2)) };
 
     fn shape() -> TableShape {
         TableShape {
@@ -44,8 +39,4 @@ impl Checked for LastChanges {
     }
 
     ghost as_shown = { λ row. (λ keeps. keeps, λ keeps. keeps) };
-
-    ghost own = { refl };
-
-    ghost here = { λ trees. refl };
 }

@@ -10,15 +10,9 @@ use sqlite_schema::schema::Kind;
 use std::alloc::Global;
 
 impl Checked for Received {
-    ghost use Rattle.std.specs.Prelude.{refl};
     ghost use Rattle.sql_checks.specs.Known.{AreIdsColumn, IsIdColumn};
-    ghost use Rattle.sql_texts.specs.Schema as made;
 
-    ghost known = { record {
-      table = made.received_list;
-      rows = λ stored. stored.received;
-      Keeps = λ row. IsIdColumn row 0 × AreIdsColumn row 1;
-    } };
+    ghost keeps_to = { λ row. IsIdColumn row 0 × AreIdsColumn row 1 };
 
     fn shape() -> TableShape {
         TableShape {
@@ -38,8 +32,4 @@ impl Checked for Received {
     }
 
     ghost as_shown = { λ row. (λ keeps. keeps, λ keeps. keeps) };
-
-    ghost own = { refl };
-
-    ghost here = { λ trees. refl };
 }

@@ -10,18 +10,13 @@ use sqlite_schema::schema::Kind;
 use std::alloc::Global;
 
 impl Checked for Sysmods {
-    ghost use Rattle.std.specs.Prelude.{IsSome, refl};
+    ghost use Rattle.std.specs.Prelude.{IsSome};
     ghost use Rattle.sqlite_value.specs.Order.{column};
     ghost use Rattle.sql_checks.specs.Known.{AreIdsColumn, IsIdColumn};
     ghost use Rattle.sql_tables.specs.Values.{sysmod_kind_in};
-    ghost use Rattle.sql_texts.specs.Schema as made;
 
-    ghost known = { record {
-      table = made.sysmod;
-      rows = λ stored. stored.sysmods;
-      Keeps = λ row. IsIdColumn row 0 × IsSome (sysmod_kind_in (column row 1))
-          × AreIdsColumn row 2 × AreIdsColumn row 3 × AreIdsColumn row 4;
-    } };
+    ghost keeps_to = { λ row. IsIdColumn row 0 × IsSome (sysmod_kind_in (column row 1))
+        × AreIdsColumn row 2 × AreIdsColumn row 3 × AreIdsColumn row 4 };
 
     fn shape() -> TableShape {
         TableShape {
@@ -50,8 +45,4 @@ impl Checked for Sysmods {
     }
 
     ghost as_shown = { λ row. (λ keeps. keeps, λ keeps. keeps) };
-
-    ghost own = { refl };
-
-    ghost here = { λ trees. refl };
 }

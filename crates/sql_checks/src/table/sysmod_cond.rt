@@ -10,15 +10,9 @@ use sqlite_schema::schema::Kind;
 use std::alloc::Global;
 
 impl Checked for Conds {
-    ghost use Rattle.std.specs.Prelude.{refl};
     ghost use Rattle.sql_checks.specs.Known.{IsIdColumn};
-    ghost use Rattle.sql_texts.specs.Schema as made;
 
-    ghost known = { record {
-      table = made.sysmod_cond;
-      rows = λ stored. stored.conds;
-      Keeps = λ row. IsIdColumn row 0 × IsIdColumn row 1 × IsIdColumn row 2;
-    } };
+    ghost keeps_to = { λ row. IsIdColumn row 0 × IsIdColumn row 1 × IsIdColumn row 2 };
 
     fn shape() -> TableShape {
         TableShape {
@@ -41,8 +35,4 @@ impl Checked for Conds {
     }
 
     ghost as_shown = { λ row. (λ keeps. keeps, λ keeps. keeps) };
-
-    ghost own = { refl };
-
-    ghost here = { λ trees. refl };
 }

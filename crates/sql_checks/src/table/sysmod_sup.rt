@@ -10,15 +10,9 @@ use sqlite_schema::schema::Kind;
 use std::alloc::Global;
 
 impl Checked for Sups {
-    ghost use Rattle.std.specs.Prelude.{refl};
     ghost use Rattle.sql_checks.specs.Known.{IsIdColumn};
-    ghost use Rattle.sql_texts.specs.Schema as made;
 
-    ghost known = { record {
-      table = made.sysmod_sup;
-      rows = λ stored. stored.sups;
-      Keeps = λ row. IsIdColumn row 0 × IsIdColumn row 1;
-    } };
+    ghost keeps_to = { λ row. IsIdColumn row 0 × IsIdColumn row 1 };
 
     fn shape() -> TableShape {
         TableShape {
@@ -37,8 +31,4 @@ impl Checked for Sups {
     }
 
     ghost as_shown = { λ row. (λ keeps. keeps, λ keeps. keeps) };
-
-    ghost own = { refl };
-
-    ghost here = { λ trees. refl };
 }

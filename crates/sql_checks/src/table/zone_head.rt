@@ -10,15 +10,9 @@ use sqlite_schema::schema::Kind;
 use std::alloc::Global;
 
 impl Checked for Heads {
-    ghost use Rattle.std.specs.Prelude.{refl};
     ghost use Rattle.sql_checks.specs.Known.{ArePatternsColumn, IsIdColumn};
-    ghost use Rattle.sql_texts.specs.Schema as made;
 
-    ghost known = { record {
-      table = made.zone_head;
-      rows = λ stored. stored.heads;
-      Keeps = λ row. IsIdColumn row 0 × IsIdColumn row 1 × ArePatternsColumn row 2;
-    } };
+    ghost keeps_to = { λ row. IsIdColumn row 0 × IsIdColumn row 1 × ArePatternsColumn row 2 };
 
     fn shape() -> TableShape {
         TableShape {
@@ -42,8 +36,4 @@ impl Checked for Heads {
     }
 
     ghost as_shown = { λ row. (λ keeps. keeps, λ keeps. keeps) };
-
-    ghost own = { refl };
-
-    ghost here = { λ trees. refl };
 }

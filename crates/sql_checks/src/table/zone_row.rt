@@ -10,17 +10,12 @@ use sqlite_schema::schema::Kind;
 use std::alloc::Global;
 
 impl Checked for ZoneRows {
-    ghost use Rattle.std.specs.Prelude.{IsSome, refl};
+    ghost use Rattle.std.specs.Prelude.{IsSome};
     ghost use Rattle.sqlite_value.specs.Order.{column};
     ghost use Rattle.sql_checks.specs.Known.{IsIdColumn};
     ghost use Rattle.sql_tables.specs.Values.{state_in};
-    ghost use Rattle.sql_texts.specs.Schema as made;
 
-    ghost known = { record {
-      table = made.zone_row;
-      rows = λ stored. stored.rows;
-      Keeps = λ row. IsIdColumn row 0 × IsIdColumn row 1 × IsIdColumn row 2 × IsSome (state_in (column row 3));
-    } };
+    ghost keeps_to = { λ row. IsIdColumn row 0 × IsIdColumn row 1 × IsIdColumn row 2 × IsSome (state_in (column row 3)) };
 
     fn shape() -> TableShape {
         TableShape {
@@ -45,8 +40,4 @@ impl Checked for ZoneRows {
     }
 
     ghost as_shown = { λ row. (λ keeps. keeps, λ keeps. keeps) };
-
-    ghost own = { refl };
-
-    ghost here = { λ trees. refl };
 }
