@@ -3,8 +3,9 @@ use Rattle.std.proofs.Common.{◌≡◌, inl, inr, ℕ, true, false, List, refl,
 use Rattle.std.specs.Prelude.{Option, Some, None, Result, Ok, Err, is_some}
 use Rattle.catalogue.proofs.SourceFacts.{told_later, told_so, told_sooner}
 use Rattle.catalogue.specs.View.{IsLawful, Tells, View}
-use Rattle.bureau_store.specs.Tables.{Tables, ZoneTable}
+use Rattle.bureau_store.specs.Tables.{Tables, ZoneTable, zone_named}
 use Rattle.bureau_store.specs.declared.caller.Caller.{Caller}
+use Rattle.bureau_store.specs.declared.caller.Caller.TheVariants.{Client}
 use Rattle.faults.specs.FaultText.{text_of}
 use Rattle.faults.specs.Refusal.{IsRefusal}
 use Rattle.faults.specs.declared.any.AnyFault.{AnyFault}
@@ -15,7 +16,7 @@ use Rattle.zone_lists.specs.declared.fault.ListFault.{ListFault}
 use Rattle.zone_lists.specs.declared.fault.ListFault.TheVariants as list
 use Rattle.bureau.specs.Bodies.{list_said}
 use Rattle.bureau.specs.Call.{Call}
-use Rattle.bureau.specs.Outcomes.{Suits, IsOutcome, IsInTurn, effect_as, maker_of}
+use Rattle.bureau.specs.Outcomes.{Suits, IsOutcome, IsInTurn, IsInTurnAt, effect_as, maker_of}
 use Rattle.bureau.specs.Faults.{IsTold}
 use Rattle.bureau.specs.Outcome.{Outcome, answered, accepted, in_turn, not_found, of_zone, outcome, plain, said}
 use Rattle.bureau.specs.Replies.{reply_as}
@@ -79,6 +80,47 @@ module _ {Source : Type 0} {view : View Source Tables} where
   accepted_after law caller call number order change decided comes first second tells is maker found so =
       let later = law.keeps _ _ second in
       accepted_in_turn caller call number order change decided comes (told_sooner tells later) is maker (told_so (told_later (law.keeps _ _ first) later found) so)
+
+  -- ---- a change to a zone that is to be there
+
+  -- out of turn, or where the zone isn't there, it is answered by that alone
+  pub out_of_turn_at : {a b : Source} (client zone : List ℕ) (call : Call) (number : Option ℕ) (order : Result ℕ Reply) (reply : Reply) (decided : ZoneTable → Outcome)
+      → ((this : Tables) → outcome (view_of (Client client) this) call ≡ in_turn (this.last (Client client)) number (of_zone (zone_named zone (this.zones client)) decided))
+      → Tells view a b (λ this. IsInTurnAt (this.last (Client client)) (zone_named zone (this.zones client)) number order) → order ≡ Err reply
+      → Tells view a b (λ this. IsOutcome (Client client) call this (Answered reply))
+  out_of_turn_at client zone call number order reply decided comes tells is =
+      told_so tells (λ this at.
+      let found = zone_named zone (this.zones client) in
+      let late : IsInTurnAt (this.last (Client client)) found number (Err reply) = subst (IsInTurnAt (this.last (Client client)) found number) is at in
+      (sym (comes this ∙ late decided), tt))
+
+  -- in turn, where the zone is there
+  timely_at : {a b : Source} (client zone : List ℕ) (number : Option ℕ) (order : Result ℕ Reply) (next : ℕ)
+      → Tells view a b (λ this. IsInTurnAt (this.last (Client client)) (zone_named zone (this.zones client)) number order) → order ≡ Ok next
+      → Tells view a b (λ this. IsInTurn (this.last (Client client)) number (Ok next) × (is_some (zone_named zone (this.zones client)) ≡ true))
+  timely_at client zone number order next tells is =
+      told_so tells (λ this at. subst (IsInTurnAt (this.last (Client client)) (zone_named zone (this.zones client)) number) is at)
+
+  pub answered_at : {a b : Source} (client zone : List ℕ) (call : Call) (number : Option ℕ) (order : Result ℕ Reply) (next : ℕ) (reply : Reply) (decided : ZoneTable → Outcome)
+      → ((this : Tables) → outcome (view_of (Client client) this) call ≡ in_turn (this.last (Client client)) number (of_zone (zone_named zone (this.zones client)) decided))
+      → Tells view a b (λ this. IsInTurnAt (this.last (Client client)) (zone_named zone (this.zones client)) number order) → order ≡ Ok next
+      → ((this : Tables) → is_some (zone_named zone (this.zones client)) ≡ true → of_zone (zone_named zone (this.zones client)) decided ≡ answered (reply_as reply))
+      → Tells view a b (λ this. IsOutcome (Client client) call this (Answered reply))
+  answered_at client zone call number order next reply decided comes tells is so =
+      let timely = timely_at client zone number order next tells is in
+      answered_in_turn (Client client) call number (Ok next) next reply (λ this. of_zone (zone_named zone (this.zones client)) decided) comes
+      (told_so timely (λ this at. at.0)) refl (told_so timely (λ this at. so this at.1))
+
+  pub accepted_at : {a b : Source} (client zone : List ℕ) (call : Call) (number : Option ℕ) (order : Result ℕ Reply) (change : AcceptedChange) (decided : ZoneTable → Outcome)
+      → ((this : Tables) → outcome (view_of (Client client) this) call ≡ in_turn (this.last (Client client)) number (of_zone (zone_named zone (this.zones client)) decided))
+      → Tells view a b (λ this. IsInTurnAt (this.last (Client client)) (zone_named zone (this.zones client)) number order) → order ≡ Ok change.number
+      → maker_of change.effect ≡ Client client
+      → ((this : Tables) → is_some (zone_named zone (this.zones client)) ≡ true → (of_zone (zone_named zone (this.zones client)) decided ≡ accepted (effect_as change.effect) change.reply.items) × Suits change.effect this)
+      → Tells view a b (λ this. IsOutcome (Client client) call this (Accepted change))
+  accepted_at client zone call number order change decided comes tells is maker so =
+      let timely = timely_at client zone number order change.number tells is in
+      accepted_in_turn (Client client) call number (Ok change.number) change (λ this. of_zone (zone_named zone (this.zones client)) decided) comes
+      (told_so timely (λ this at. at.0)) refl maker (told_so timely (λ this at. so this at.1))
 
 -- what asks for a zone that isn't there
 pub zone_missing : (found : Option ZoneTable) (answer : ZoneTable → Outcome) → is_some found ≡ false → of_zone found answer ≡ answered not_found

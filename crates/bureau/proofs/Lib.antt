@@ -5,6 +5,7 @@ pub mod LeftFacts
 pub mod NamesFacts
 pub mod ProperFacts
 pub mod PublicationFacts
+pub mod SeenFacts
 pub mod ShownFacts
 pub mod ChangeFacts
 pub mod QuestionFacts

@@ -47,6 +47,12 @@ module _ (zones : Zones) (caller : Caller) where
   finds None answer h = refl
   finds (Some table) answer h = h table refl
 
+  tells : (found : Option ZoneTable) (text : ZoneTable → List ℕ) → IsProper zones caller (of_zone found (λ table. told (text table)))
+  tells found text = finds found (λ table. told (text table)) (λ table there. refl)
+
+  tells_json : (found : Option ZoneTable) (text : ZoneTable → List ℕ) → IsProper zones caller (of_zone found (λ table. answered (as_json (text table))))
+  tells_json found text = finds found (λ table. answered (as_json (text table))) (λ table there. refl)
+
 asked : (view : View) (caller : Caller) (call : Call) → IsProper view.zones caller (if may_ask caller call then outcome_allowed view call else answered forbidden)
 asked view Publisher (publish number body) =
     turned view.zones Publisher view.last number (said (changes_in body) (λ changes. accepted (publication changes) (publication_text changes)))
@@ -88,20 +94,15 @@ asked view (Client name) (put_patterns number zone body) =
     (λ patterns. ap (λ (o : Option ZoneTable). is_some o) found)))
 asked view (Client name) list_zones = refl
 asked view (Client name) list_zones_json = refl
-asked view (Client name) (err_sysmods zone) = finds view.zones (Client name) (zone_named zone view.zones) (λ table. told (err_report view.content zone table view.received)) (λ table found. refl)
-asked view (Client name) (err_sysmods_json zone) =
-    finds view.zones (Client name) (zone_named zone view.zones) (λ table. answered (as_json (err_json_text view.content zone table view.received))) (λ table found. refl)
-asked view (Client name) (missing_fix zone) = finds view.zones (Client name) (zone_named zone view.zones) (λ table. told (missing_report view.content zone table view.received)) (λ table found. refl)
-asked view (Client name) (missing_fix_json zone) =
-    finds view.zones (Client name) (zone_named zone view.zones) (λ table. answered (as_json (missing_json_text view.content zone table view.received))) (λ table found. refl)
-asked view (Client name) (err_plan zone) = finds view.zones (Client name) (zone_named zone view.zones) (λ table. told (err_plan_text view.content zone table view.received)) (λ table found. refl)
-asked view (Client name) (err_plan_json zone) =
-    finds view.zones (Client name) (zone_named zone view.zones) (λ table. answered (as_json (err_plan_json_text view.content zone table view.received))) (λ table found. refl)
-asked view (Client name) (missing_plan zone) = finds view.zones (Client name) (zone_named zone view.zones) (λ table. told (missing_plan_text view.content zone table view.received)) (λ table found. refl)
-asked view (Client name) (missing_plan_json zone) =
-    finds view.zones (Client name) (zone_named zone view.zones) (λ table. answered (as_json (missing_plan_json_text view.content zone table view.received))) (λ table found. refl)
-asked view (Client name) (chain zone sysmod) =
-    finds view.zones (Client name) (zone_named zone view.zones) (λ table. answered (record { status = 200; json = true; body = chain_text view.content zone table sysmod })) (λ table found. refl)
+asked view (Client name) (err_sysmods zone) = tells view.zones (Client name) (zone_named zone view.zones) (λ table. err_report view.content zone table view.received)
+asked view (Client name) (err_sysmods_json zone) = tells_json view.zones (Client name) (zone_named zone view.zones) (λ table. err_json_text view.content zone table view.received)
+asked view (Client name) (missing_fix zone) = tells view.zones (Client name) (zone_named zone view.zones) (λ table. missing_report view.content zone table view.received)
+asked view (Client name) (missing_fix_json zone) = tells_json view.zones (Client name) (zone_named zone view.zones) (λ table. missing_json_text view.content zone table view.received)
+asked view (Client name) (err_plan zone) = tells view.zones (Client name) (zone_named zone view.zones) (λ table. err_plan_text view.content zone table view.received)
+asked view (Client name) (err_plan_json zone) = tells_json view.zones (Client name) (zone_named zone view.zones) (λ table. err_plan_json_text view.content zone table view.received)
+asked view (Client name) (missing_plan zone) = tells view.zones (Client name) (zone_named zone view.zones) (λ table. missing_plan_text view.content zone table view.received)
+asked view (Client name) (missing_plan_json zone) = tells_json view.zones (Client name) (zone_named zone view.zones) (λ table. missing_plan_json_text view.content zone table view.received)
+asked view (Client name) (chain zone sysmod) = tells_json view.zones (Client name) (zone_named zone view.zones) (λ table. chain_text view.content zone table sysmod)
 asked view (Client name) counts = refl
 asked view (Client name) counts_json = refl
 

@@ -1,32 +1,28 @@
 -- The answers to questions, from what is read on the way.
-use Rattle.std.proofs.Common.{◌≡◌, ℕ, List, [], sym, ◌∙◌, ap}
+use Rattle.std.proofs.Common.{◌≡◌, ℕ, List, [], sym, ◌∙◌, ap, refl}
 use Rattle.std.specs.Prelude.{Option, Some, None, map}
 use Rattle.std.specs.Option.{option_map}
 use Rattle.std.proofs.lemmas.Simd.{map-map}
 use Rattle.holddata.specs.declared.hold.Hold.{Hold}
-use Rattle.holddata.specs.declared.key.Kind.TheVariants.{ErrorHold, FixcatHold}
 use Rattle.zone_lists.specs.declared.zones.ZoneRow.{ZoneRow}
 use Rattle.catalogue.specs.Content.{Content}
-use Rattle.catalogue.specs.View.{Keeps, Tells, View}
-use Rattle.catalogue.proofs.SourceFacts.{told_sooner, told_later, told_both}
 use Rattle.bureau_store.specs.Held.{held_in}
-use Rattle.bureau_store.specs.Tables.{Tables, ZoneTable, Zones, patterns_of, rows_of, zone_named}
+use Rattle.bureau_store.specs.Tables.{Tables, ZoneTable, Zones, rows_of, zone_named}
 use Rattle.bureau_store.specs.declared.caller.Caller.TheVariants.{Client}
 use Rattle.bureau.specs.Outcomes.{IsReplyTo, counted_as}
-use Rattle.bureau.specs.Outcome.{Answer, Outcome, answered, as_json, not_found, of_zone}
+use Rattle.bureau.specs.Outcome.{Answer, Outcome, answered, as_json, not_found, of_zone, outcome}
 use Rattle.bureau.specs.Replies.{reply_as}
 use Rattle.bureau.specs.Texts.{chain_text, chain_text_from, zone_fields, zones_text, zone_columns}
-use Rattle.bureau.specs.Wanted.{err_answer_from, err_call, missing_answer_from, missing_call}
+use Rattle.bureau.specs.View.{view_of}
+use Rattle.bureau.specs.Wanted.{answer_as, kind_of, patterns_for, report_call, text_from}
 use Rattle.bureau.specs.declared.reply.Reply.{Reply}
+use Rattle.bureau.specs.declared.wanted.Report.{Report}
+use Rattle.bureau.specs.declared.wanted.Report.TheVariants.{ErrSysmods, MissingFix}
 use Rattle.bureau.specs.declared.wanted.Wanted.{Wanted}
-use Rattle.bureau.specs.declared.wanted.Wanted.TheVariants.{Report, ReportJson, Plan, PlanJson}
+use Rattle.bureau.specs.declared.wanted.Wanted.TheVariants.{Rows, RowsJson, Plan, PlanJson}
 use Rattle.columns.specs.Columns.{text_of as text_in}
 
--- what one call tells, and then another, is told by both together
-module _ {Source Held : Type 0} {view : View Source Held} where
-  pub told_then : {a b c : Source} {Fact Other : Held → Type 0} → Keeps view a b → Keeps view b c
-      → Tells view a b Fact → Tells view b c Other → Tells view a c (λ this. Fact this × Other this)
-  told_then first second fact other = told_both (told_sooner fact second) (told_later first second other)
+-- ---- zones
 
 -- the list of zones in print
 pub zones_printed : (zones : Zones) (counted : List (List ℕ × ℕ)) → counted ≡ map counted_as zones → text_in zone_columns None (map zone_fields counted) ≡ zones_text zones
@@ -40,78 +36,65 @@ rows_in (Some rows) = rows
 pub with_rows : {V : Type 0} (items : V → List ZoneRow) (found : Option V) (rows : V) (told : Option (List ZoneRow)) → found ≡ Some rows → option_map items found ≡ told → Some (items rows) ≡ told
 with_rows items found rows told is told_is = sym (ap (option_map items) is) ∙ told_is
 
+-- what is told of rows that aren't found
+pub without_rows : {V : Type 0} (items : V → List ZoneRow) (found : Option V) (told : Option (List ZoneRow)) → ((rows : V) → found ≡ Some rows → ⊥) → option_map items found ≡ told → None ≡ told
+without_rows items None told never is = is
+without_rows items (Some rows) told never is = absurd (never rows refl)
+
 -- what asks for a zone that has no rows
 pub no_rows : (found : Option ZoneTable) (answer : ZoneTable → Outcome) (reply : Reply) → None ≡ option_map (λ (table : ZoneTable). table.rows) found → reply_as reply ≡ not_found
     → answered (reply_as reply) ≡ of_zone found answer
 no_rows None answer reply missing is = ap answered is
 no_rows (Some table) answer reply missing is = absurd (cc)
 
--- what is told of the exception SYSMODs, from its parts
-err_parts : (content : Content) (found : Option ZoneTable) (received known : List (List ℕ)) (rows installed : List ZoneRow) (holds : List Hold)
-    (answer : List ZoneRow → List (List ℕ) → List Hold → Answer) (reply : Reply)
-    → Some rows ≡ option_map (λ (table : ZoneTable). table.rows) found → received ≡ known → holds ≡ held_in content (rows_of found) ErrorHold → installed ≡ rows
-    → reply_as reply ≡ answer installed received holds
-    → answered (reply_as reply) ≡ of_zone found (λ table. answered (answer table.rows known (held_in content table.rows ErrorHold)))
-err_parts content None received known rows installed holds answer reply there has held same is = absurd (cc)
-err_parts content (Some table) received known rows installed holds answer reply there has held same is =
-    ap answered (is ∙ ap (λ rows. answer rows received holds) (same ∙ ap rows_in there)
-    ∙ ap (λ ids. answer table.rows ids holds) has ∙ ap (answer table.rows known) held)
+-- ---- what is wanted of a report
 
-pub err_told : (wanted : Wanted) (client zone : List ℕ) (this : Tables) (received : List (List ℕ)) (rows installed : List ZoneRow) (holds : List Hold) (reply : Reply)
-    → Some rows ≡ option_map (λ (table : ZoneTable). table.rows) (zone_named zone (this.zones client)) → received ≡ this.received client
-    → holds ≡ held_in this.content (rows_of (zone_named zone (this.zones client))) ErrorHold → installed ≡ rows
-    → reply_as reply ≡ err_answer_from wanted this.content zone installed received holds
-    → IsReplyTo (Client client) (err_call wanted zone) this reply
-err_told Report client zone this received rows installed holds reply there has held same is =
-    err_parts this.content (zone_named zone (this.zones client)) received (this.received client) rows installed holds (err_answer_from Report this.content zone) reply there has held same is
-err_told ReportJson client zone this received rows installed holds reply there has held same is =
-    err_parts this.content (zone_named zone (this.zones client)) received (this.received client) rows installed holds (err_answer_from ReportJson this.content zone) reply there has held same is
-err_told Plan client zone this received rows installed holds reply there has held same is =
-    err_parts this.content (zone_named zone (this.zones client)) received (this.received client) rows installed holds (err_answer_from Plan this.content zone) reply there has held same is
-err_told PlanJson client zone this received rows installed holds reply there has held same is =
-    err_parts this.content (zone_named zone (this.zones client)) received (this.received client) rows installed holds (err_answer_from PlanJson this.content zone) reply there has held same is
+-- what is answered of a zone that is there
+abbrev answer_on : Report → Wanted → Tables → List ℕ → List ℕ → ZoneTable → Outcome
+answer_on report wanted this client zone table =
+    answered (answer_as wanted (text_from report wanted this.content zone table.rows (this.received client) (patterns_for report (Some table)) (held_in this.content table.rows (kind_of report))))
 
-pub err_not_found : (wanted : Wanted) (client zone : List ℕ) (this : Tables) (reply : Reply)
-    → None ≡ option_map (λ (table : ZoneTable). table.rows) (zone_named zone (this.zones client)) → reply_as reply ≡ not_found
-    → IsReplyTo (Client client) (err_call wanted zone) this reply
-err_not_found Report client zone this reply missing is = no_rows (zone_named zone (this.zones client)) _ reply missing is
-err_not_found ReportJson client zone this reply missing is = no_rows (zone_named zone (this.zones client)) _ reply missing is
-err_not_found Plan client zone this reply missing is = no_rows (zone_named zone (this.zones client)) _ reply missing is
-err_not_found PlanJson client zone this reply missing is = no_rows (zone_named zone (this.zones client)) _ reply missing is
+-- it is what comes of the call
+answer_is : (report : Report) (wanted : Wanted) (client zone : List ℕ) (this : Tables)
+    → of_zone (zone_named zone (this.zones client)) (answer_on report wanted this client zone) ≡ outcome (view_of (Client client) this) (report_call report wanted zone)
+answer_is ErrSysmods Rows client zone this = refl
+answer_is ErrSysmods RowsJson client zone this = refl
+answer_is ErrSysmods Plan client zone this = refl
+answer_is ErrSysmods PlanJson client zone this = refl
+answer_is MissingFix Rows client zone this = refl
+answer_is MissingFix RowsJson client zone this = refl
+answer_is MissingFix Plan client zone this = refl
+answer_is MissingFix PlanJson client zone this = refl
 
--- what is told of the missing fixes, from its parts
-missing_parts : (content : Content) (found : Option ZoneTable) (received known patterns : List (List ℕ)) (rows installed : List ZoneRow) (holds : List Hold)
+-- an answer, from its parts
+report_parts : (report : Report) (content : Content) (found : Option ZoneTable) (received known patterns : List (List ℕ)) (rows installed : List ZoneRow) (holds : List Hold)
     (answer : List ZoneRow → List (List ℕ) → List (List ℕ) → List Hold → Answer) (reply : Reply)
-    → Some rows ≡ option_map (λ (table : ZoneTable). table.rows) found → received ≡ known → patterns ≡ patterns_of found
-    → holds ≡ held_in content (rows_of found) FixcatHold → installed ≡ rows → reply_as reply ≡ answer installed received patterns holds
-    → answered (reply_as reply) ≡ of_zone found (λ table. answered (answer table.rows known table.patterns (held_in content table.rows FixcatHold)))
-missing_parts content None received known patterns rows installed holds answer reply there has asked held same is = absurd (cc)
-missing_parts content (Some table) received known patterns rows installed holds answer reply there has asked held same is =
+    → Some rows ≡ option_map (λ (table : ZoneTable). table.rows) found → received ≡ known → patterns ≡ patterns_for report found
+    → holds ≡ held_in content (rows_of found) (kind_of report) → installed ≡ rows → reply_as reply ≡ answer installed received patterns holds
+    → answered (reply_as reply) ≡ of_zone found (λ table. answered (answer table.rows known (patterns_for report (Some table)) (held_in content table.rows (kind_of report))))
+report_parts report content None received known patterns rows installed holds answer reply there has asked held same is = absurd (cc)
+report_parts report content (Some table) received known patterns rows installed holds answer reply there has asked held same is =
     ap answered (is ∙ ap (λ rows. answer rows received patterns holds) (same ∙ ap rows_in there)
     ∙ ap (λ ids. answer table.rows ids patterns holds) has
-    ∙ ap (λ asked. answer table.rows known asked holds) asked ∙ ap (answer table.rows known table.patterns) held)
+    ∙ ap (λ asked. answer table.rows known asked holds) asked ∙ ap (answer table.rows known (patterns_for report (Some table))) held)
 
-pub missing_told : (wanted : Wanted) (client zone : List ℕ) (this : Tables) (received patterns : List (List ℕ)) (rows installed : List ZoneRow) (holds : List Hold) (reply : Reply)
+pub report_told : (report : Report) (wanted : Wanted) (client zone : List ℕ) (this : Tables) (received patterns : List (List ℕ)) (rows installed : List ZoneRow) (holds : List Hold) (reply : Reply)
     → Some rows ≡ option_map (λ (table : ZoneTable). table.rows) (zone_named zone (this.zones client)) → received ≡ this.received client
-    → patterns ≡ patterns_of (zone_named zone (this.zones client)) → holds ≡ held_in this.content (rows_of (zone_named zone (this.zones client))) FixcatHold → installed ≡ rows
-    → reply_as reply ≡ missing_answer_from wanted this.content zone installed received patterns holds
-    → IsReplyTo (Client client) (missing_call wanted zone) this reply
-missing_told Report client zone this received patterns rows installed holds reply there has asked held same is =
-    missing_parts this.content (zone_named zone (this.zones client)) received (this.received client) patterns rows installed holds (missing_answer_from Report this.content zone) reply there has asked held same is
-missing_told ReportJson client zone this received patterns rows installed holds reply there has asked held same is =
-    missing_parts this.content (zone_named zone (this.zones client)) received (this.received client) patterns rows installed holds (missing_answer_from ReportJson this.content zone) reply there has asked held same is
-missing_told Plan client zone this received patterns rows installed holds reply there has asked held same is =
-    missing_parts this.content (zone_named zone (this.zones client)) received (this.received client) patterns rows installed holds (missing_answer_from Plan this.content zone) reply there has asked held same is
-missing_told PlanJson client zone this received patterns rows installed holds reply there has asked held same is =
-    missing_parts this.content (zone_named zone (this.zones client)) received (this.received client) patterns rows installed holds (missing_answer_from PlanJson this.content zone) reply there has asked held same is
+    → patterns ≡ patterns_for report (zone_named zone (this.zones client)) → holds ≡ held_in this.content (rows_of (zone_named zone (this.zones client))) (kind_of report) → installed ≡ rows
+    → reply_as reply ≡ answer_as wanted (text_from report wanted this.content zone installed received patterns holds)
+    → IsReplyTo (Client client) (report_call report wanted zone) this reply
+report_told report wanted client zone this received patterns rows installed holds reply there has asked held same is =
+    report_parts report this.content (zone_named zone (this.zones client)) received (this.received client) patterns rows installed holds
+    (λ rows ids patterns holds. answer_as wanted (text_from report wanted this.content zone rows ids patterns holds)) reply there has asked held same is
+    ∙ answer_is report wanted client zone this
 
-pub missing_not_found : (wanted : Wanted) (client zone : List ℕ) (this : Tables) (reply : Reply)
+pub report_absent : (report : Report) (wanted : Wanted) (client zone : List ℕ) (this : Tables) (reply : Reply)
     → None ≡ option_map (λ (table : ZoneTable). table.rows) (zone_named zone (this.zones client)) → reply_as reply ≡ not_found
-    → IsReplyTo (Client client) (missing_call wanted zone) this reply
-missing_not_found Report client zone this reply missing is = no_rows (zone_named zone (this.zones client)) _ reply missing is
-missing_not_found ReportJson client zone this reply missing is = no_rows (zone_named zone (this.zones client)) _ reply missing is
-missing_not_found Plan client zone this reply missing is = no_rows (zone_named zone (this.zones client)) _ reply missing is
-missing_not_found PlanJson client zone this reply missing is = no_rows (zone_named zone (this.zones client)) _ reply missing is
+    → IsReplyTo (Client client) (report_call report wanted zone) this reply
+report_absent report wanted client zone this reply missing is =
+    no_rows (zone_named zone (this.zones client)) (answer_on report wanted this client zone) reply missing is ∙ answer_is report wanted client zone this
+
+-- ---- verdicts
 
 -- the verdict, from its parts
 pub chain_told : (content : Content) (zone sysmod : List ℕ) (found : Option ZoneTable) (rows installed : List ZoneRow) (reply : Reply)

@@ -1,12 +1,14 @@
 -- The rows of both reports on a zone have their holds.
-use Rattle.std.proofs.Common.{◌≡◌, ◌==◌, ◌&&◌, true, Bool, List, ℕ, refl}
+use Rattle.std.proofs.Common.{◌≡◌, ◌==◌, ◌&&◌, true, Bool, List, [], ℕ, ap}
 use Rattle.std.proofs.lemmas.List.Elements.{filter_passes}
 use Rattle.lemmas.proofs.ListFacts.{second_true}
 use Rattle.holddata.specs.HoldBook.{IsInKeyOrder}
 use Rattle.holddata.specs.HoldKey.{kind_order}
 use Rattle.holddata.specs.declared.hold.Hold.{Hold}
 use Rattle.holddata.specs.declared.key.Kind.{Kind}
-use Rattle.holddata.specs.declared.key.Kind.TheVariants.{ErrorHold, SystemHold, UserHold, FixcatHold}
+use Rattle.holddata.specs.declared.key.HoldKey.{HoldKey}
+use Rattle.holddata.specs.declared.key.Kind.TheVariants.{ErrorHold, FixcatHold}
+use Rattle.holddata.proofs.KeyFacts.{same_key}
 use Rattle.zone_lists.specs.Installed.{is_installed}
 use Rattle.zone_lists.specs.declared.zones.ZoneRow.{ZoneRow}
 use Rattle.catalogue.specs.Content.{Content, IsInOrder}
@@ -17,24 +19,11 @@ use Rattle.bureau_store.specs.Held.{held_in}
 use Rattle.bureau_store.specs.Tables.{ZoneTable}
 use Rattle.bureau.specs.RowsFound.{RowsHaveHolds}
 
--- a kind with the order of another is that kind
+-- a kind with the order of another is that kind, since keys that differ in nothing else are one
 same_kind : (one other : Kind) → (kind_order one == kind_order other) ≡ true → one ≡ other
-same_kind ErrorHold ErrorHold same = refl
-same_kind ErrorHold SystemHold same = absurd (cc same)
-same_kind ErrorHold UserHold same = absurd (cc same)
-same_kind ErrorHold FixcatHold same = absurd (cc same)
-same_kind SystemHold ErrorHold same = absurd (cc same)
-same_kind SystemHold SystemHold same = refl
-same_kind SystemHold UserHold same = absurd (cc same)
-same_kind SystemHold FixcatHold same = absurd (cc same)
-same_kind UserHold ErrorHold same = absurd (cc same)
-same_kind UserHold SystemHold same = absurd (cc same)
-same_kind UserHold UserHold same = refl
-same_kind UserHold FixcatHold same = absurd (cc same)
-same_kind FixcatHold ErrorHold same = absurd (cc same)
-same_kind FixcatHold SystemHold same = absurd (cc same)
-same_kind FixcatHold UserHold same = absurd (cc same)
-same_kind FixcatHold FixcatHold same = refl
+same_kind one other same =
+    ap (λ (key : HoldKey). key.kind)
+    (same_key (record { sysmod = []; kind = one; reason = [] }) (record { sysmod = []; kind = other; reason = [] }) (ap (λ alike. alike && true) same))
 
 module _ (content : Content) (rows : List ZoneRow) (kind : Kind) where
   -- whether a report begins with a hold

@@ -1,9 +1,9 @@
 -- What is told of what is published is told of the tables.
 use Rattle.std.proofs.Common.{sym, ◌∙◌}
-use Rattle.std.specs.Prelude.{Result, Ok, Err, OnOk}
+use Rattle.std.specs.Prelude.{Ok}
 use Rattle.catalogue.specs.Content.{Content}
-use Rattle.catalogue.specs.View.{IsLawful, IsOpen, Tells, View}
-use Rattle.catalogue.proofs.SourceFacts.{told_later}
+use Rattle.catalogue.specs.View.{IsLawful, IsOpen, MayAsk, Tells, View}
+use Rattle.catalogue.proofs.SourceFacts.{no_fault, told_later}
 use Rattle.bureau_store.specs.Store.{AreOfOneStore}
 use Rattle.bureau_store.specs.Tables.{Tables}
 use Rattle.bureau.specs.Reading.{HasRead}
@@ -28,11 +28,10 @@ module _ {Store : Type 0} {content : View Store Content} {tables : View Store Ta
   pub open_shown : {a : Store} → IsOpen tables a → IsOpen content a
   open_shown {a} is_open = shows.failures a ∙ is_open
 
--- what asks a source after a read of the store has read
-pub then_reads : {Store Answer Fault : Type 0} {content : View Store Content} {tables : View Store Tables} {a b c : Store} (shows : AreOfOneStore content tables) (answer : Result Answer Fault)
-    → tables.keeps a c → IsOpen tables b → OnOk answer (IsOpen content b → IsOpen content c) → HasRead tables a c answer
-then_reads {Answer = Answer} {Fault = Fault} {content = content} {tables = tables} {b = b} {c = c} shows answer keeps is_open stays = record { keeps = keeps; is_open = by answer stays }
-  where
-    by : (r : Result Answer Fault) → OnOk r (IsOpen content b → IsOpen content c) → OnOk r (IsOpen tables c)
-    by (Ok t) stays_open = shown_open shows (stays_open (open_shown shows is_open))
-    by (Err e) stays_open = tt
+  -- what asks for what is published, once the tables were read, has read
+  pub asked_after : {a b c : Store} {Found Answer Fault Other : Type 0} {device : Fault} {found : Found} {answer : Answer} → IsLawful tables → tables.keeps a b → IsOpen tables b
+      → MayAsk content {Answer = Found} device b c (Ok found) → HasRead tables {Answer = Answer} {Fault = Other} a c (Ok answer)
+  asked_after lawful keeps is_open asks = record {
+    keeps = lawful.on _ _ _ keeps (shown_keeps asks.keeps);
+    is_open = shown_open (asks.stays_open (no_fault _) (open_shown is_open));
+  }

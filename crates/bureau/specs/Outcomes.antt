@@ -1,6 +1,6 @@
 -- No part of what is promised: private contracts cite it. An outcome of the code as the outcome that it is, and an effect as the
 -- effect that it is. `Outcome` says what comes of a call.
-use Rattle.std.specs.Prelude.{◌≡◌, ◌≤◌, ◌+◌, ℕ, List, Option, Result, Ok, Err, length}
+use Rattle.std.specs.Prelude.{◌≡◌, ◌≤◌, ◌+◌, ℕ, List, Option, Result, Ok, Err, is_some, length, true}
 use Rattle.std.specs.Cmp.Lexicographic.{slice_cmp}
 use Rattle.std.specs.List.Sorted.{IsStrictlySortedBy}
 use Rattle.std.specs.Ordering.{nat_cmp}
@@ -18,7 +18,7 @@ use Rattle.bureau_store.specs.declared.caller.Caller.{Caller}
 use Rattle.bureau_store.specs.declared.caller.Caller.TheVariants.{Publisher, Client}
 use Rattle.bureau.specs.Call.{Call}
 use Rattle.bureau.specs.Outcome as spec
-use Rattle.bureau.specs.Outcome.{Answer, answered, accepted, in_turn, no_room, outcome}
+use Rattle.bureau.specs.Outcome.{Answer, answered, accepted, in_turn, no_room, of_zone, outcome}
 use Rattle.bureau.specs.Replies.{reply_as}
 use Rattle.bureau.specs.View.{view_of}
 use Rattle.bureau.specs.declared.outcome.Outcome.{Outcome}
@@ -98,6 +98,11 @@ IsReplyTo caller call this reply = answered (reply_as reply) ≡ outcome (view_o
 abbrev pub IsInTurn : LastChange → Option ℕ → Result ℕ Reply → Type 0
 IsInTurn last number (Ok next) = (next ≡ last.number + 1) × ((change : spec.Outcome) → in_turn last number change ≡ change)
 IsInTurn last number (Err reply) = (change : spec.Outcome) → in_turn last number change ≡ answered (reply_as reply)
+
+-- so is a change to a zone that is there
+abbrev pub IsInTurnAt : LastChange → Option ZoneTable → Option ℕ → Result ℕ Reply → Type 0
+IsInTurnAt last found number (Ok next) = IsInTurn last number (Ok next) × (is_some found ≡ true)
+IsInTurnAt last found number (Err reply) = (change : ZoneTable → spec.Outcome) → in_turn last number (of_zone found change) ≡ answered (reply_as reply)
 
 -- a zone as it is counted: its name, and how many SYSMODs its list has
 abbrev pub counted_as : List ℕ × ZoneTable → List ℕ × ℕ

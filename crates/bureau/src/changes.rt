@@ -1,12 +1,12 @@
 //! What comes of a change: its number counts first, then whether the zone is there, then its body.
-ghost use Rattle.std.specs.Prelude.{◌≡◌, ◌≤◌, IfOk, is_some};
+ghost use Rattle.std.specs.Prelude.{◌≡◌, ◌≤◌, IfOk};
 ghost use Rattle.catalogue.specs.View.{Tells};
 ghost use Rattle.bureau_store.specs.Caller.{IsProper};
 ghost use Rattle.bureau_store.specs.Store.{greatest_number};
 ghost use Rattle.bureau_store.specs.Tables.{zone_named};
 ghost use Rattle.bureau_store.specs.declared.caller.Caller.TheVariants.{Publisher, Client};
 ghost use Rattle.bureau.specs.Call as call;
-ghost use Rattle.bureau.specs.Outcomes.{IsOutcome, IsFit, IsInTurn};
+ghost use Rattle.bureau.specs.Outcomes.{IsOutcome, IsFit, IsInTurn, IsInTurnAt};
 ghost use Rattle.bureau.specs.Outcome.{has_room, plain};
 ghost use Rattle.bureau.specs.Reading.{HasRead};
 ghost use Rattle.faults.specs.FaultText.{text_of};
@@ -111,13 +111,10 @@ pub(crate) fn drop_zone<S: Store>(
         (λ this. IsOutcome (Client client.now) (call.drop_zone number zone.now) this outcome)) }
     ensures fit { IfOk result IsFit }
 {
-    let number = match in_turn(alloc, store, &Caller::Client(*client), number)? {
+    let number = match in_turn_at(alloc, store, client, number, zone)? {
         Ok(number) => number,
         Err(reply) => return Ok(Outcome::Answered(reply)),
     };
-    if !is_zone(store, client, zone)? {
-        return Ok(Outcome::Answered(Reply::not_found(alloc)?));
-    }
     let reply = zone_dropped_line(alloc, zone)?;
     Ok(Outcome::Accepted(AcceptedChange {
         number,
@@ -177,13 +174,10 @@ pub(crate) fn put_patterns<S: Store>(
         (λ this. IsOutcome (Client client.now) (call.put_patterns number zone.now body.now) this outcome)) }
     ensures fit { IfOk result IsFit }
 {
-    let number = match in_turn(alloc, store, &Caller::Client(*client), number)? {
+    let number = match in_turn_at(alloc, store, client, number, zone)? {
         Ok(number) => number,
         Err(reply) => return Ok(Outcome::Answered(reply)),
     };
-    if !is_zone(store, client, zone)? {
-        return Ok(Outcome::Answered(Reply::not_found(alloc)?));
-    }
     let patterns = match patterns(alloc, body) {
         Ok(patterns) => patterns,
         Err(fault) => return Ok(Outcome::Answered(refusal(alloc, AnyFault::from(fault))?)),
@@ -217,6 +211,32 @@ fn in_turn<S: Store>(
     Ok(number_in_turn(alloc, number, last, reply)?)
 }
 
+// The number of a client's change to one of its zones that comes in its turn, or the answer to one that doesn't, or
+// whose zone isn't there.
+fn in_turn_at<S: Store>(
+    alloc: Global,
+    store: &mut S,
+    client: &Id,
+    number: Option<u64>,
+    zone: &Id,
+) -> Result<Result<u64, Reply>, NoRoom>
+    requires { IsProper (Client client.now) }
+    ensures reads { HasRead S.tables_view store.old store.new result }
+    ensures order { IfOk result (λ found. Tells S.tables_view store.old store.new
+        (λ this. IsInTurnAt (this.last (Client client.now))
+        (zone_named zone.now (this.zones client.now)) number found)) }
+    ensures bound { IfOk result (λ found. IfOk found (λ next. next ≤ greatest_number)) }
+{
+    let next = match in_turn(alloc, store, &Caller::Client(*client), number)? {
+        Ok(next) => next,
+        Err(reply) => return Ok(Err(reply)),
+    };
+    if !store.has_zone(client, zone)? {
+        return Ok(Err(Reply::not_found(alloc)?));
+    }
+    Ok(Ok(next))
+}
+
 // The answer to a body that has this fault.
 fn refusal(alloc: Global, fault: AnyFault) -> Result<Reply, NoRoom>
     ensures input { IfOk result (λ reply. fault.cause ≡ Input) }
@@ -226,16 +246,6 @@ fn refusal(alloc: Global, fault: AnyFault) -> Result<Reply, NoRoom>
         Cause::Machine => Err(NoRoom),
         Cause::Input => Ok(Reply::plain(alloc, 422, fault.text().as_bytes())?),
     }
-}
-
-// Whether a client has a zone of this name.
-fn is_zone<S: Store>(store: &mut S, client: &Id, zone: &Id) -> Result<bool, NoRoom>
-    requires { IsProper (Client client.now) }
-    ensures reads { HasRead S.tables_view store.old store.new result }
-    ensures there { IfOk result (λ there. Tells S.tables_view store.old store.new
-        (λ this. there ≡ is_some (zone_named zone.now (this.zones client.now)))) }
-{
-    Ok(store.has_zone(client, zone)?)
 }
 
 // Whether a client may have a zone of this name: it has it already, or not yet as many as it may.

@@ -9,10 +9,9 @@ ghost use Rattle.bureau.specs.Outcome.{may_ask};
 
 use crate::changes::{drop_zone, publish, put_patterns, put_received, put_zone};
 use crate::outcome::{NoRoom, Outcome};
-use crate::questions::{
-    chain, counts, counts_json, err_answer, list_zones, list_zones_json, missing_answer,
-};
-use crate::wanted::Wanted;
+use crate::questions::{chain, counts, counts_json, list_zones, list_zones_json, report_answer};
+use crate::wanted::Report::{ErrSysmods, MissingFix};
+use crate::wanted::Wanted::{Plan, PlanJson, Rows, RowsJson};
 use crate::{Call, Reply};
 use bureau_store::{Caller, Store};
 use chains::Judge;
@@ -97,28 +96,28 @@ fn decide_for_client<S: Store, J: Judge<S>>(
         Call::ListZones => reply_alone(list_zones(alloc, store, client)),
         Call::ListZonesJson => reply_alone(list_zones_json(alloc, store, client)),
         Call::ErrSysmods { zone } => {
-            reply_alone(err_answer(alloc, store, judge, client, &zone, Wanted::Report))
+            reply_alone(report_answer(alloc, store, judge, client, &zone, ErrSysmods, Rows))
         }
         Call::ErrSysmodsJson { zone } => {
-            reply_alone(err_answer(alloc, store, judge, client, &zone, Wanted::ReportJson))
+            reply_alone(report_answer(alloc, store, judge, client, &zone, ErrSysmods, RowsJson))
         }
         Call::ErrPlan { zone } => {
-            reply_alone(err_answer(alloc, store, judge, client, &zone, Wanted::Plan))
+            reply_alone(report_answer(alloc, store, judge, client, &zone, ErrSysmods, Plan))
         }
         Call::ErrPlanJson { zone } => {
-            reply_alone(err_answer(alloc, store, judge, client, &zone, Wanted::PlanJson))
+            reply_alone(report_answer(alloc, store, judge, client, &zone, ErrSysmods, PlanJson))
         }
         Call::MissingFix { zone } => {
-            reply_alone(missing_answer(alloc, store, judge, client, &zone, Wanted::Report))
+            reply_alone(report_answer(alloc, store, judge, client, &zone, MissingFix, Rows))
         }
         Call::MissingFixJson { zone } => {
-            reply_alone(missing_answer(alloc, store, judge, client, &zone, Wanted::ReportJson))
+            reply_alone(report_answer(alloc, store, judge, client, &zone, MissingFix, RowsJson))
         }
         Call::MissingPlan { zone } => {
-            reply_alone(missing_answer(alloc, store, judge, client, &zone, Wanted::Plan))
+            reply_alone(report_answer(alloc, store, judge, client, &zone, MissingFix, Plan))
         }
         Call::MissingPlanJson { zone } => {
-            reply_alone(missing_answer(alloc, store, judge, client, &zone, Wanted::PlanJson))
+            reply_alone(report_answer(alloc, store, judge, client, &zone, MissingFix, PlanJson))
         }
         Call::Chain { zone, sysmod } => {
             reply_alone(chain(alloc, store, judge, client, &zone, &sysmod))

@@ -38,6 +38,7 @@ mod outcome;
 mod publication;
 mod questions;
 mod reply;
+mod report_texts;
 mod texts;
 mod wanted;
 

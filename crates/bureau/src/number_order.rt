@@ -13,7 +13,7 @@ use std::alloc::Global;
 const GREATEST_NUMBER: u64 = 9_223_372_036_854_775_807;
 
 /// How the number of a change stands to the number of its caller's last change.
-#[derive(Clone, Copy, Debug, PartialEq, Eq)]
+#[derive(Clone, Copy)]
 pub(crate) enum NumberOrder {
     /// It is the caller's next one.
     Next,

@@ -7,11 +7,11 @@ use std::alloc::AllocFailed;
 use zone_lists::{Pattern, ZoneRow};
 
 /// There is no room for a call now: memory ran out, or the store doesn't do what it is asked.
-#[derive(Clone, Copy, Debug)]
+#[derive(Clone, Copy)]
 pub(crate) struct NoRoom;
 
 /// What comes of a call: a reply alone, or an accepted change with its reply.
-#[derive(Debug, Drop)]
+#[derive(Drop)]
 pub(crate) enum Outcome {
     /// The reply. Nothing changes.
     Answered(Reply),
@@ -20,7 +20,7 @@ pub(crate) enum Outcome {
 }
 
 /// An accepted change, with all that it takes. To make it takes no memory of the bureau's.
-#[derive(Debug, Drop)]
+#[derive(Drop)]
 pub(crate) struct AcceptedChange {
     /// The change's number.
     pub(crate) number: u64,
@@ -31,7 +31,7 @@ pub(crate) struct AcceptedChange {
 }
 
 /// What an accepted change does to the tables.
-#[derive(Debug, Drop)]
+#[derive(Drop)]
 pub(crate) enum Effect {
     /// The publisher publishes these changes, and the frames of these SYSMODs are touched.
     Publication {

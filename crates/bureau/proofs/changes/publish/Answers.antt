@@ -1,5 +1,5 @@
 use Rattle.std.proofs.Common.{refl, sym, ◌∙◌, ap, subst}
-use Rattle.catalogue.proofs.SourceFacts.{no_fault, told_sooner, told_later, told_so}
+use Rattle.catalogue.proofs.SourceFacts.{told_sooner, told_later, told_so}
 use Rattle.catalogue.specs.Publication.{after}
 use Rattle.catalogue.specs.Touched.{AgreeOutside, touched_ids}
 use Rattle.bureau_store.specs.Effect.{publication}
@@ -10,16 +10,12 @@ use Rattle.bureau.specs.Bodies.{changes_in}
 use Rattle.bureau.specs.Texts.{publication_text}
 use Rattle.bureau.specs.declared.outcome.Effect.TheVariants.{Publication}
 use Rattle.bureau.proofs.ChangeFacts.{out_of_turn, answered_in_turn, accepted_in_turn, said_so, said_not}
-use Rattle.bureau.proofs.ShownFacts.{open_shown, shown_keeps, shown_open, shown_tells}
+use Rattle.bureau.proofs.ShownFacts.{asked_after, shown_keeps, shown_tells}
 use Rattle.bureau.proofs.changes.publish.Goals as goal
 
 pub returns-clause-reads : goal.returns-clause-reads
 returns-clause-reads g c =
-    let shows = g.met.S.Store.shows_content in
-    record {
-      keeps = g.met.S.Store.tables_lawful.on _ _ _ c.in_ok-number.ensures.reads.keeps (shown_keeps shows c.in_ok-touched.ensures.asks.keeps);
-      is_open = shown_open shows (c.in_ok-touched.ensures.asks.stays_open (no_fault _) (open_shown shows c.in_ok-number.ensures.reads.is_open));
-    }
+    asked_after g.met.S.Store.shows_content g.met.S.Store.tables_lawful c.in_ok-number.ensures.reads.keeps c.in_ok-number.ensures.reads.is_open c.in_ok-touched.ensures.asks
 
 pub returns-in-Err-clause-outcome : goal.returns-in-Err-clause-outcome
 returns-in-Err-clause-outcome g c =

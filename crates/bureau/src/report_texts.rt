@@ -1,0 +1,182 @@
+//! The texts that are made from what is published, for a zone: reports, plans and verdicts.
+ghost use Rattle.std.specs.Prelude.{◌≡◌, IfOk};
+ghost use Rattle.holddata.specs.HoldBook.{IsInKeyOrder};
+ghost use Rattle.catalogue.specs.Ids.{Ascend};
+ghost use Rattle.catalogue.specs.View.{MayAsk, Tells};
+ghost use Rattle.catalogue.specs.declared.fault.SourceFault.TheVariants.{Device};
+ghost use Rattle.bureau.specs.Texts.{chain_text_from, err_json_from, err_report_from, missing_json_from, missing_report_from};
+ghost use Rattle.bureau.specs.Wanted.{text_from};
+
+use crate::wanted::{Report, Wanted};
+use catalogue::{Published, SourceFault};
+use chains::Judge;
+use holddata::Hold;
+use mcs_reader::Id;
+use plan_reports::{err_plan_json, err_plan_text, missing_plan_json, missing_plan_text};
+use report_json::{err_json, missing_json};
+use reports::{err_rows, err_text, missing_rows, missing_text, plan_json};
+use std::alloc::Global;
+use supersede::Zone;
+use zone_lists::Pattern;
+
+/// What is wanted of a report. The exception SYSMOD report has no patterns.
+pub(crate) fn report_text<P: Published, J: Judge<P>>(
+    alloc: Global,
+    source: &mut P,
+    judge: &mut J,
+    report: Report,
+    wanted: Wanted,
+    zone: &Id,
+    installed: &Zone,
+    received: &[Id],
+    patterns: &[Pattern],
+    holds: &[Hold],
+) -> Result<Vec<u8>, SourceFault>
+    requires received { Ascend received.now }
+    requires holds { IsInKeyOrder holds.now }
+    ensures asks { MayAsk P.content_view Device source.old source.new result }
+    ensures text { IfOk result (λ text. Tells P.content_view source.old source.new
+        (λ content. J.is_right judge.old content → text.items
+        ≡ text_from report wanted content zone.now installed.now received.now patterns.now holds.now)) }
+    ensures right { Tells P.content_view source.old source.new
+        (λ content. J.is_right judge.old content → J.is_right judge.new content) }
+{
+    match report {
+        Report::ErrSysmods => match wanted {
+            Wanted::Rows => err_report(alloc, source, judge, zone, installed, received, holds),
+            Wanted::RowsJson => {
+                err_report_json(alloc, source, judge, zone, installed, received, holds)
+            }
+            Wanted::Plan => err_plan_text(alloc, source, judge, installed, received, holds, zone),
+            Wanted::PlanJson => {
+                err_plan_json(alloc, source, judge, installed, received, holds, zone)
+            }
+        },
+        Report::MissingFix => match wanted {
+            Wanted::Rows => missing_report(
+                alloc, source, judge, zone, installed, received, patterns, holds,
+            ),
+            Wanted::RowsJson => missing_report_json(
+                alloc, source, judge, zone, installed, received, patterns, holds,
+            ),
+            Wanted::Plan => missing_plan_text(
+                alloc, source, judge, installed, received, patterns, holds, zone,
+            ),
+            Wanted::PlanJson => missing_plan_json(
+                alloc, source, judge, installed, received, patterns, holds, zone,
+            ),
+        },
+    }
+}
+
+// The report on what has since been held in error.
+fn err_report<P: Published, J: Judge<P>>(
+    alloc: Global,
+    source: &mut P,
+    judge: &mut J,
+    zone: &Id,
+    installed: &Zone,
+    received: &[Id],
+    holds: &[Hold],
+) -> Result<Vec<u8>, SourceFault>
+    requires received { Ascend received.now }
+    ensures asks { MayAsk P.content_view Device source.old source.new result }
+    ensures text { IfOk result (λ text. Tells P.content_view source.old source.new
+        (λ content. J.is_right judge.old content
+        → text.items ≡ err_report_from content zone.now installed.now received.now holds.now)) }
+    ensures right { Tells P.content_view source.old source.new
+        (λ content. J.is_right judge.old content → J.is_right judge.new content) }
+{
+    let rows = err_rows(alloc, source, judge, installed, received, holds)?;
+    Ok(err_text(alloc, zone, &rows)?)
+}
+
+// The same report as JSON.
+fn err_report_json<P: Published, J: Judge<P>>(
+    alloc: Global,
+    source: &mut P,
+    judge: &mut J,
+    zone: &Id,
+    installed: &Zone,
+    received: &[Id],
+    holds: &[Hold],
+) -> Result<Vec<u8>, SourceFault>
+    requires received { Ascend received.now }
+    requires holds { IsInKeyOrder holds.now }
+    ensures asks { MayAsk P.content_view Device source.old source.new result }
+    ensures text { IfOk result (λ text. Tells P.content_view source.old source.new
+        (λ content. J.is_right judge.old content
+        → text.items ≡ err_json_from content zone.now installed.now received.now holds.now)) }
+    ensures right { Tells P.content_view source.old source.new
+        (λ content. J.is_right judge.old content → J.is_right judge.new content) }
+{
+    let rows = err_rows(alloc, source, judge, installed, received, holds)?;
+    err_json(alloc, source, zone, holds, &rows)
+}
+
+// The report on what is missing.
+fn missing_report<P: Published, J: Judge<P>>(
+    alloc: Global,
+    source: &mut P,
+    judge: &mut J,
+    zone: &Id,
+    installed: &Zone,
+    received: &[Id],
+    patterns: &[Pattern],
+    holds: &[Hold],
+) -> Result<Vec<u8>, SourceFault>
+    requires received { Ascend received.now }
+    ensures asks { MayAsk P.content_view Device source.old source.new result }
+    ensures text { IfOk result (λ text. Tells P.content_view source.old source.new
+        (λ content. J.is_right judge.old content → text.items
+        ≡ missing_report_from content zone.now installed.now received.now patterns.now holds.now)) }
+    ensures right { Tells P.content_view source.old source.new
+        (λ content. J.is_right judge.old content → J.is_right judge.new content) }
+{
+    let rows = missing_rows(alloc, source, judge, installed, received, patterns, holds)?;
+    Ok(missing_text(alloc, zone, &rows)?)
+}
+
+// The same report as JSON.
+fn missing_report_json<P: Published, J: Judge<P>>(
+    alloc: Global,
+    source: &mut P,
+    judge: &mut J,
+    zone: &Id,
+    installed: &Zone,
+    received: &[Id],
+    patterns: &[Pattern],
+    holds: &[Hold],
+) -> Result<Vec<u8>, SourceFault>
+    requires received { Ascend received.now }
+    requires holds { IsInKeyOrder holds.now }
+    ensures asks { MayAsk P.content_view Device source.old source.new result }
+    ensures text { IfOk result (λ text. Tells P.content_view source.old source.new
+        (λ content. J.is_right judge.old content → text.items
+        ≡ missing_json_from content zone.now installed.now received.now patterns.now holds.now)) }
+    ensures right { Tells P.content_view source.old source.new
+        (λ content. J.is_right judge.old content → J.is_right judge.new content) }
+{
+    let rows = missing_rows(alloc, source, judge, installed, received, patterns, holds)?;
+    missing_json(alloc, source, zone, holds, &rows)
+}
+
+/// The verdict on a SYSMOD.
+pub(crate) fn chain_text<P: Published, J: Judge<P>>(
+    alloc: Global,
+    source: &mut P,
+    judge: &mut J,
+    zone: &Id,
+    installed: &Zone,
+    sysmod: &Id,
+) -> Result<Vec<u8>, SourceFault>
+    ensures asks { MayAsk P.content_view Device source.old source.new result }
+    ensures text { IfOk result (λ text. Tells P.content_view source.old source.new
+        (λ content. J.is_right judge.old content
+        → text.items ≡ chain_text_from content zone.now installed.now sysmod.now)) }
+    ensures right { Tells P.content_view source.old source.new
+        (λ content. J.is_right judge.old content → J.is_right judge.new content) }
+{
+    let verdict = judge.verdict(alloc, source, installed, sysmod)?;
+    plan_json(alloc, source, zone, sysmod, &verdict)
+}
