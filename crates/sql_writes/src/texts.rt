@@ -51,6 +51,15 @@ pub(crate) fn sups(count: usize) -> &'static str
     }
 }
 
+/// One row of what a record requires under a condition: the record ?1, the function ?2 and what it asks for ?3.
+pub(crate) fn conds(count: usize) -> &'static str
+    requires some { 0 < count }
+    requires few { count ≤ 1 }
+    ensures { MeansBy bureau result.now (insert_alike 9 1 2 count) (parameters_to (1 + 2 * count)) }
+{
+    "INSERT INTO sysmod_cond (id, fmid, member) VALUES (?1, ?2, ?3)"
+}
+
 /// So many rows of the zone ?2 of the client ?1: the SYSMOD ?3 with its state ?4, ?5 with ?6 and so on.
 pub(crate) fn zone_rows(count: usize) -> &'static str
     requires some { 0 < count }
