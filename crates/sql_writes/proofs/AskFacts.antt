@@ -19,7 +19,7 @@ use Rattle.sql_state.specs.Writing.{Changes, IsKnown}
 use Rattle.sql_state.proofs.StopFacts.{kept_failing, kept_unchanged, kept_unrun}
 use Rattle.std.specs.List.{range_with_len}
 use Rattle.std.specs.Prelude.{IsSome}
-use Rattle.std.specs.Result.{IsErrAnd}
+use Rattle.std.specs.Result.{IsErr, IsErrAnd}
 use Rattle.std.proofs.lemmas.Bool.{false≢true}
 use Rattle.std.proofs.lemmas.List.{append-nil}
 use Rattle.sqlite.specs.Clock.{timed}
@@ -29,12 +29,15 @@ use Rattle.sqlite.specs.Schema.{Schema}
 use Rattle.sqlite_sql.specs.Program.{ProgramOverflows}
 use Rattle.sqlite_typing.specs.Types.{accepts_program}
 use Rattle.sql_texts.specs.Meaning.{parameter, selection, statement}
+use Rattle.sql_writes.specs.Asking.{LeavesRows}
 use Rattle.sql_writes.specs.Excused.{Excuses, Takes}
 use Rattle.sql_writes.specs.Room.{AreUpTo}
 use Rattle.sql_writes.proofs.NumberFacts.{raised_up_to}
 use Rattle.sql_writes.proofs.RefusalFacts.{unrun}
-use Rattle.sql_writes.proofs.TakeFacts.{stopped_first}
+use Rattle.sql_writes.proofs.TakeFacts.{stopped_first, takes_then, takes_told}
+use Rattle.sql_rows.proofs.ChangeFacts.{changes_then, refused}
 use Rattle.sql_rows.proofs.StatementFacts.{same_value}
+use Rattle.sql_rows.proofs.TurnFacts.{told}
 
 kept_shown : (old new : State) (sql : List ℕ) (c : Compiled) (params : Row) (rows : List Row) (what : Option Returning) → IsTrue old.in_transaction → ShowsRows old new sql c params rows what → KeepsCommit old new
 kept_shown old new sql c params rows None inside h = kept_unchanged old new h.3
@@ -150,3 +153,25 @@ module _ (old new : State) (text : List ℕ) (query : Query) (names : List (List
         let same = unchanged_shown old new text it.0 _ items it.0.returning plain it.2 in
         raised_up_to most 0 new.now.trees (subst (λ (d : Database). AreUpTo most d.trees) (sym same.0.now_is) from.1);
   }
+
+-- ---- one question after another
+
+-- a success is told otherwise
+pub asks_told : {A B : Type 0} (old new : State) (a : A) (b : B) → LeavesRows {Answer = A} old new (Ok a) → LeavesRows {Answer = B} old new (Ok b)
+asks_told old new a b one = record {
+  changes = told old new a b (λ stored. stored) one.changes;
+  takes = takes_told old new a b 0 (λ stored. Unit {0}) one.takes;
+}
+
+pub asks_then : {A B : Type 0} (old mid new : State) (a : A) (result : Result B Error) → LeavesRows {Answer = A} old mid (Ok a) → LeavesRows mid new result → LeavesRows old new result
+asks_then old mid new a result one two = record {
+  changes = changes_then old mid new a result (λ stored. stored) (λ stored. stored) one.changes two.changes;
+  takes = takes_then old mid new a result (λ stored. stored) 0 0 (λ stored. Unit {0}) (λ stored. Unit {0}) (λ stored u. tt) one.changes one.takes two.changes.survives two.takes;
+}
+
+-- a refusal is told by a caller
+pub asks_stopped : {A B : Type 0} (old new : State) (e : Error) (result : Result B Error) → IsErr result → IsErrAnd result (λ f. f ≡ e) → LeavesRows {Answer = A} old new (Err e) → LeavesRows old new result
+asks_stopped old new e result is same one = record {
+  changes = refused old new e result (λ stored. stored) (λ stored. stored) is one.changes;
+  takes = stopped_first old new e result 0 0 (λ stored. Unit {0}) (λ stored. Unit {0}) same (λ stored u. tt) one.takes (omega arith);
+}

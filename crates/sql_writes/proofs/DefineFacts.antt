@@ -1,6 +1,6 @@
 -- No rule of a database speaks against a text that makes a table or an index whose names are new.
 use Rattle.std.proofs.Common.{◌≡◌, ◌≤◌, ◌<◌, ◌+◌, ◌^◌, ℕ, true, false, List, [], ◌∷◌, Option, Some, None, Ok, Err, length, sym, ◌∙◌, ap, subst, inl, inr, arith, zero, suc}
-use Rattle.std.specs.Prelude.{◌&&◌, Bool, IsSome, IsUtf8, ◌*◌, codes, nat_lt, slice_index, not, slice_get}
+use Rattle.std.specs.Prelude.{Bool, IsSome, IsUtf8, ◌*◌, codes, nat_lt, slice_index, not, slice_get}
 use Rattle.std.specs.Char.{is_ascii}
 use Rattle.std.specs.List.{AllByRecursion, list_all}
 use Rattle.std.proofs.lemmas.Bool.{and_parts, ltb-true, not-true}
@@ -41,6 +41,11 @@ ascii_at (b ∷ text) all (suc i) = ascii_at text (and_parts (is_ascii b) (list_
 ascii_utf8 : (text : List ℕ) → list_all is_ascii text ≡ true → IsUtf8 text
 ascii_utf8 text ascii = IsUtf8-from_ascii text (ascii_at text ascii)
 
+-- what passes all tests passes each
+all_true : (tests : List Bool) → list_all (λ test. test) tests ≡ true → AllByRecursion (λ test. test ≡ true) tests
+all_true [] is = tt
+all_true (test ∷ tests) is = let parts = and_parts test (list_all (λ other. other) tests) is in (parts.0, all_true tests parts.1)
+
 -- a table, or an index, whose names are used by nothing in the schema, and which has its key
 pub record IsNew (before : Schema) (table : Table) : Type 0 where
   pub free : is_used before table.name ≡ false
@@ -53,38 +58,33 @@ pub record IsNew (before : Schema) (table : Table) : Type 0 where
   pub keys_reals : list_all (λ key. nat_lt (index_reals (table_reals table) key) (2 ^ 64)) table.uniques ≡ true
   pub formed : is_formed table ≡ true
 
--- the same as a test, with which no sequence is wanted after the table came
-abbrev pub is_new : Schema → Schema → Table → Bool
-is_new before after table =
+-- the same as tests, by the last of which no sequence is wanted after the table came
+abbrev pub table_tests : Schema → Schema → Table → List Bool
+table_tests before after table =
     not (is_used before table.name)
-    && (list_all (λ (index : Index). not (is_used before index.name)) (automatics (record table { tree = 0 }) 0 0 table.uniques)
-    && (list_all is_ascii table.name && (not (is_reserved table.name) && (nat_lt (length table.name) 1000
-    && (nat_lt (next_tree before + length table.uniques) 65536 && (nat_lt (table_reals table) (2 ^ 64)
-    && (list_all (λ key. nat_lt (index_reals (table_reals table) key) (2 ^ 64)) table.uniques && (is_formed table && not (lacks_sequence after)))))))))
+    ∷ list_all (λ (index : Index). not (is_used before index.name)) (automatics (record table { tree = 0 }) 0 0 table.uniques)
+    ∷ list_all is_ascii table.name ∷ not (is_reserved table.name) ∷ nat_lt (length table.name) 1000
+    ∷ nat_lt (next_tree before + length table.uniques) 65536 ∷ nat_lt (table_reals table) (2 ^ 64)
+    ∷ list_all (λ key. nat_lt (index_reals (table_reals table) key) (2 ^ 64)) table.uniques ∷ is_formed table ∷ not (lacks_sequence after) ∷ []
+
+abbrev pub is_new : Schema → Schema → Table → Bool
+is_new before after table = list_all (λ test. test) (table_tests before after table)
 
 pub tested_new : (before after : Schema) (table : Table) → is_new before after table ≡ true → IsNew before table × (lacks_sequence after ≡ false)
 tested_new before after table is =
-    let a = and_parts _ _ is in
-    let b = and_parts _ _ a.1 in
-    let c = and_parts _ _ b.1 in
-    let d = and_parts _ _ c.1 in
-    let e = and_parts _ _ d.1 in
-    let f = and_parts _ _ e.1 in
-    let g = and_parts _ _ f.1 in
-    let h = and_parts _ _ g.1 in
-    let k = and_parts _ _ h.1 in (
+    let all = all_true (table_tests before after table) is in (
       record {
-        free = not-true _ a.0;
-        keys_free = b.0;
-        ascii = c.0;
-        own = not-true _ d.0;
-        short = e.0;
-        few = f.0;
-        reals = g.0;
-        keys_reals = h.0;
-        formed = k.0;
+        free = not-true _ all.0;
+        keys_free = all.1.0;
+        ascii = all.1.1.0;
+        own = not-true _ all.1.1.1.0;
+        short = all.1.1.1.1.0;
+        few = all.1.1.1.1.1.0;
+        reals = all.1.1.1.1.1.1.0;
+        keys_reals = all.1.1.1.1.1.1.1.0;
+        formed = all.1.1.1.1.1.1.1.1.0;
       },
-      not-true _ k.1,
+      not-true _ all.1.1.1.1.1.1.1.1.1.0,
     )
 
 below : {a b : ℕ} → nat_lt a b ≡ true → b ≤ a → ⊥
@@ -155,34 +155,29 @@ pub record IsNewIndex (before : Schema) (table : Table) (index : Index) : Type 0
   pub reals : nat_lt (table_reals table) (2 ^ 64) ≡ true
   pub key_reals : nat_lt (index_reals (table_reals table) index.columns) (2 ^ 64) ≡ true
 
--- the same as a test
+-- the same as tests
+abbrev pub index_tests : Schema → Table → Index → List Bool
+index_tests before table index =
+    not (is_used before index.name) ∷ list_all is_ascii index.name ∷ list_all is_ascii table.name ∷ not (is_reserved index.name)
+    ∷ nat_lt (length index.name) 1000 ∷ nat_lt (length table.name) 1000 ∷ nat_lt (next_tree before) 65536
+    ∷ nat_lt (table_reals table) (2 ^ 64) ∷ nat_lt (index_reals (table_reals table) index.columns) (2 ^ 64) ∷ []
+
 abbrev pub is_new_index : Schema → Table → Index → Bool
-is_new_index before table index =
-    not (is_used before index.name)
-    && (list_all is_ascii index.name && (list_all is_ascii table.name && (not (is_reserved index.name) && (nat_lt (length index.name) 1000
-    && (nat_lt (length table.name) 1000 && (nat_lt (next_tree before) 65536 && (nat_lt (table_reals table) (2 ^ 64)
-    && nat_lt (index_reals (table_reals table) index.columns) (2 ^ 64))))))))
+is_new_index before table index = list_all (λ test. test) (index_tests before table index)
 
 pub tested_new_index : (before : Schema) (table : Table) (index : Index) → is_new_index before table index ≡ true → IsNewIndex before table index
 tested_new_index before table index is =
-    let a = and_parts _ _ is in
-    let b = and_parts _ _ a.1 in
-    let c = and_parts _ _ b.1 in
-    let d = and_parts _ _ c.1 in
-    let e = and_parts _ _ d.1 in
-    let f = and_parts _ _ e.1 in
-    let g = and_parts _ _ f.1 in
-    let h = and_parts _ _ g.1 in
+    let all = all_true (index_tests before table index) is in
     record {
-      free = not-true _ a.0;
-      ascii = b.0;
-      table_ascii = c.0;
-      own = not-true _ d.0;
-      short = e.0;
-      table_short = f.0;
-      few = g.0;
-      reals = h.0;
-      key_reals = h.1;
+      free = not-true _ all.0;
+      ascii = all.1.0;
+      table_ascii = all.1.1.0;
+      own = not-true _ all.1.1.1.0;
+      short = all.1.1.1.1.0;
+      table_short = all.1.1.1.1.1.0;
+      few = all.1.1.1.1.1.1.0;
+      reals = all.1.1.1.1.1.1.1.0;
+      key_reals = all.1.1.1.1.1.1.1.1.0;
     }
 
 -- no row breaks a rule where there are no rows

@@ -52,10 +52,10 @@ rows_found text tree tests project order names parameters params old new rows te
 
 module _ (index : ℕ) (table : Table) (rows : Stored → List Row) (with_rows : List Row → Stored → Stored) (stands : Stands index table rows with_rows) where
   pub found_so : (text : List ℕ) (tests : List Term) (name : List ℕ) (parameters : ℕ) (params : Row) (values : List ValueRef) (has : Row → Bool) (old new : State) (found : List Row)
-      → ((row : Row) → passes params tests row ≡ has (drop 1 row)) → bound values ≡ params → Reads bureau text (from_table table.tree tests (1 ∷ []) []) (name ∷ []) parameters
+      → ((row : Row) → passes params tests row ≡ has (drop 1 row)) → bound values ≡ params → Reads bureau text (from_table table.tree tests (0 ∷ []) []) (name ∷ []) parameters
       → IsKnown old.now → Shown text (bound values) old new found → is_some_of (length found) ≡ list_any has (rows (held_by old.now))
   found_so text tests name parameters params values has old new found alike given reads known shows =
-      rows_found text table.tree tests (1 ∷ []) [] (name ∷ []) parameters params old new found has reads known (subst (λ row. Shown text row old new found) given shows) alike
+      rows_found text table.tree tests (0 ∷ []) [] (name ∷ []) parameters params old new found has reads known (subst (λ row. Shown text row old new found) given shows) alike
       ∙ ap (list_any has) (sym (stands.here old.now.trees))
 
   -- none has it, so nothing goes

@@ -1,6 +1,7 @@
 -- What a read of one row tells: whether a table has any.
-use Rattle.std.proofs.Common.{◌≡◌, ◌∷◌, ◌==◌, ℕ, Bool, false, List, [], refl, sym, ◌∙◌, ap, subst, arith}
-use Rattle.std.specs.Prelude.{flat_map, length, map, not, take}
+use Rattle.std.proofs.Common.{◌≡◌, ◌∷◌, ◌==◌, ℕ, Bool, false, true, List, [], Some, refl, sym, ◌∙◌, ap, subst, arith}
+use Rattle.std.specs.Prelude.{flat_map, length, map, not, slice_get, take}
+use Rattle.std.specs.List.{AllByRecursion}
 use Rattle.std.proofs.lemmas.Bool.{false≢true}
 use Rattle.std.proofs.lemmas.List.Sorted.{length_permutation}
 use Rattle.sqlite.proofs.Callers.{IsPlain, command_of, reads_as}
@@ -8,12 +9,15 @@ use Rattle.sqlite.specs.Order.{Row}
 use Rattle.sqlite.specs.Program.{overlay}
 use Rattle.sqlite.specs.Query.{IsAnswer, Output, output}
 use Rattle.sqlite.specs.State.{Shown, State}
+use Rattle.sqlite.specs.Table.{Table}
 use Rattle.sqlite.specs.Tree.{Trees}
 use Rattle.sqlite.specs.declared.types.Value.TheVariants.{Null}
 use Rattle.sqlite_sql.specs.Query.{end, inner, matches}
+use Rattle.sqlite_typing.specs.Types.{accepts_program}
 use Rattle.sql_texts.proofs.AnswerFacts.{plain_trees}
 use Rattle.sql_texts.specs.Meaning.{Reads, selection}
-use Rattle.sql_texts.specs.Schema.{bureau}
+use Rattle.sql_texts.specs.Schema.{bureau, tables}
+use Rattle.sql_rows.proofs.TableFacts.{at_index}
 use Rattle.sql_writes.specs.Asking.{first_in}
 use Rattle.sql_writes.proofs.FindFacts.{some_there}
 
@@ -49,6 +53,13 @@ first_read text tree names old new rows reads ours here none =
     let answer : IsAnswer (first_in tree) (overlay old.now.trees []) [] [] =
     (reads_as text [] old new bureau ours (selection (first_in tree) names) (ap command_of reads.statement) (subst IsPlain (sym reads.statement) (refl, refl)) reads.unlisted [] shown).answer Null in
     sym (plain_trees old.now.trees tree) ∙ first_answer tree (overlay old.now.trees []) answer
+
+all_taken : AllByRecursion (λ (t : Table). accepts_program bureau [] (first_in t.tree) [] ≡ true) tables
+all_taken = (refl, (refl, (refl, (refl, (refl, (refl, (refl, (refl, (refl, (refl, tt))))))))))
+
+-- the database takes such a read of each of its tables
+pub first_taken : (index : ℕ) (table : Table) → slice_get tables index ≡ Some table → accepts_program bureau [] (first_in table.tree) [] ≡ true
+first_taken index table placed = at_index (λ (t : Table). accepts_program bureau [] (first_in t.tree) [] ≡ true) tables index table placed all_taken
 
 -- an answer that denies that a list has elements
 pub denied : {X : Type 0} (xs : List X) (empty : Bool) → empty ≡ (length xs == 0) → not empty ≡ false → xs ≡ []

@@ -28,5 +28,6 @@ pub mod SeveralFacts
 pub mod SoundFacts
 pub mod StepFacts
 pub mod TakeFacts
+pub mod TextFacts
 pub mod TogetherFacts
 pub mod WhereFacts

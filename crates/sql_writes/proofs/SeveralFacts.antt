@@ -1,7 +1,7 @@
 -- What a statement that inserts several rows makes of its table, whichever it is, and why it is refused.
-use Rattle.std.proofs.Common.{◌≡◌, ◌+◌, ◌*◌, ◌++◌, ◌<◌, ℕ, Bool, false, true, List, [], ◌∷◌, Result, get_or, length, map, refl, sym, ◌∙◌, ap, ap₂, subst, take, append_assoc}
+use Rattle.std.proofs.Common.{◌≡◌, ◌+◌, ◌*◌, ◌++◌, ◌&&◌, ◌<◌, ℕ, Bool, false, true, List, [], ◌∷◌, Result, get_or, length, map, refl, sym, ◌∙◌, ap, ap₂, subst, take, append_assoc}
 use Rattle.std.specs.Prelude.{drop, flat_map}
-use Rattle.std.specs.List.{AllByRecursion, list_any}
+use Rattle.std.specs.List.{AllByRecursion, list_all, list_any}
 use Rattle.std.proofs.lemmas.List.{append-nil, length-map, map-append}
 use Rattle.sqlite.specs.Cast.{cast_row}
 use Rattle.sqlite.specs.Order.{Row}
@@ -13,7 +13,7 @@ use Rattle.sqlite.specs.declared.error.Error.{Error}
 use Rattle.sqlite.specs.declared.types.Value.TheVariants.{Null}
 use Rattle.sqlite_rules.specs.Keys.{are_unique}
 use Rattle.sqlite_rules.proofs.ListLemmas.{has_got}
-use Rattle.sqlite_schema.specs.Rules.{references_fit}
+use Rattle.sqlite_schema.specs.Rules.{is_key_of, references_fit}
 use Rattle.sqlite_trees.specs.Tree.{with_tree}
 use Rattle.sqlite_value.specs.declared.value.ValueRef.{ValueRef}
 use Rattle.sql_texts.specs.Schema.{bureau, tables}
@@ -27,7 +27,7 @@ use Rattle.sql_rows.specs.Fitting.{IsFitting}
 use Rattle.sql_rows.specs.Running.{FailsInside, Ran}
 use Rattle.sql_rows.specs.Standing.{Stands}
 use Rattle.sql_rows.proofs.ChangeFacts.{changed_by}
-use Rattle.sql_rows.proofs.TableFacts.{more_come, none_come, numbered_so, set_so}
+use Rattle.sql_rows.proofs.TableFacts.{at_index, more_come, none_come, numbered_so, set_so}
 use Rattle.sql_writes.specs.Excused.{Takes}
 use Rattle.sql_writes.specs.Many.{AreGiven, AreNew, AreNewInPlace, IsGiven, MeansBy, insert_alike, parameters_to, rows_alike, unnumbered, with_next}
 use Rattle.sql_writes.proofs.AlikeFacts.{Comes}
@@ -47,6 +47,15 @@ pub bound_one_more : {X : Type 0} (values_of : X → Row) (key : Row) (all : Lis
 bound_one_more values_of key all i x low at =
     append_assoc key (flat_map values_of (take i all)) (values_of x)
     ∙ ap (λ rest. key ++ rest) (flat_more values_of (take i all) x ∙ ap (flat_map values_of) (one_more all i x low at))
+
+-- ---- no table refers to another
+
+none_referred : AllByRecursion (λ (t : Table). t.references ≡ []) tables
+none_referred = (refl, (refl, (refl, (refl, (refl, (refl, (refl, (refl, (refl, (refl, tt))))))))))
+
+fits_alone : (t : Table) → t.references ≡ [] → (adds : Bool) → references_fit bureau t adds false ≡ true
+fits_alone t none true = ap (λ all. list_all (is_key_of bureau) all && true) none
+fits_alone t none false = refl
 
 module _ (index : ℕ) (table : Table) (rows : Stored → List Row) (with_rows : List Row → Stored → Stored) (stands : Stands index table rows with_rows)
     {X : Type 0} (row_of : X → Row) where
@@ -109,11 +118,12 @@ module _ (index : ℕ) (table : Table) (rows : Stored → List Row) (with_rows :
       fitting fits [] are = tt
       fitting fits (x ∷ xs) are = (fits x are.0, fitting fits xs are.1)
 
-      pub rows_take : ((adds : Bool) → references_fit bureau table adds false ≡ true) → ((x : X) → IsFit x → IsFitting table (row_of x)) → AllByRecursion IsFit things
+      pub rows_take : ((x : X) → IsFit x → IsFitting table (row_of x)) → AllByRecursion IsFit things
           → FailsInside text (bound values) old new result → Takes old new result (length things) (λ stored. AreNew is_same row_of things (rows stored))
-      rows_take referred fits are fails =
+      rows_take fits are fails =
           takes_as old new result (λ stored. AreNew is_same row_of things (rows stored)) (length-map things row_of)
-          (all_take text old new result index table stands.placed stands.uncounted (numbered_so index table rows with_rows stands) (low_so index table stands.placed) referred
+          (all_take text old new result index table stands.placed stands.uncounted (numbered_so index table rows with_rows stands) (low_so index table stands.placed)
+          (fits_alone table (at_index (λ (t : Table). t.references ≡ []) tables index table stands.placed none_referred))
           (rows_alike shared own (length things)) (1 + (shared + own)) (parameters_to (shared + own * length things)) params (map row_of things) (λ stored. AreNew is_same row_of things (rows stored))
           means are_given (fitting fits things are)
           (λ database known none. free_so database.trees things are (database.trees table.tree) (numbered_so index table rows with_rows stands database known)

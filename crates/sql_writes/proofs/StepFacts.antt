@@ -1,16 +1,13 @@
 -- Why one statement of a transaction is refused, and which numbers its table has after it.
-use Rattle.std.proofs.Common.{◌≡◌, ◌<◌, ◌+◌, ◌^◌, ◌/◌, ℕ, true, false, List, [], ◌∷◌, Option, None, Some, Result, Ok, Err, IsTrue, OnOk, length, map, refl, sym, ◌∙◌, ap, subst}
-use Rattle.std.specs.Prelude.{IfErr, IfOk, IsSome, slice_get}
+use Rattle.std.proofs.Common.{◌≡◌, ◌<◌, ◌+◌, ◌^◌, ◌/◌, ℕ, true, false, List, [], ◌∷◌, Option, None, Some, Result, Ok, Err, IsTrue, OnOk, length, map, refl, subst}
+use Rattle.std.specs.Prelude.{IsSome, slice_get}
 use Rattle.std.specs.List.{range_with_len}
-use Rattle.std.proofs.lemmas.List.{length-map}
-use Rattle.sqlite.specs.Command.{Command}
 use Rattle.sqlite.specs.Does.{Does}
 use Rattle.sqlite.specs.Edit.{next_rowid}
 use Rattle.sqlite.specs.Effect.{Database, value_rows}
-use Rattle.sqlite.specs.Listing.{understood}
 use Rattle.sqlite.specs.Order.{Row}
 use Rattle.sqlite.specs.Rows.{stamped}
-use Rattle.sqlite.specs.State.{Executes, HasCleanDisk, IsNotRun, IsUnchanged, State, mode_of}
+use Rattle.sqlite.specs.State.{Executes, HasCleanDisk, State, mode_of}
 use Rattle.sqlite.specs.Table.{Table}
 use Rattle.sqlite.specs.Term.{Term, col, lit}
 use Rattle.sqlite.specs.Tree.{Trees, put_row}
@@ -33,12 +30,10 @@ use Rattle.sql_state.specs.Writing.{IsKnown}
 use Rattle.sql_state.proofs.StopFacts.{was_clean}
 use Rattle.sql_writes.specs.Excused.{IsExcused, Takes}
 use Rattle.sql_writes.specs.Room.{AreUpTo, IsRoomy, are_up_to}
-use Rattle.sql_writes.specs.Many.{MeansBy}
 use Rattle.sql_rows.specs.Fitting.{IsFitting}
 use Rattle.sql_rows.specs.Running.{FailsInside, Ran}
 use Rattle.sql_writes.proofs.ExcuseFacts.{excused_by}
 use Rattle.sql_writes.proofs.NumberFacts.{one_more_up_to, raised_up_to, set_up_to, still_up_to}
-use Rattle.sql_writes.proofs.RefusalFacts.{unrun}
 use Rattle.sql_writes.proofs.RuleFacts.{insert_stops}
 use Rattle.sql_writes.proofs.SoundFacts.{comes_soundly, deletion_stops}
 use Rattle.sql_rows.specs.Standing.{Stands}
@@ -117,25 +112,3 @@ pub rows_go_takes : (text : List ℕ) (old new : State) (result : Result (Unit {
     → Ran text params old new result → FailsInside text params old new result → Takes old new result 0 (λ stored. Unit {0})
 rows_go_takes text old new result index table rows with_rows stands tests parameters params means given accepted ran fails =
     goes_takes text old new result index table stands.placed (numbered_so index table rows with_rows stands) (low_so index table stands.placed) tests parameters params means given accepted ran fails
-
--- a statement is prepared
-pub prepared_takes : {A : Type 0} (text_of : A → List ℕ) (old new : State) (text : List ℕ) (command : Command) (names : List (List ℕ)) (result : Result A Error) → MeansBy bureau text command names
-    → (HasCleanDisk new → IfOk result (λ a. (text_of a ≡ text) × IsUnchanged old new))
-    → (HasCleanDisk new → IfErr result (λ e. (params : Row) → IsNotRun old new text params e)) → Takes old new result 0 (λ stored. Unit {0})
-prepared_takes {A} text_of old new text command names result means ok err = by result ok err
-  where
-    params : Row
-    params = map (λ k. Null) names
-
-    by : (r : Result A Error) → (HasCleanDisk new → IfOk r (λ a. (text_of a ≡ text) × IsUnchanged old new)) → (HasCleanDisk new → IfErr r (λ e. (params : Row) → IsNotRun old new text params e))
-        → Takes old new r 0 (λ stored. Unit {0})
-    by (Ok a) ok err = record {
-      excused = λ most room. tt;
-      numbers = λ clean inside most from. raised_up_to most 0 new.now.trees (subst (λ (d : Database). AreUpTo most d.trees) (sym (ok clean).1.0.now_is) from.1);
-    }
-    by (Err e) ok err = record {
-      excused = λ most room clean inside from.
-          unrun old new text params command names e (ap (λ s. understood s text) from.0.0.schema ∙ means.statement)
-          (length-map names (λ k. Null)) (err clean params);
-      numbers = tt;
-    }

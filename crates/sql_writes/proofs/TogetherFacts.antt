@@ -10,7 +10,6 @@ use Rattle.std.proofs.lemmas.List.Sums.{fold_push, sum_by-cons}
 use Rattle.catalogue.specs.Ids.{Ascend}
 use Rattle.catalogue.specs.declared.change.Change.{Change}
 use Rattle.catalogue.specs.declared.change.Change.TheVariants.{OfHold, Whole}
-use Rattle.catalogue.specs.declared.conditional.CondNeed.{CondNeed}
 use Rattle.catalogue.specs.declared.sysmod.Sysmod.{Sysmod}
 use Rattle.holddata.specs.declared.hold.HoldChange.{HoldChange}
 use Rattle.mcs_reader.specs.Id.{IsId}
@@ -102,21 +101,21 @@ sysmods_own = record { own = own; bare = λ change. refl }
     own sysmod (Whole other) apart = ap (λ b. b || false) (none_named sysmod.id other.id apart.0 apart.1)
     own sysmod (OfHold change) apart = tt
 
+-- rows under the id of a record are of no record with another id
+under_apart : {X : Type 0} (row : List ℕ → X → Row) → ((id other : List ℕ) (x : X) → is_of other (row id x) ≡ is_named other (id_value id))
+    → (sysmod : Sysmod) (xs : List X) (other : Change) → IsApart sysmod.id other → NoneOf (map (row sysmod.id) xs) other
+under_apart row under sysmod [] (Whole other) apart = refl
+under_apart row under sysmod (x ∷ xs) (Whole other) apart =
+    ap₂ ◌||◌ (under sysmod.id other.id x ∙ none_named sysmod.id other.id apart.0 apart.1) (under_apart row under sysmod xs (Whole other) apart)
+under_apart row under sysmod xs (OfHold change) apart = tt
+
 -- the rows of what a record supersedes
 abbrev pub member_rows : Change → List Row
 member_rows (Whole sysmod) = map (sup_row sysmod.id) sysmod.sup
 member_rows (OfHold change) = []
 
 pub members_own : MakesOwn member_rows
-members_own = record { own = own; bare = λ change. refl }
-  where
-    own : (sysmod : Sysmod) (other : Change) → IsApart sysmod.id other → NoneOf (member_rows (Whole sysmod)) other
-    own sysmod (Whole other) apart = each sysmod.sup
-      where
-        each : (members : List (List ℕ)) → list_any (is_of other.id) (map (sup_row sysmod.id) members) ≡ false
-        each [] = refl
-        each (member ∷ members) = ap₂ ◌||◌ (none_named sysmod.id other.id apart.0 apart.1) (each members)
-    own sysmod (OfHold change) apart = tt
+members_own = record { own = λ sysmod other apart. under_apart sup_row (λ id other member. refl) sysmod sysmod.sup other apart; bare = λ change. refl }
 
 paired : (id : List ℕ) (members : List (List ℕ)) → map member_values (pairs id members) ≡ map (sup_row id) members
 paired id [] = refl
@@ -133,15 +132,7 @@ cond_rows (Whole sysmod) = map (cond_row sysmod.id) sysmod.conds
 cond_rows (OfHold change) = []
 
 pub conds_own : MakesOwn cond_rows
-conds_own = record { own = own; bare = λ change. refl }
-  where
-    own : (sysmod : Sysmod) (other : Change) → IsApart sysmod.id other → NoneOf (cond_rows (Whole sysmod)) other
-    own sysmod (Whole other) apart = each sysmod.conds
-      where
-        each : (conds : List CondNeed) → list_any (is_of other.id) (map (cond_row sysmod.id) conds) ≡ false
-        each [] = refl
-        each (cond ∷ conds) = ap₂ ◌||◌ (none_named sysmod.id other.id apart.0 apart.1) (each conds)
-    own sysmod (OfHold change) apart = tt
+conds_own = record { own = λ sysmod other apart. under_apart cond_row (λ id other cond. refl) sysmod sysmod.conds other apart; bare = λ change. refl }
 
 -- ---- all tables
 

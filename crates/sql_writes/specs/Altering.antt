@@ -1,18 +1,14 @@
 -- What a call says of the connection that a transaction lends, as it is before the call and after it.
-use Rattle.std.specs.Prelude.{◌≡◌, ◌+◌, ◌*◌, ℕ, List, Result}
+use Rattle.std.specs.Prelude.{◌≡◌, ℕ, Result}
 use Rattle.sqlite.specs.Effect.{Database}
 use Rattle.sqlite.specs.Held.{Held, state}
-use Rattle.sqlite.specs.State.{HasCleanDisk, State}
+use Rattle.sqlite.specs.State.{State}
 use Rattle.sqlite.specs.declared.error.Error.{Error}
 use Rattle.sqlite_trees.specs.declared.store.Store.{Ghosts}
-use Rattle.sql_texts.specs.Meaning.{Means}
-use Rattle.sql_texts.specs.Schema.{bureau}
-use Rattle.sql_texts.specs.Writes.{insert_given}
 use Rattle.sql_tables.specs.Stored.{Stored}
 use Rattle.sql_state.specs.Writing.{Changes}
 use Rattle.sql_writes.specs.Excused.{IsExcused, Takes}
 use Rattle.sql_writes.specs.Making.{Leads}
-use Rattle.sql_writes.specs.Many.{MeansBy, insert_alike, parameters_to}
 
 -- the rows change so
 abbrev pub Alters : {S Answer Fault : Type 0} → Ghosts S → Held S → Held S → Result Answer Fault → (Stored → Stored) → Type 0
@@ -31,17 +27,6 @@ AltersWhere ghosts old new result Fits change = ChangesWhere (state ghosts old) 
 -- such a database becomes such a one
 abbrev pub Turns : {S Answer Fault : Type 0} → Ghosts S → Held S → Held S → Result Answer Fault → (Database → Type 0) → (Database → Type 0) → Type 0
 Turns ghosts old new result From To = Leads (state ghosts old) (state ghosts new) result From To
-
--- a text inserts one row of so many given columns into the table at this index, where the disk is clean
-abbrev pub Inserts : {S : Type 0} → Ghosts S → Held S → List ℕ → ℕ → ℕ → Type 0
-Inserts ghosts held text table_index columns = HasCleanDisk (state ghosts held) → Means bureau text (insert_given table_index columns) columns
-
--- a text inserts so many rows at once into the table at this index, each with its own columns after those that all share,
--- where the disk is clean
-abbrev pub InsertsAlike : {S : Type 0} → Ghosts S → Held S → List ℕ → ℕ → ℕ → ℕ → ℕ → Type 0
-InsertsAlike ghosts held text table_index shared own count =
-    HasCleanDisk (state ghosts held)
-    → MeansBy bureau text (insert_alike table_index shared own count) (parameters_to (shared + own * count))
 
 -- so many rows come, into tables of which such a thing is true, and a refusal has an excuse where there is room for them
 abbrev pub TakesRoom : {S Answer : Type 0} → Ghosts S → Held S → Held S → Result Answer Error → ℕ → (Stored → Type 0) → Type 0

@@ -1,10 +1,11 @@
--- No part of what is promised: private contracts cite it. Whether rows stand in a table.
-use Rattle.std.specs.Prelude.{◌≡◌, ℕ, Bool, false, IsTrue, List, [], ◌∷◌, pos}
+-- No part of what is promised: private contracts cite it. Whether rows stand in a table, which is asked of it.
+use Rattle.std.specs.Prelude.{◌≡◌, ℕ, Bool, false, IsTrue, List, [], ◌∷◌, Result, pos}
 use Rattle.std.specs.List.{list_any}
 use Rattle.sqlite.specs.Held.{Held, state}
 use Rattle.sqlite.specs.Query.{Query}
-use Rattle.sqlite.specs.State.{HasCleanDisk}
+use Rattle.sqlite.specs.State.{HasCleanDisk, State}
 use Rattle.sqlite.specs.Term.{lit}
+use Rattle.sqlite.specs.declared.error.Error.{Error}
 use Rattle.sqlite.specs.declared.types.Value.TheVariants.{Int}
 use Rattle.sqlite_trees.specs.declared.store.Store.{Ghosts}
 use Rattle.sqlite_value.specs.Order.{Row}
@@ -12,12 +13,21 @@ use Rattle.catalogue.specs.declared.change.Change.{Change}
 use Rattle.sql_texts.specs.Reads.{from_table}
 use Rattle.sql_tables.specs.Stored.{Stored}
 use Rattle.sql_state.specs.Ours.{held_by}
-use Rattle.sql_state.specs.Writing.{IsKnown}
+use Rattle.sql_state.specs.Writing.{Changes, IsKnown}
+use Rattle.sql_writes.specs.Excused.{Takes}
 use Rattle.sql_writes.specs.Records.{AreFree, IsBare}
 
--- of one row of a tree the first column, if it has any
+-- of one row of a tree the rowid, if it has any
 abbrev pub first_in : ℕ → Query
-first_in tree = record (from_table tree [] (1 ∷ []) []) { limit = lit (Int (pos 1)) }
+first_in tree = record (from_table tree [] (0 ∷ []) []) { limit = lit (Int (pos 1)) }
+
+-- questions leave all rows as they are, and none comes
+pub record LeavesRows {Answer : Type 0} (old new : State) (result : Result Answer Error) : Type 0 where
+  pub changes : Changes old new result (λ stored. stored)
+  pub takes : Takes old new result 0 (λ stored. Unit {0})
+
+abbrev pub Asks : {S Answer : Type 0} → Ghosts S → Held S → Held S → Result Answer Error → Type 0
+Asks ghosts old new result = LeavesRows (state ghosts old) (state ghosts new) result
 
 -- the answer says whether rows of a table pass a test
 abbrev pub FindsAny : {S : Type 0} → Ghosts S → Held S → Held S → (Stored → List Row) → (Row → Bool) → Bool → Type 0

@@ -4,7 +4,7 @@ ghost use Rattle.catalogue.specs.declared.change.Change.TheVariants.{Whole};
 ghost use Rattle.sql_tables.specs.Changes.{going, is_under};
 ghost use Rattle.sql_tables.specs.Stored.{caller_table, hold_table, is_of, of_table, sup_table, sysmod_table};
 ghost use Rattle.sql_writes.specs.Altering.{Alters, TakesRoom};
-ghost use Rattle.sql_writes.specs.Asking.{FindsAny};
+ghost use Rattle.sql_writes.specs.Asking.{Asks, FindsAny};
 ghost use Rattle.sql_writes.specs.Records.{record_gone};
 
 use crate::run::run;
@@ -22,8 +22,7 @@ pub(crate) fn has_rows_of<K: Key, T: Asked<K>, S: Alter>(
     key: &K,
 ) -> Result<bool, Error>
     ensures same { tx.new.conn.ghost_name ≡ tx.old.conn.ghost_name }
-    ensures changes { Alters S.Store tx.old.conn.now tx.new.conn.now result (λ stored. stored) }
-    ensures takes { TakesRoom S.Store tx.old.conn.now tx.new.conn.now result 0 (λ stored. Unit {0}) }
+    ensures asks { Asks S.Store tx.old.conn.now tx.new.conn.now result }
     ensures found { IfOk result (FindsAny S.Store tx.old.conn.now tx.new.conn.now T.rows (K.has key.now)) }
 {
     let params = key.params();

@@ -4,8 +4,7 @@ ghost use Rattle.std.specs.List.{AllByRecursion};
 ghost use Rattle.std.specs.List.Sorted.{IsPermutation};
 ghost use Rattle.catalogue.specs.Ids.{Ascend};
 ghost use Rattle.mcs_reader.specs.Id.{IsId};
-ghost use Rattle.sql_writes.specs.Altering.{Alters, TakesRoom};
-ghost use Rattle.sql_writes.specs.Asking.{FindsBare, FindsFree, FindsRows};
+ghost use Rattle.sql_writes.specs.Asking.{Asks, FindsBare, FindsFree, FindsRows};
 ghost use Rattle.sql_writes.specs.Records.{AreApart, ids_in};
 
 use crate::table::Bare;
@@ -18,8 +17,7 @@ use std::alloc::Global;
 /// Whether a table has rows.
 fn has_rows<T: Bare, S: Alter>(tx: &mut Transaction<'_, S>) -> Result<bool, Error>
     ensures same { tx.new.conn.ghost_name ≡ tx.old.conn.ghost_name }
-    ensures changes { Alters S.Store tx.old.conn.now tx.new.conn.now result (λ stored. stored) }
-    ensures takes { TakesRoom S.Store tx.old.conn.now tx.new.conn.now result 0 (λ stored. Unit {0}) }
+    ensures asks { Asks S.Store tx.old.conn.now tx.new.conn.now result }
     ensures found { IfOk result (FindsRows S.Store tx.old.conn.now tx.new.conn.now T.rows) }
 {
     let rows = tx.query_all(T::first(), &[])?;
@@ -30,8 +28,7 @@ fn has_rows<T: Bare, S: Alter>(tx: &mut Transaction<'_, S>) -> Result<bool, Erro
 /// Whether no record is catalogued, and no row stands of what one supersedes or requires under a condition.
 fn is_bare<S: Alter>(tx: &mut Transaction<'_, S>) -> Result<bool, Error>
     ensures same { tx.new.conn.ghost_name ≡ tx.old.conn.ghost_name }
-    ensures changes { Alters S.Store tx.old.conn.now tx.new.conn.now result (λ stored. stored) }
-    ensures takes { TakesRoom S.Store tx.old.conn.now tx.new.conn.now result 0 (λ stored. Unit {0}) }
+    ensures asks { Asks S.Store tx.old.conn.now tx.new.conn.now result }
     ensures bare { IfOk result (FindsBare S.Store tx.old.conn.now tx.new.conn.now) }
 {
     if has_rows::<Sysmods, S>(tx)? {
@@ -105,8 +102,7 @@ pub(crate) fn are_free<S: Alter>(
     changes: &[Change],
 ) -> Result<bool, Error>
     ensures same { tx.new.conn.ghost_name ≡ tx.old.conn.ghost_name }
-    ensures changes { Alters S.Store tx.old.conn.now tx.new.conn.now result (λ stored. stored) }
-    ensures takes { TakesRoom S.Store tx.old.conn.now tx.new.conn.now result 0 (λ stored. Unit {0}) }
+    ensures asks { Asks S.Store tx.old.conn.now tx.new.conn.now result }
     ensures free { IfOk result (FindsFree S.Store tx.old.conn.now tx.new.conn.now changes.now) }
 {
     if is_bare(tx)? {

@@ -8,7 +8,7 @@ ghost use Rattle.sql_tables.specs.Changes.{coming, is_under};
 ghost use Rattle.sql_tables.specs.Fit.{IsFitChange, IsHold};
 ghost use Rattle.sql_tables.specs.Rows.{caller_row, change_row, hold_row};
 ghost use Rattle.sql_tables.specs.Stored.{caller_table, change_table, hold_table, is_of, of_table};
-ghost use Rattle.sql_writes.specs.Altering.{Alters, InsertsAlike, RefusesExcused, TakesRoom, Turns};
+ghost use Rattle.sql_writes.specs.Altering.{Alters, RefusesExcused, TakesRoom, Turns};
 ghost use Rattle.sql_writes.specs.Making.{AreFit, IsOpened};
 ghost use Rattle.sql_writes.specs.Many.{AreNew, MeansBy, insert_alike, parameters_to};
 ghost use Rattle.sql_writes.specs.Records.{AreNewRecords, record_rows, values_of, with_sysmods};
@@ -17,8 +17,8 @@ ghost use Rattle.sql_writes.specs.Room.{are_short, is_short, is_short_change};
 
 use crate::params::{count_of, params_of};
 use crate::records::SysmodRow;
-use crate::run::{run, run_prepared};
-use crate::table::{self, ByOne, Joined, Several};
+use crate::run::run;
+use crate::table::{self, Joined, Several};
 use crate::texts;
 use crate::values::number_of;
 use bureau_store::CallerRow;
@@ -27,7 +27,7 @@ use mcs_reader::Id;
 use sql_rows::{All, Key, Sysmods, id_of};
 use sql_tables::{categories_value, date_value, hold_kind_value, optional_id_value};
 use sqlite::types::ValueRef;
-use sqlite::{Alter, Error, Statement, Transaction};
+use sqlite::{Alter, Error, Transaction};
 use std::alloc::Global;
 
 /// Things come that belong to a key, all by one statement.
@@ -50,28 +50,6 @@ pub(crate) fn rows<'a, K: Key, T: Several<K>, S: Alter>(
     let params = params_of::<K, T>(key, items);
     let count = count_of::<K, T>(items);
     run(tx, text, &params[..count])
-}
-
-/// Things come that belong to a key, by a statement that is prepared for so many.
-pub(crate) fn rows_by<'a, K: Key, T: Several<K>, S: Alter>(
-    tx: &mut Transaction<'_, S>,
-    statement: &Statement,
-    key: &'a K,
-    items: &'a [T::Item],
-) -> Result<(), Error>
-    requires count { T.counts (length items.now) }
-    requires means { InsertsAlike S.Store tx.old.conn.now statement.now.text
-        T.index K.parameters T.own (length items.now) }
-    ensures same { tx.new.conn.ghost_name ≡ tx.old.conn.ghost_name }
-    ensures changes { Alters S.Store tx.old.conn.now tx.new.conn.now result
-        (coming (of_table T.rows T.with_rows) (map (T.row_of key.now) items.now)) }
-    ensures takes { AllByRecursion T.is_short items.now
-        → TakesRoom S.Store tx.old.conn.now tx.new.conn.now result (length items.now)
-        (λ stored. AreNew (T.is_same key.now) (T.row_of key.now) items.now (T.rows stored)) }
-{
-    let params = params_of::<K, T>(key, items);
-    let count = count_of::<K, T>(items);
-    run_prepared(tx, statement, &params[..count])
 }
 
 /// A caller with its token. `opened` and `excused` speak of tables that were made with the callers before it.
@@ -162,5 +140,5 @@ pub(crate) fn joined<K: Key, T: Joined<K>, S: Alter>(
         (λ stored. list_any (K.has key.now) (T.rows stored) ≡ false) }
 {
     let item = [<T as Joined<K>>::joined(alloc, list)?];
-    rows::<K, T, S>(tx, <T as ByOne<K>>::insertion(), key, &item)
+    rows::<K, T, S>(tx, <T as Joined<K>>::insertion(), key, &item)
 }

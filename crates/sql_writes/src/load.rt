@@ -5,20 +5,20 @@ ghost use Rattle.catalogue.specs.declared.change.Change.{Change};
 ghost use Rattle.sql_tables.specs.Changes.{instead};
 ghost use Rattle.sql_tables.specs.Fit.{IsFitChange};
 ghost use Rattle.sql_tables.specs.Stored.{of_table};
-ghost use Rattle.sql_writes.specs.Altering.{Alters, InsertsAlike, TakesRoom};
+ghost use Rattle.sql_writes.specs.Altering.{Alters, TakesRoom};
 ghost use Rattle.sql_writes.specs.Many.{AreNewInPlace};
 ghost use Rattle.sql_writes.specs.Records.{AreNewMembers, AreNewRecords, record_rows, values_of, with_members, with_sysmods};
 ghost use Rattle.sql_writes.specs.Room.{is_short, is_short_change};
 
 use crate::insert;
 use crate::records::{SupRow, SysmodRow};
-use crate::table::{ByEights, ByOne, Joined, Leaves};
+use crate::table::{InParts, Joined, Leaves};
 use sql_rows::{All, Key, Sups};
-use sqlite::{Alter, Error, Statement, Transaction};
+use sqlite::{Alter, Error, Transaction};
 use std::alloc::Global;
 
-/// Things of a key come in place of those that stand there, eight by one statement.
-pub(crate) fn replace<K: Key, T: ByEights<K> + Leaves<K>, S: Alter>(
+/// Things of a key come in place of those that stand there, as many by one statement as that may have.
+pub(crate) fn replace<K: Key, T: InParts<K> + Leaves<K>, S: Alter>(
     tx: &mut Transaction<'_, S>,
     key: &K,
     items: &[T::Item],
@@ -34,35 +34,10 @@ pub(crate) fn replace<K: Key, T: ByEights<K> + Leaves<K>, S: Alter>(
     <T as Leaves<K>>::leave(tx, key)?;
     let mut at = 0;
     while at < items.len() {
-        let count = (items.len() - at).min(8);
-        let text = <T as ByEights<K>>::insertion(count);
+        let count = (items.len() - at).min(<T as InParts<K>>::most());
+        let text = <T as InParts<K>>::insertion(count);
         insert::rows::<K, T, S>(tx, text, key, &items[at..at + count])?;
         at += count;
-    }
-    Ok(())
-}
-
-/// The same, one by one by a statement that is prepared.
-pub(crate) fn replace_by<K: Key, T: ByOne<K> + Leaves<K>, S: Alter>(
-    tx: &mut Transaction<'_, S>,
-    statement: &Statement,
-    key: &K,
-    items: &[T::Item],
-) -> Result<(), Error>
-    requires means { InsertsAlike S.Store tx.old.conn.now statement.now.text T.index K.parameters T.own 1 }
-    ensures same { tx.new.conn.ghost_name ≡ tx.old.conn.ghost_name }
-    ensures changes { Alters S.Store tx.old.conn.now tx.new.conn.now result
-        (instead (of_table T.rows T.with_rows) (K.has key.now) (map (T.row_of key.now) items.now)) }
-    ensures takes { AllByRecursion T.is_short items.now
-        → AreNewInPlace (T.is_same key.now) (T.row_of key.now) items.now (K.has key.now) T.rows
-        → TakesRoom S.Store tx.old.conn.now tx.new.conn.now result
-        (length items.now) (λ stored. Unit {0}) }
-{
-    <T as Leaves<K>>::leave(tx, key)?;
-    let mut at = 0;
-    while at < items.len() {
-        insert::rows_by::<K, T, S>(tx, statement, key, &items[at..at + 1])?;
-        at += 1;
     }
     Ok(())
 }
@@ -103,7 +78,7 @@ pub(crate) fn records<S: Alter>(
     let mut at = 0;
     while at < sups.len() {
         let count = (sups.len() - at).min(8);
-        let text = <Sups as ByEights<All>>::insertion(count);
+        let text = <Sups as InParts<All>>::insertion(count);
         insert::rows::<All, Sups, S>(tx, text, &All, &sups[at..at + count])?;
         at += count;
     }

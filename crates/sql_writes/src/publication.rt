@@ -5,20 +5,18 @@ ghost use Rattle.mcs_reader.specs.Id.{IsId};
 ghost use Rattle.holddata.specs.declared.hold.HoldChange.TheVariants.{Put};
 ghost use Rattle.sql_tables.specs.Changes.{holds_changed, published};
 ghost use Rattle.sql_tables.specs.Fit.{IsFitChange, IsHold};
-ghost use Rattle.sql_writes.specs.Altering.{Alters, AltersWhere, InsertsAlike, TakesRoom};
+ghost use Rattle.sql_writes.specs.Altering.{Alters, AltersWhere, TakesRoom};
 ghost use Rattle.sql_writes.specs.Records.{AreApart, Begins, FreeIf, HasNoRest, IsApart, IsTogether, record_gone, record_rows, records_in, rest_count, rest_put, sups_of, values_of, with_members, with_sysmods};
 ghost use Rattle.sql_writes.specs.Room.{are_short, is_short_change, rows_of_change};
 
 use crate::free::are_free;
 use crate::records::{SupRow, SysmodRow, sup_rows, sysmod_rows};
-use crate::run::prepare;
-use crate::table::ByOne;
 use crate::{delete, insert, load};
 use catalogue::{Change, Sysmod};
 use holddata::{Hold, HoldChange};
 use mcs_reader::Id;
 use sql_rows::Conds;
-use sqlite::{Alter, Error, Statement, Transaction};
+use sqlite::{Alter, Error, Transaction};
 use std::alloc::Global;
 
 /// The hold comes in place of one with its key.
@@ -33,14 +31,8 @@ fn put_hold<S: Alter>(tx: &mut Transaction<'_, S>, hold: &Hold) -> Result<(), Er
     insert::hold(tx, hold)
 }
 
-/// What a change publishes beside the row of a record and those of what it supersedes. `conds` inserts into
-/// `sysmod_cond`.
-fn put_rest<S: Alter>(
-    tx: &mut Transaction<'_, S>,
-    conds: &Statement,
-    change: &Change,
-) -> Result<(), Error>
-    requires conds { InsertsAlike S.Store tx.old.conn.now conds.now.text 9 1 2 1 }
+/// What a change publishes beside the row of a record and those of what it supersedes.
+fn put_rest<S: Alter>(tx: &mut Transaction<'_, S>, change: &Change) -> Result<(), Error>
     ensures same { tx.new.conn.ghost_name ≡ tx.old.conn.ghost_name }
     ensures changes { Alters S.Store tx.old.conn.now tx.new.conn.now result
         (λ stored. rest_put stored change.now) }
@@ -50,7 +42,7 @@ fn put_rest<S: Alter>(
 {
     match change {
         Change::Whole(sysmod) => {
-            load::replace_by::<Id, Conds, S>(tx, conds, &sysmod.id, sysmod.conds.as_slice())
+            load::replace::<Id, Conds, S>(tx, &sysmod.id, sysmod.conds.as_slice())
         }
         Change::OfHold(HoldChange::Put(hold)) => put_hold(tx, hold),
         Change::OfHold(HoldChange::Release(key)) => delete::hold(tx, key),
@@ -98,17 +90,15 @@ fn put_rows<S: Alter>(
     load::records(tx, rows, sups)
 }
 
-/// A record comes in place of what stands there, or eight of them with the holds between them. `conds` inserts into
-/// `sysmod_cond`, and `free` says that nothing stands of them.
+/// A record comes in place of what stands there, or eight of them with the holds between them. `free` says that nothing
+/// stands of them.
 fn put_records<S: Alter>(
     alloc: Global,
     tx: &mut Transaction<'_, S>,
-    conds: &Statement,
     first: &Sysmod,
     changes: &[Change],
     free: bool,
 ) -> Result<(), Error>
-    requires conds { InsertsAlike S.Store tx.old.conn.now conds.now.text 9 1 2 1 }
     requires first { Begins first.now changes.now }
     requires count { (records_in changes.now ≡ 1) ⊎ (records_in changes.now ≡ 8) }
     requires apart { AreApart changes.now }
@@ -126,21 +116,19 @@ fn put_records<S: Alter>(
         if is_put(change, free) {
             continue;
         }
-        put_rest(tx, conds, change)?;
+        put_rest(tx, change)?;
     }
     Ok(())
 }
 
 /// One change, or eight records at once with the holds between them: what they publish comes in place of what stands
-/// there, or a hold goes. `conds` inserts into `sysmod_cond`, and `free` says that nothing stands of the records.
+/// there, or a hold goes. `free` says that nothing stands of the records.
 fn put_together<S: Alter>(
     alloc: Global,
     tx: &mut Transaction<'_, S>,
-    conds: &Statement,
     changes: &[Change],
     free: bool,
 ) -> Result<(), Error>
-    requires conds { InsertsAlike S.Store tx.old.conn.now conds.now.text 9 1 2 1 }
     requires together { IsTogether changes.now }
     ensures same { tx.new.conn.ghost_name ≡ tx.old.conn.ghost_name }
     ensures changes { AltersWhere S.Store tx.old.conn.now tx.new.conn.now result (FreeIf free changes.now)
@@ -150,8 +138,8 @@ fn put_together<S: Alter>(
         (sum_by rows_of_change changes.now) (FreeIf free changes.now) }
 {
     match &changes[0] {
-        Change::Whole(first) => put_records(alloc, tx, conds, first, changes, free),
-        Change::OfHold(_) => put_rest(tx, conds, &changes[0]),
+        Change::Whole(first) => put_records(alloc, tx, first, changes, free),
+        Change::OfHold(_) => put_rest(tx, &changes[0]),
     }
 }
 
@@ -264,11 +252,10 @@ pub(crate) fn put_changes<S: Alter>(
         (sum_by rows_of_change changes.now) (λ stored. Unit {0}) }
 {
     let free = are_free(alloc, tx, changes)?;
-    let conds = prepare(tx, <Conds as ByOne<Id>>::insertion())?;
     let mut at = 0;
     while at < changes.len() {
         let count = together(&changes[at..]);
-        put_together(alloc, tx, &conds, &changes[at..at + count], free)?;
+        put_together(alloc, tx, &changes[at..at + count], free)?;
         at += count;
     }
     Ok(())

@@ -1,13 +1,12 @@
 //! What is special to a table where its rows are written, one file a table: the texts and what they mean, and how a
 //! thing is a row.
-ghost use Rattle.std.specs.Prelude.{◌≡◌, ◌≤◌, ◌<◌, ◌+◌, ◌*◌, ◌∷◌, [], ℕ, Bool, IfOk, List, false, length, take, true};
+ghost use Rattle.std.specs.Prelude.{◌≡◌, ◌≤◌, ◌<◌, ◌+◌, ◌*◌, ◌∷◌, [], ℕ, Bool, IfOk, List, codes, false, length, take, true};
 ghost use Rattle.std.specs.List.{list_any};
 ghost use Rattle.sqlite.specs.Cast.{cast_row};
 ghost use Rattle.sqlite.specs.Tree.{Trees, put_row};
 ghost use Rattle.sqlite.specs.Values.{bound};
 ghost use Rattle.sqlite.specs.declared.types.Value.TheVariants.{Null};
 ghost use Rattle.sqlite_rules.specs.Keys.{are_unique};
-ghost use Rattle.sqlite_schema.specs.Rules.{references_fit};
 ghost use Rattle.sqlite_trees.specs.Tree.{with_tree};
 ghost use Rattle.sqlite_typing.specs.Types.{accepts_program};
 ghost use Rattle.sqlite_value.specs.Order.{Row as Values};
@@ -34,6 +33,7 @@ mod sysmod_sup;
 mod zone_head;
 mod zone_row;
 
+use crate::delete;
 use sql_rows::{Key, Table};
 use sql_tables::NoMemory;
 use sqlite::types::ValueRef;
@@ -53,40 +53,30 @@ pub trait Deletes<K: Key>: Table {
 
 /// A table that is asked whether it has rows of a key.
 pub trait Asked<K: Key>: Deletes<K> {
-    /// The name of the first column.
-    ghost name: { List ℕ };
-
-    /// The text that shows the first column of the rows of a key.
+    /// The text that shows the rowids of the rows of a key.
     fn question() -> &'static str
-        ensures { Reads bureau result.now (from_table Self.table.tree K.tests (1 ∷ []) []) (name ∷ [])
-            K.parameters };
-
-    /// The database takes each key in its tests.
-    ghost takes: { (key : K)
-        → accepts_program bureau [] (from_table Self.table.tree K.tests (1 ∷ []) []) (K.values key) ≡ true };
+        ensures { Reads bureau result.now (from_table Self.table.tree K.tests (0 ∷ []) [])
+            (codes "rowid" ∷ []) K.parameters };
 }
 
 /// A table that is asked whether it has rows at all.
 pub trait Bare: Table {
-    /// The name of the first column.
-    ghost name: { List ℕ };
-
-    /// The text that shows the first column of one row, if there is any.
+    /// The text that shows the rowid of one row, if there is any.
     fn first() -> &'static str
-        ensures { Reads bureau result.now (first_in Self.table.tree) (name ∷ []) 0 };
-
-    /// The database takes it.
-    ghost takes: { accepts_program bureau [] (first_in Self.table.tree) [] ≡ true };
+        ensures { Reads bureau result.now (first_in Self.table.tree) (codes "rowid" ∷ []) 0 };
 }
 
 /// A table whose rows of a key go before others come in their place, in the way that is fast for it.
-pub trait Leaves<K: Key>: Table {
-    /// They go.
+pub trait Leaves<K: Key>: Deletes<K> {
+    /// They go, whether there are any or not.
     fn leave<S: Alter>(tx: &mut Transaction<'_, S>, key: &K) -> Result<(), Error>
         ensures same { tx.new.conn.ghost_name ≡ tx.old.conn.ghost_name }
         ensures changes { Alters S.Store tx.old.conn.now tx.new.conn.now result
             (going (of_table Self.rows Self.with_rows) (K.has key.now)) }
-        ensures takes { TakesRoom S.Store tx.old.conn.now tx.new.conn.now result 0 (λ stored. Unit {0}) };
+        ensures takes { TakesRoom S.Store tx.old.conn.now tx.new.conn.now result 0 (λ stored. Unit {0}) }
+    {
+        delete::any_of::<K, Self, S>(tx, key)
+    }
 }
 
 /// A table into which things come that belong to a key, several by one statement.
@@ -147,37 +137,31 @@ pub trait Several<K: Key>: Table {
         → are_unique bureau.indexes
         (with_tree db Self.table.tree (put_row (with_next others (row_of key item)) others)) Self.table
         (with_next others (row_of key item) ∷ []) ≡ true };
-
-    /// The table refers to no other.
-    ghost referred: { (adds : Bool) → references_fit bureau Self.table adds false ≡ true };
 }
 
-/// A table into which up to eight rows come by one statement.
-pub trait ByEights<K: Key>: Several<K> {
+/// A table into which a list of things comes, so many by one statement.
+pub trait InParts<K: Key>: Several<K> {
+    /// How many at most.
+    ghost most: { ℕ };
+
+    /// How many at most.
+    fn most() -> usize
+        ensures most { result ≡ most }
+        ensures some { 0 < result };
+
     /// The text by which so many come: the key, and then each of them.
     fn insertion(count: usize) -> &'static str
         requires some { 0 < count }
-        requires few { count ≤ 8 }
+        requires few { count ≤ most }
         ensures { MeansBy bureau result.now (insert_alike Self.index K.parameters Self.own count)
             (parameters_to (K.parameters + Self.own * count)) };
 
     /// So many may come.
-    ghost eights: { (count : ℕ) → 0 < count → count ≤ 8 → Self.counts count };
-}
-
-/// A table into which rows come one by one.
-pub trait ByOne<K: Key>: Several<K> {
-    /// The text by which one comes: the key, and then the rest.
-    fn insertion() -> &'static str
-        ensures { MeansBy bureau result.now (insert_alike Self.index K.parameters Self.own 1)
-            (parameters_to (K.parameters + Self.own * 1)) };
-
-    /// One may come.
-    ghost one: { Self.counts 1 };
+    ghost may_come: { (count : ℕ) → 0 < count → count ≤ most → Self.counts count };
 }
 
 /// A table of which a key has one row, with a list that is written as one text.
-pub trait Joined<K: Key>: ByOne<K, Item = Vec<u8>> {
+pub trait Joined<K: Key>: Several<K, Item = Vec<u8>> {
     /// What the list has.
     type Part;
 
@@ -187,10 +171,18 @@ pub trait Joined<K: Key>: ByOne<K, Item = Vec<u8>> {
     /// The row of a key with a list.
     ghost row_with: { K → List Self.Part → Values };
 
+    /// The text by which the row comes: the key, and then the list.
+    fn insertion() -> &'static str
+        ensures { MeansBy bureau result.now (insert_alike Self.index K.parameters Self.own 1)
+            (parameters_to (K.parameters + Self.own * 1)) };
+
     /// A list as it is written.
     fn joined(alloc: Global, list: &[Self::Part]) -> Result<Vec<u8>, NoMemory>
         ensures row { IfOk result (λ made. (key : K) → Self.row_of key made ≡ row_with key list.now) }
         ensures short { IfOk result (λ made. is_short (text list.now) ≡ true → Self.is_short made) };
+
+    /// One may come.
+    ghost one: { Self.counts 1 };
 
     /// A row has the key of the table where it has this key.
     ghost alone: { (key : K) (made : _) → Self.is_same key made ≡ K.has key };

@@ -1,7 +1,5 @@
 //! The texts that insert several rows into one table at once.
-#![tactic(auto, unfolding(sqlite::specs::Listing::understood, sqlite_tied::specs::Compute::everything))]
-
-ghost use Rattle.std.specs.Prelude.{◌≡◌, ◌⊎◌, ◌<◌, ◌≤◌, ◌+◌, ◌*◌, ◌∷◌, []};
+ghost use Rattle.std.specs.Prelude.{◌≡◌, ◌⊎◌, ◌<◌, ◌≤◌, ◌+◌, ◌*◌};
 ghost use Rattle.sql_texts.specs.Schema.{bureau};
 ghost use Rattle.sql_writes.specs.Many.{MeansBy, insert_alike, parameters_to};
 
@@ -21,35 +19,61 @@ pub(crate) fn sysmods(count: usize) -> &'static str
     }
 }
 
+// Of one row, of two, and so on up to eight.
+const SUPS: [&str; 8] = [
+    "INSERT INTO sysmod_sup (id, member) VALUES (?1, ?2)",
+    "INSERT INTO sysmod_sup (id, member) VALUES (?1, ?2), (?3, ?4)",
+    "INSERT INTO sysmod_sup (id, member) VALUES (?1, ?2), (?3, ?4), (?5, ?6)",
+    "INSERT INTO sysmod_sup (id, member) VALUES (?1, ?2), (?3, ?4), (?5, ?6), (?7, ?8)",
+    "INSERT INTO sysmod_sup (id, member) VALUES (?1, ?2), (?3, ?4), (?5, ?6), (?7, ?8), \
+     (?9, ?10)",
+    "INSERT INTO sysmod_sup (id, member) VALUES (?1, ?2), (?3, ?4), (?5, ?6), (?7, ?8), \
+     (?9, ?10), (?11, ?12)",
+    "INSERT INTO sysmod_sup (id, member) VALUES (?1, ?2), (?3, ?4), (?5, ?6), (?7, ?8), \
+     (?9, ?10), (?11, ?12), (?13, ?14)",
+    "INSERT INTO sysmod_sup (id, member) VALUES (?1, ?2), (?3, ?4), (?5, ?6), (?7, ?8), \
+     (?9, ?10), (?11, ?12), (?13, ?14), (?15, ?16)",
+];
+
 /// So many rows of what records supersede: the record ?1 and a SYSMOD that it supersedes ?2, ?3 with ?4 and so on.
 pub(crate) fn sups(count: usize) -> &'static str
     requires some { 0 < count }
     requires few { count ≤ 8 }
-    ensures { MeansBy bureau result.now (insert_alike 4 0 2 count) (parameters_to (2 * count)) }
+    ensures { MeansBy bureau result.now (insert_alike 4 0 2 count) (parameters_to (0 + 2 * count)) }
 {
-    match count {
-        1 => "INSERT INTO sysmod_sup (id, member) VALUES (?1, ?2)",
-        2 => "INSERT INTO sysmod_sup (id, member) VALUES (?1, ?2), (?3, ?4)",
-        3 => "INSERT INTO sysmod_sup (id, member) VALUES (?1, ?2), (?3, ?4), (?5, ?6)",
-        4 => "INSERT INTO sysmod_sup (id, member) VALUES (?1, ?2), (?3, ?4), (?5, ?6), (?7, ?8)",
-        5 => {
-            "INSERT INTO sysmod_sup (id, member) VALUES (?1, ?2), (?3, ?4), (?5, ?6), (?7, ?8), \
-             (?9, ?10)"
-        }
-        6 => {
-            "INSERT INTO sysmod_sup (id, member) VALUES (?1, ?2), (?3, ?4), (?5, ?6), (?7, ?8), \
-             (?9, ?10), (?11, ?12)"
-        }
-        7 => {
-            "INSERT INTO sysmod_sup (id, member) VALUES (?1, ?2), (?3, ?4), (?5, ?6), (?7, ?8), \
-             (?9, ?10), (?11, ?12), (?13, ?14)"
-        }
-        _ => {
-            "INSERT INTO sysmod_sup (id, member) VALUES (?1, ?2), (?3, ?4), (?5, ?6), (?7, ?8), \
-             (?9, ?10), (?11, ?12), (?13, ?14), (?15, ?16)"
-        }
-    }
+    SUPS[count - 1]
 }
+
+/// One row of what a record requires under a condition: the record ?1, the function ?2 and what it asks for ?3.
+pub(crate) fn conds(count: usize) -> &'static str
+    requires some { 0 < count }
+    requires few { count ≤ 1 }
+    ensures { MeansBy bureau result.now (insert_alike 9 1 2 count) (parameters_to (1 + 2 * count)) }
+{
+    "INSERT INTO sysmod_cond (id, fmid, member) VALUES (?1, ?2, ?3)"
+}
+
+// Of one row, of two, and so on up to eight.
+const ZONE_ROWS: [&str; 8] = [
+    "INSERT INTO zone_row (client, zone, sysmod, state) VALUES (?1, ?2, ?3, ?4)",
+    "INSERT INTO zone_row (client, zone, sysmod, state) VALUES (?1, ?2, ?3, ?4), \
+     (?1, ?2, ?5, ?6)",
+    "INSERT INTO zone_row (client, zone, sysmod, state) VALUES (?1, ?2, ?3, ?4), \
+     (?1, ?2, ?5, ?6), (?1, ?2, ?7, ?8)",
+    "INSERT INTO zone_row (client, zone, sysmod, state) VALUES (?1, ?2, ?3, ?4), \
+     (?1, ?2, ?5, ?6), (?1, ?2, ?7, ?8), (?1, ?2, ?9, ?10)",
+    "INSERT INTO zone_row (client, zone, sysmod, state) VALUES (?1, ?2, ?3, ?4), \
+     (?1, ?2, ?5, ?6), (?1, ?2, ?7, ?8), (?1, ?2, ?9, ?10), (?1, ?2, ?11, ?12)",
+    "INSERT INTO zone_row (client, zone, sysmod, state) VALUES (?1, ?2, ?3, ?4), \
+     (?1, ?2, ?5, ?6), (?1, ?2, ?7, ?8), (?1, ?2, ?9, ?10), (?1, ?2, ?11, ?12), \
+     (?1, ?2, ?13, ?14)",
+    "INSERT INTO zone_row (client, zone, sysmod, state) VALUES (?1, ?2, ?3, ?4), \
+     (?1, ?2, ?5, ?6), (?1, ?2, ?7, ?8), (?1, ?2, ?9, ?10), (?1, ?2, ?11, ?12), \
+     (?1, ?2, ?13, ?14), (?1, ?2, ?15, ?16)",
+    "INSERT INTO zone_row (client, zone, sysmod, state) VALUES (?1, ?2, ?3, ?4), \
+     (?1, ?2, ?5, ?6), (?1, ?2, ?7, ?8), (?1, ?2, ?9, ?10), (?1, ?2, ?11, ?12), \
+     (?1, ?2, ?13, ?14), (?1, ?2, ?15, ?16), (?1, ?2, ?17, ?18)",
+];
 
 /// So many rows of the zone ?2 of the client ?1: the SYSMOD ?3 with its state ?4, ?5 with ?6 and so on.
 pub(crate) fn zone_rows(count: usize) -> &'static str
@@ -57,40 +81,5 @@ pub(crate) fn zone_rows(count: usize) -> &'static str
     requires few { count ≤ 8 }
     ensures { MeansBy bureau result.now (insert_alike 7 2 2 count) (parameters_to (2 + 2 * count)) }
 {
-    match count {
-        1 => "INSERT INTO zone_row (client, zone, sysmod, state) VALUES (?1, ?2, ?3, ?4)",
-        2 => {
-            "INSERT INTO zone_row (client, zone, sysmod, state) \
-             VALUES (?1, ?2, ?3, ?4), (?1, ?2, ?5, ?6)"
-        }
-        3 => {
-            "INSERT INTO zone_row (client, zone, sysmod, state) \
-             VALUES (?1, ?2, ?3, ?4), (?1, ?2, ?5, ?6), (?1, ?2, ?7, ?8)"
-        }
-        4 => {
-            "INSERT INTO zone_row (client, zone, sysmod, state) \
-             VALUES (?1, ?2, ?3, ?4), (?1, ?2, ?5, ?6), (?1, ?2, ?7, ?8), (?1, ?2, ?9, ?10)"
-        }
-        5 => {
-            "INSERT INTO zone_row (client, zone, sysmod, state) \
-             VALUES (?1, ?2, ?3, ?4), (?1, ?2, ?5, ?6), (?1, ?2, ?7, ?8), \
-             (?1, ?2, ?9, ?10), (?1, ?2, ?11, ?12)"
-        }
-        6 => {
-            "INSERT INTO zone_row (client, zone, sysmod, state) \
-             VALUES (?1, ?2, ?3, ?4), (?1, ?2, ?5, ?6), (?1, ?2, ?7, ?8), \
-             (?1, ?2, ?9, ?10), (?1, ?2, ?11, ?12), (?1, ?2, ?13, ?14)"
-        }
-        7 => {
-            "INSERT INTO zone_row (client, zone, sysmod, state) \
-             VALUES (?1, ?2, ?3, ?4), (?1, ?2, ?5, ?6), (?1, ?2, ?7, ?8), \
-             (?1, ?2, ?9, ?10), (?1, ?2, ?11, ?12), (?1, ?2, ?13, ?14), (?1, ?2, ?15, ?16)"
-        }
-        _ => {
-            "INSERT INTO zone_row (client, zone, sysmod, state) \
-             VALUES (?1, ?2, ?3, ?4), (?1, ?2, ?5, ?6), (?1, ?2, ?7, ?8), \
-             (?1, ?2, ?9, ?10), (?1, ?2, ?11, ?12), (?1, ?2, ?13, ?14), \
-             (?1, ?2, ?15, ?16), (?1, ?2, ?17, ?18)"
-        }
-    }
+    ZONE_ROWS[count - 1]
 }

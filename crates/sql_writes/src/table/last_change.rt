@@ -20,15 +20,9 @@ impl Deletes<Id> for LastChanges {
 }
 
 impl Asked<Id> for LastChanges {
-    ghost use Rattle.std.specs.Prelude.{codes, refl};
-
-    ghost name = { codes "caller" };
-
     fn question() -> &'static str {
-        "SELECT caller FROM last_change WHERE caller = ?1"
+        "SELECT rowid FROM last_change WHERE caller = ?1"
     }
-
-    ghost takes = { λ id. refl };
 }
 
 /// The text by which a last change comes, with the columns ?1 to ?3 in the order of the table.

@@ -1,7 +1,7 @@
 //! The table `received_list`: what a client has received.
 #![tactic(auto, unfolding(sqlite::specs::Listing::understood, sqlite_tied::specs::Compute::everything))]
 
-use super::{Asked, ByOne, Deletes, Joined, Leaves, Several};
+use super::{Asked, Deletes, Joined, Leaves, Several};
 use crate::delete;
 use mcs_reader::Id;
 use sql_rows::Received;
@@ -21,15 +21,9 @@ impl Deletes<Id> for Received {
 }
 
 impl Asked<Id> for Received {
-    ghost use Rattle.std.specs.Prelude.{codes, refl};
-
-    ghost name = { codes "client" };
-
     fn question() -> &'static str {
-        "SELECT client FROM received_list WHERE client = ?1"
+        "SELECT rowid FROM received_list WHERE client = ?1"
     }
-
-    ghost takes = { λ id. refl };
 }
 
 impl Leaves<Id> for Received {
@@ -39,7 +33,7 @@ impl Leaves<Id> for Received {
 }
 
 impl Several<Id> for Received {
-    ghost use Rattle.std.specs.Prelude.{◌≡◌, ◌≤◌, ◌∷◌, [], false, length, refl, true};
+    ghost use Rattle.std.specs.Prelude.{◌≡◌, ◌≤◌, ◌∷◌, [], length, refl};
     ghost use Rattle.sqlite_value.specs.declared.value.Value.TheVariants.{Text};
     ghost use Rattle.sql_texts.specs.Schema as schema;
     ghost use Rattle.sql_tables.specs.Stored.{is_of};
@@ -93,18 +87,6 @@ impl Several<Id> for Received {
 
     ghost unique = { λ db others client joined is here none. unique_by schema.received_list db others
         client [] (id_value client ∷ Text joined.items ∷ []) refl ((is, refl), tt) none };
-
-    ghost referred = { elim [ true ↦ refl | false ↦ refl ] };
-}
-
-impl ByOne<Id> for Received {
-    ghost use Rattle.std.specs.Prelude.{refl};
-
-    fn insertion() -> &'static str {
-        "INSERT INTO received_list (client, ids) VALUES (?1, ?2)"
-    }
-
-    ghost one = { refl };
 }
 
 impl Joined<Id> for Received {
@@ -119,10 +101,16 @@ impl Joined<Id> for Received {
 
     ghost row_with = { spec.received_row };
 
+    fn insertion() -> &'static str {
+        "INSERT INTO received_list (client, ids) VALUES (?1, ?2)"
+    }
+
     #[tactic(auto, using(crate::proofs::RoomFacts::text_short))]
     fn joined(alloc: Global, ids: &[Id]) -> Result<Vec<u8>, NoMemory> {
         joined_ids(alloc, ids)
     }
+
+    ghost one = { refl };
 
     ghost alone = { λ client joined. refl };
 }

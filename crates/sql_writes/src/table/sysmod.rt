@@ -19,31 +19,19 @@ impl Deletes<Id> for Sysmods {
 }
 
 impl Asked<Id> for Sysmods {
-    ghost use Rattle.std.specs.Prelude.{codes, refl};
-
-    ghost name = { codes "id" };
-
     fn question() -> &'static str {
-        "SELECT id FROM sysmod WHERE id = ?1"
+        "SELECT rowid FROM sysmod WHERE id = ?1"
     }
-
-    ghost takes = { λ id. refl };
 }
 
 impl Bare for Sysmods {
-    ghost use Rattle.std.specs.Prelude.{codes, refl};
-
-    ghost name = { codes "id" };
-
     fn first() -> &'static str {
-        "SELECT id FROM sysmod LIMIT 1"
+        "SELECT rowid FROM sysmod LIMIT 1"
     }
-
-    ghost takes = { refl };
 }
 
 impl Several<All> for Sysmods {
-    ghost use Rattle.std.specs.Prelude.{◌≡◌, ◌⊎◌, ◌∷◌, [], false, refl, true};
+    ghost use Rattle.std.specs.Prelude.{◌≡◌, ◌⊎◌, ◌∷◌, [], refl};
     ghost use Rattle.mcs_reader.specs.Id.{IsId};
     ghost use Rattle.sql_texts.specs.Schema as schema;
     ghost use Rattle.sql_tables.specs.InTrees.{columns_of};
@@ -98,6 +86,4 @@ impl Several<All> for Sysmods {
 
     ghost unique = { λ db others key row is here none. unique_by schema.sysmod db others
         row.id [] (values_of row) refl ((here, refl), tt) (none_of_text row.id here (columns_of others) none) };
-
-    ghost referred = { elim [ true ↦ refl | false ↦ refl ] };
 }

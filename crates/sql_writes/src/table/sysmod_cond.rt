@@ -1,8 +1,8 @@
 //! The table `sysmod_cond`: what a record requires under a condition.
 #![tactic(auto, unfolding(sqlite::specs::Listing::understood, sqlite_tied::specs::Compute::everything))]
 
-use super::{Asked, Bare, ByOne, Deletes, Leaves, Several};
-use crate::delete;
+use super::{Asked, Bare, Deletes, InParts, Leaves, Several};
+use crate::{delete, texts};
 use catalogue::CondNeed;
 use mcs_reader::Id;
 use sql_rows::{Conds, id_of};
@@ -20,27 +20,15 @@ impl Deletes<Id> for Conds {
 }
 
 impl Asked<Id> for Conds {
-    ghost use Rattle.std.specs.Prelude.{codes, refl};
-
-    ghost name = { codes "id" };
-
     fn question() -> &'static str {
-        "SELECT id FROM sysmod_cond WHERE id = ?1"
+        "SELECT rowid FROM sysmod_cond WHERE id = ?1"
     }
-
-    ghost takes = { λ id. refl };
 }
 
 impl Bare for Conds {
-    ghost use Rattle.std.specs.Prelude.{codes, refl};
-
-    ghost name = { codes "id" };
-
     fn first() -> &'static str {
-        "SELECT id FROM sysmod_cond LIMIT 1"
+        "SELECT rowid FROM sysmod_cond LIMIT 1"
     }
-
-    ghost takes = { refl };
 }
 
 impl Leaves<Id> for Conds {
@@ -50,7 +38,7 @@ impl Leaves<Id> for Conds {
 }
 
 impl Several<Id> for Conds {
-    ghost use Rattle.std.specs.Prelude.{◌≡◌, ◌∷◌, [], false, refl, true};
+    ghost use Rattle.std.specs.Prelude.{◌≡◌, ◌∷◌, [], refl};
     ghost use Rattle.mcs_reader.specs.Id.{IsId};
     ghost use Rattle.sql_tables.specs.Rows as spec;
     ghost use Rattle.sql_tables.specs.Values.{id_value};
@@ -106,16 +94,21 @@ impl Several<Id> for Conds {
     ghost unique = { λ db others id cond is here none. unique_by schema.sysmod_cond db others
         id (cond.fmid ∷ cond.need ∷ []) (spec.cond_row id cond) refl
         ((is, refl), ((here.0, refl), ((here.1, refl), tt))) none };
-
-    ghost referred = { elim [ true ↦ refl | false ↦ refl ] };
 }
 
-impl ByOne<Id> for Conds {
-    ghost use Rattle.std.specs.Prelude.{refl};
+// One by one: a connection keeps 64 texts compiled, and with more than one here it would have to compile others anew.
+impl InParts<Id> for Conds {
+    ghost use Rattle.std.proofs.Common.{le_antisymm};
 
-    fn insertion() -> &'static str {
-        "INSERT INTO sysmod_cond (id, fmid, member) VALUES (?1, ?2, ?3)"
+    ghost most = { 1 };
+
+    fn most() -> usize {
+        1
     }
 
-    ghost one = { refl };
+    fn insertion(count: usize) -> &'static str {
+        texts::conds(count)
+    }
+
+    ghost may_come = { λ count some few. le_antisymm few some };
 }

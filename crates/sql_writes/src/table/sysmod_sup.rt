@@ -1,7 +1,7 @@
 //! The table `sysmod_sup`: what a record supersedes.
 #![tactic(auto, unfolding(sqlite::specs::Listing::understood, sqlite_tied::specs::Compute::everything))]
 
-use super::{Asked, Bare, ByEights, Deletes, Several};
+use super::{Asked, Bare, Deletes, InParts, Several};
 use crate::records::SupRow;
 use crate::texts;
 use mcs_reader::Id;
@@ -19,31 +19,19 @@ impl Deletes<Id> for Sups {
 }
 
 impl Asked<Id> for Sups {
-    ghost use Rattle.std.specs.Prelude.{codes, refl};
-
-    ghost name = { codes "id" };
-
     fn question() -> &'static str {
-        "SELECT id FROM sysmod_sup WHERE id = ?1"
+        "SELECT rowid FROM sysmod_sup WHERE id = ?1"
     }
-
-    ghost takes = { λ id. refl };
 }
 
 impl Bare for Sups {
-    ghost use Rattle.std.specs.Prelude.{codes, refl};
-
-    ghost name = { codes "id" };
-
     fn first() -> &'static str {
-        "SELECT id FROM sysmod_sup LIMIT 1"
+        "SELECT rowid FROM sysmod_sup LIMIT 1"
     }
-
-    ghost takes = { refl };
 }
 
 impl Several<All> for Sups {
-    ghost use Rattle.std.specs.Prelude.{◌<◌, ◌≤◌, ◌∷◌, [], false, refl, true};
+    ghost use Rattle.std.specs.Prelude.{◌<◌, ◌≤◌, ◌∷◌, [], refl};
     ghost use Rattle.mcs_reader.specs.Id.{IsId};
     ghost use Rattle.sql_tables.specs.Stored.{is_of_both};
     ghost use Rattle.sql_writes.specs.Records.{member_values};
@@ -96,14 +84,18 @@ impl Several<All> for Sups {
 
     ghost unique = { λ db others key row is here none. unique_by schema.sysmod_sup db others
         row.id (row.member ∷ []) (member_values row) refl ((here.0, refl), ((here.1, refl), tt)) none };
-
-    ghost referred = { elim [ true ↦ refl | false ↦ refl ] };
 }
 
-impl ByEights<All> for Sups {
+impl InParts<All> for Sups {
+    ghost most = { 8 };
+
+    fn most() -> usize {
+        8
+    }
+
     fn insertion(count: usize) -> &'static str {
         texts::sups(count)
     }
 
-    ghost eights = { λ count some few. (some, few) };
+    ghost may_come = { λ count some few. (some, few) };
 }

@@ -1,13 +1,11 @@
 //! The table `zone_head`: that a client has a zone, and the patterns that it asks for in it.
 #![tactic(auto, unfolding(sqlite::specs::Listing::understood, sqlite_tied::specs::Compute::everything))]
 
-use super::{Asked, ByOne, Deletes, Joined, Leaves, Several};
-use crate::delete;
+use super::{Asked, Deletes, Joined, Leaves, Several};
 use mcs_reader::Id;
 use sql_rows::{Heads, Zone};
 use sql_tables::{NoMemory, joined_patterns};
 use sqlite::types::ValueRef;
-use sqlite::{Alter, Error, Transaction};
 use std::alloc::Global;
 use zone_lists::Pattern;
 
@@ -32,25 +30,15 @@ impl Deletes<Id> for Heads {
 }
 
 impl Asked<Zone> for Heads {
-    ghost use Rattle.std.specs.Prelude.{codes, refl};
-
-    ghost name = { codes "client" };
-
     fn question() -> &'static str {
-        "SELECT client FROM zone_head WHERE client = ?1 AND zone = ?2"
-    }
-
-    ghost takes = { λ key. refl };
-}
-
-impl Leaves<Zone> for Heads {
-    fn leave<S: Alter>(tx: &mut Transaction<'_, S>, key: &Zone) -> Result<(), Error> {
-        delete::any_of::<Zone, Heads, S>(tx, key)
+        "SELECT rowid FROM zone_head WHERE client = ?1 AND zone = ?2"
     }
 }
+
+impl Leaves<Zone> for Heads {}
 
 impl Several<Zone> for Heads {
-    ghost use Rattle.std.specs.Prelude.{◌≡◌, ◌≤◌, ◌∷◌, [], false, length, refl, true};
+    ghost use Rattle.std.specs.Prelude.{◌≡◌, ◌≤◌, ◌∷◌, [], length, refl};
     ghost use Rattle.sqlite_value.specs.declared.value.Value.TheVariants.{Text};
     ghost use Rattle.sql_texts.specs.Schema as schema;
     ghost use Rattle.sql_tables.specs.Stored.{is_of_both};
@@ -107,18 +95,6 @@ impl Several<Zone> for Heads {
     ghost unique = { λ db others key joined is here none. unique_by schema.zone_head db others
         key.client (key.zone ∷ []) (id_value key.client ∷ id_value key.zone ∷ Text joined.items ∷ []) refl
         ((is.0, refl), ((is.1, refl), tt)) none };
-
-    ghost referred = { elim [ true ↦ refl | false ↦ refl ] };
-}
-
-impl ByOne<Zone> for Heads {
-    ghost use Rattle.std.specs.Prelude.{refl};
-
-    fn insertion() -> &'static str {
-        "INSERT INTO zone_head (client, zone, patterns) VALUES (?1, ?2, ?3)"
-    }
-
-    ghost one = { refl };
 }
 
 impl Joined<Zone> for Heads {
@@ -132,10 +108,16 @@ impl Joined<Zone> for Heads {
 
     ghost row_with = { λ key. spec.head_row key.client key.zone };
 
+    fn insertion() -> &'static str {
+        "INSERT INTO zone_head (client, zone, patterns) VALUES (?1, ?2, ?3)"
+    }
+
     #[tactic(auto, using(crate::proofs::RoomFacts::text_short))]
     fn joined(alloc: Global, patterns: &[Pattern]) -> Result<Vec<u8>, NoMemory> {
         joined_patterns(alloc, patterns)
     }
+
+    ghost one = { refl };
 
     ghost alone = { λ key joined. refl };
 }

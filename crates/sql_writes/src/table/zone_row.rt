@@ -1,13 +1,12 @@
 //! The table `zone_row`: the SYSMODs of a client's zone with their states.
 #![tactic(auto, unfolding(sqlite::specs::Listing::understood, sqlite_tied::specs::Compute::everything))]
 
-use super::{ByEights, Deletes, Leaves, Several};
-use crate::{delete, texts};
+use super::{Deletes, InParts, Leaves, Several};
+use crate::texts;
 use mcs_reader::Id;
 use sql_rows::{Zone, ZoneRows, id_of};
 use sql_tables::state_value;
 use sqlite::types::ValueRef;
-use sqlite::{Alter, Error, Transaction};
 use zone_lists::ZoneRow;
 
 impl Deletes<Zone> for ZoneRows {
@@ -30,14 +29,10 @@ impl Deletes<Id> for ZoneRows {
     ghost accepts = { λ client. refl };
 }
 
-impl Leaves<Zone> for ZoneRows {
-    fn leave<S: Alter>(tx: &mut Transaction<'_, S>, key: &Zone) -> Result<(), Error> {
-        delete::any_of::<Zone, ZoneRows, S>(tx, key)
-    }
-}
+impl Leaves<Zone> for ZoneRows {}
 
 impl Several<Zone> for ZoneRows {
-    ghost use Rattle.std.specs.Prelude.{◌<◌, ◌≤◌, ◌∷◌, [], false, refl, true};
+    ghost use Rattle.std.specs.Prelude.{◌<◌, ◌≤◌, ◌∷◌, [], refl};
     ghost use Rattle.sql_tables.specs.Fit.{IsZoneRow};
     ghost use Rattle.sql_tables.specs.Rows as spec;
     ghost use Rattle.sql_tables.specs.Values.{id_value, state_order, state_value};
@@ -96,14 +91,18 @@ impl Several<Zone> for ZoneRows {
     ghost unique = { λ db others key row is here none. unique_by schema.zone_row db others
         key.client (key.zone ∷ row.sysmod ∷ []) (spec.zone_row key.client key.zone row) refl
         ((is.0, refl), ((is.1, refl), ((here.sysmod, refl), tt))) none };
-
-    ghost referred = { elim [ true ↦ refl | false ↦ refl ] };
 }
 
-impl ByEights<Zone> for ZoneRows {
+impl InParts<Zone> for ZoneRows {
+    ghost most = { 8 };
+
+    fn most() -> usize {
+        8
+    }
+
     fn insertion(count: usize) -> &'static str {
         texts::zone_rows(count)
     }
 
-    ghost eights = { λ count some few. (some, few) };
+    ghost may_come = { λ count some few. (some, few) };
 }

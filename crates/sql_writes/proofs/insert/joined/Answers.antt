@@ -10,7 +10,7 @@ use Rattle.sql_writes.proofs.TakeFacts.{takes_alone}
 use Rattle.sql_writes.proofs.insert.joined.Goals as goal
 
 pub rows-requires : goal.rows-requires
-rows-requires g c = record { count = g.met.T.ByOne.one; means = c.insertion.ensures }
+rows-requires g c = record { count = g.met.T.Joined.one; means = c.insertion.ensures }
 
 pub returns-clause-changes : goal.returns-clause-changes
 returns-clause-changes g c =

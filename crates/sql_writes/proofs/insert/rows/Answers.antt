@@ -24,4 +24,4 @@ returns-clause-takes g c short =
     rows_take t.index t.table t.rows t.with_rows t.stands (s.row_of key) k.parameters s.own (k.values key) s.values_of c.args.items.now (take c.count_of-count.result c.params_of-params.result) given
     (g.met.T.Several.given key c.args.items.now c.requires.count) _ _ c.args.text.now _ (λ clean. c.requires.means) c.run.ensures.ran
     (λ item. s.is_fit item × s.is_short item) (s.is_same key) (λ db others item both none. g.met.T.Several.unique db others key item is both.0 none)
-    g.met.T.Several.referred (λ item both. g.met.T.Several.fits key item is both.0 both.1) (fit_so s.is_fit s.is_short c.args.items.now c.params_of-params.ensures.fit short) c.run.ensures.fails
+    (λ item both. g.met.T.Several.fits key item is both.0 both.1) (fit_so s.is_fit s.is_short c.args.items.now c.params_of-params.ensures.fit short) c.run.ensures.fails

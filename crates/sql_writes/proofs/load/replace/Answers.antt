@@ -27,8 +27,9 @@ loop-at-init g c =
 
 pub insertion-text-requires : goal.insertion-text-requires
 insertion-text-requires g c =
-    let is = part_is c.loop-at.at (length c.args.items.now) 8 c.min-count.result c.loop-at-test.true (omega arith) c.min-count.ensures in
-    record { some = is.0; few = is.1 }
+    let is = part_is c.loop-at.at (length c.args.items.now) c.most.result c.min-count.result c.loop-at-test.true c.most.ensures.some c.min-count.ensures in
+    let few = is.1 in
+    record { some = is.0; few = omega (arith, few, c.most.ensures.most) }
 
 pub rows-requires : goal.rows-requires
 rows-requires g c =
@@ -36,13 +37,13 @@ rows-requires g c =
     let s = g.T.Several in
     let k = g.K.Key in
     let all = c.args.items.now in
-    let is = part_is c.loop-at.at (length all) 8 c.min-count.result c.loop-at-test.true (omega arith) c.min-count.ensures in
+    let is = part_is c.loop-at.at (length all) c.most.result c.min-count.result c.loop-at-test.true c.most.ensures.some c.min-count.ensures in
     let low = is.2 in
     let long = part_length c.loop-at.at c.min-count.result all low in
     let some = is.0 in
     let few = is.1 in
     record {
-      count = g.met.T.ByEights.eights (length (part c.loop-at.at c.min-count.result all)) (omega (arith, long, some)) (omega (arith, long, few));
+      count = g.met.T.InParts.may_come (length (part c.loop-at.at c.min-count.result all)) (omega (arith, long, some)) (omega (arith, long, few, c.most.ensures.most));
       means = subst (λ n. MeansBy bureau c.insertion-text.result.now (insert_alike t.index k.parameters s.own n) (parameters_to (k.parameters + s.own * n))) (sym long) c.insertion-text.ensures;
     }
 
@@ -60,7 +61,7 @@ loop-at-preserved g c =
     let s = g.T.Several in
     let key = c.args.key.now in
     let all = c.args.items.now in
-    let is = part_is c.loop-at.at (length all) 8 c.min-count.result c.loop-at-test.true (omega arith) c.min-count.ensures in
+    let is = part_is c.loop-at.at (length all) c.most.result c.min-count.result c.loop-at-test.true c.most.ensures.some c.min-count.ensures in
     let low = is.2 in
     record {
       same = c.rows.ensures.same ∙ c.loop-at.invariant.same;
@@ -91,7 +92,7 @@ returns-in_err-rows-clause-takes g c short new =
     let s = g.T.Several in
     let key = c.args.key.now in
     let all = c.args.items.now in
-    let is = part_is c.loop-at.at (length all) 8 c.min-count.result c.loop-at-test.true (omega arith) c.min-count.ensures in
+    let is = part_is c.loop-at.at (length all) c.most.result c.min-count.result c.loop-at-test.true c.most.ensures.some c.min-count.ensures in
     let low = is.2 in
     stopped_first _ _ c.in_err-rows.field-0.0 _ (c.loop-at.at + c.min-count.result) _ (λ stored. Unit {0}) (λ stored. Unit {0}) c.from_residual-in_err-rows.ensures.1 (λ stored u. tt)
     (parts_take (s.row_of key) t.rows (λ things. coming (of_table t.rows t.with_rows) (map (s.row_of key) things)) (come_so t.index t.table t.rows t.with_rows t.stands (s.row_of key)) (going (of_table t.rows t.with_rows) (g.K.Key.has key)) all (s.is_same key) (new_gone t.index t.table t.rows t.with_rows t.stands (s.row_of key) (s.is_same key) (g.K.Key.has key) all new) c.loop-at.at c.min-count.result _ _ _ (Err c.in_err-rows.field-0.0) low

@@ -4,7 +4,6 @@ use Rattle.std.proofs.lemmas.List.{take_all}
 use Rattle.sql_tables.specs.Changes.{published}
 use Rattle.sql_tables.specs.Fit.{IsFitChange}
 use Rattle.sql_tables.specs.Stored.{Stored}
-use Rattle.sql_state.proofs.StopFacts.{was_clean}
 use Rattle.sql_writes.specs.Records.{FreeIf, record_gone, rest_count, rest_put, with_members, with_sysmods}
 use Rattle.sql_writes.specs.Room.{is_short_change}
 use Rattle.sql_writes.proofs.BoundFacts.{one_more}
@@ -29,7 +28,6 @@ loop-change-init g c =
           (where_alike _ _ _ Fits (λ stored. with_members c.as_slice-2.result.now (with_sysmods c.as_slice.result.now (fold record_gone stored all))) base
           (λ stored free. ap₂ (λ some made. with_members some (with_sysmods made (fold record_gone stored all))) c.as_slice-2.ensures.value c.as_slice.ensures.value) c.in_ok-put_rows.ensures.changes);
       takes = λ fits short. takes_as _ _ (Ok tt) Fits (omega (arith, as_many, members)) (c.in_ok-put_rows.ensures.takes fits short);
-      clean = λ clean. was_clean _ _ _ c.put_rows.ensures.changes.changes.survives clean;
     }
 
 pub returns-in_err-rows-clause-changes : goal.returns-in_err-rows-clause-changes
@@ -69,7 +67,6 @@ loop-change-preserved-then-is_put g c =
       changes = where_alike _ _ (Ok tt) Fits (λ stored. fold rest_put (base stored) (take at all)) (λ stored. fold rest_put (base stored) (take (at + 1) all))
           (λ stored free. rest_skipped base (λ stored. conds_kept all sups rows stored) all at one c.loop-change-test.true c.change-item.is bare stored (free found)) c.loop-change.invariant.changes;
       takes = λ fits short. takes_as _ _ (Ok tt) Fits (omega (arith, counted, none)) (c.loop-change.invariant.takes fits short);
-      clean = c.loop-change.invariant.clean;
     }
 
 pub loop-change-preserved : goal.loop-change-preserved
@@ -93,7 +90,6 @@ loop-change-preserved g c =
           (takes_where _ _ _ tt (Ok tt) (λ stored. fold rest_put (base stored) (take at all)) (before + sum_by rest_count (take at all)) (rest_count one) Fits (λ stored. Unit {0}) (λ stored free. tt)
           c.loop-change.invariant.changes (c.loop-change.invariant.takes fits short) c.put_rest.ensures.changes.survives
           (c.in_ok-put_rest.ensures.takes (element IsFitChange all at one c.loop-change-test.true c.change-item.is fits) (element_passes is_short_change all at one c.loop-change-test.true c.change-item.is short)));
-      clean = λ clean. c.loop-change.invariant.clean (was_clean _ _ _ c.put_rest.ensures.changes.survives clean);
     }
 
 pub returns-in_err-put_rest-clause-takes : goal.returns-in_err-put_rest-clause-takes

@@ -2,7 +2,6 @@ use Rattle.std.proofs.Common.{◌≡◌, ◌+◌, Ok, length, take}
 use Rattle.std.specs.Prelude.{fold, sum_by, true}
 use Rattle.std.specs.List.{AllByRecursion, list_all}
 use Rattle.sqlite.specs.Held.{state}
-use Rattle.sqlite.specs.State.{HasCleanDisk}
 use Rattle.sqlite.specs.declared.error.Error.{Error}
 use Rattle.sql_tables.specs.Fit.{IsFitChange}
 use Rattle.sql_writes.specs.Altering.{ChangesWhere}
@@ -18,5 +17,4 @@ invariant-loop-change g l = record {
       (λ stored. fold rest_put (with_members l.sups.items (with_sysmods l.rows.items (fold record_gone stored l.changes))) (take l.change-index l.changes));
   takes : AllByRecursion IsFitChange l.changes → list_all is_short_change l.changes ≡ true → Takes {Answer = Unit {0}} (state g.S.Store l.fn.tx.conn.now) (state g.S.Store l.tx.conn.now) (Ok tt)
       ((length l.rows.items + length l.sups.items) + sum_by rest_count (take l.change-index l.changes)) (FreeIf l.free l.changes);
-  clean : HasCleanDisk (state g.S.Store l.tx.conn.now) → HasCleanDisk (state g.S.Store l.fn.tx.conn.now);
 }

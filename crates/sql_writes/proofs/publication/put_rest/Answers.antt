@@ -27,8 +27,8 @@ returns-in-Whole-clause-takes g c fits short =
     let conds = c.as_slice.result.now in
     let is = c.as_slice.ensures.value in
     let old = state g.S.Store c.args.tx.now.conn.now in
-    let new = state g.S.Store c.replace_by.new.tx.conn.now in
-    subst (λ (change : Change). Takes {Answer = Unit {0}} old new c.replace_by.result (rest_count change) (λ stored. Unit {0})) (sym c.in-Whole.is)
-    (subst (λ (all : List CondNeed). Takes {Answer = Unit {0}} old new c.replace_by.result (length all) (λ stored. Unit {0})) is
-    (c.replace_by.ensures.takes (every (λ cond. Unit {0}) (λ cond. tt) conds)
+    let new = state g.S.Store c.replace.new.tx.conn.now in
+    subst (λ (change : Change). Takes {Answer = Unit {0}} old new c.replace.result (rest_count change) (λ stored. Unit {0})) (sym c.in-Whole.is)
+    (subst (λ (all : List CondNeed). Takes {Answer = Unit {0}} old new c.replace.result (length all) (λ stored. Unit {0})) is
+    (c.replace.ensures.takes (every (λ cond. Unit {0}) (λ cond. tt) conds)
     (conds_new sysmod.id conds (subst (AllByRecursion IsCond) (sym is) fit.conds) (subst CondsAscend (sym is) fit.conds_ascend))))
