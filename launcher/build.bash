@@ -19,10 +19,11 @@ end_all() {
     prover= waiting=
 }
 
-# Leaves nothing of the build but what rt keeps. What rt began ends a moment after it, and may have written meanwhile.
+# Leaves nothing of the build but what rt keeps. To remove the rest takes up to a minute, for which nobody waits. What rt began ends
+# a moment after it, and may have written meanwhile.
 clear_up() {
     end_all
-    [ -z "$room" ] || rm -rf "$room" 2>/dev/null || { sleep 1 && rm -rf "$room"; }
+    [ -z "$room" ] || setsid sh -c 'rm -rf "$1" || { sleep 1 && rm -rf "$1"; }' sh "$room" </dev/null >/dev/null 2>&1 9>&- &
     room=
 }
 
