@@ -1,10 +1,12 @@
 -- What is found for a plan has all that is said of its members.
-use Rattle.std.proofs.Common.{◌≡◌, ◌∙◌, ℕ, List, Option, Some, map, sym, ap, subst}
+use Rattle.std.proofs.Common.{◌≡◌, ◌∙◌, ℕ, List, Option, Some, map, sym, ap, subst, true}
 use Rattle.std.specs.List.{Contains, filter_map, flat_map}
 use Rattle.lemmas.proofs.ListFacts.{flat_inside, made_from, map_found, map_from, map_inside}
 use Rattle.zone_lists.specs.declared.zones.ZoneRow.{ZoneRow}
 use Rattle.catalogue.specs.Content.{Content}
 use Rattle.catalogue.proofs.IdFacts.{in_order_has}
+use Rattle.supersede.specs.Reach.{has}
+use Rattle.supersede.proofs.ReachFacts.{has_from}
 use Rattle.chains.specs.Candidates.{candidates_unless_there}
 use Rattle.chains.specs.United.{united}
 use Rattle.report_holds.specs.Holds.{HoldLists}
@@ -95,3 +97,10 @@ module _ (content : Content) (rows : List ZoneRow) (holds : List HoldLists) (pla
 -- of each of some SYSMODs, of which those are
 pub found_among : (content : Content) (rows : List ZoneRow) (findings : FindingLists) (ids some : List (List ℕ)) → AreFoundOf content rows findings ids → ((id : List ℕ) → Contains some id → Contains ids id) → AreFoundOf content rows findings some
 found_among content rows findings ids some found inside = record { so = found.so; each = λ id here. found.each id (inside id here) }
+
+-- what was looked up of one of those that are known
+pub looked_up : {A : Type 0} {values : List A} {found : A} (ids known : List (List ℕ)) (id : List ℕ) (f : List ℕ → A) → ((f : List ℕ → A) → values ≡ map f ids → has ids id ≡ true → found ≡ f id)
+    → ids ≡ known → values ≡ map f known → Contains known id → found ≡ f id
+looked_up ids known id f look same are inside =
+    let P : List (List ℕ) → Type 0 = λ l. Contains l id in
+    look f (are ∙ ap (map f) (sym same)) (has_from ids id (subst P (sym same) inside))

@@ -23,7 +23,7 @@ use std::collections::BTreeSet;
 use supersede::Zone;
 
 /// What becomes of a hold.
-#[derive(Clone, Copy, Debug)]
+#[derive(Clone, Copy)]
 pub(crate) enum Fate {
     /// This resolver is chosen.
     Resolved(Id),
@@ -34,7 +34,7 @@ pub(crate) enum Fate {
 }
 
 /// A hold, with what becomes of it.
-#[derive(Clone, Copy, Debug)]
+#[derive(Clone, Copy)]
 pub(crate) struct Placed {
     pub(crate) hold: HoldOn,
     pub(crate) fate: Fate,
@@ -182,78 +182,65 @@ pub(crate) fn placed_holds(alloc: Global, holds: &[Placed]) -> Result<PlacedHold
 fn resolved_in(alloc: Global, holds: &[Placed]) -> Result<Vec<ChosenResolver>, NoMemory>
     ensures { IfOk result (λ found. found.items ≡ Plans.resolved_in holds.now) }
 {
-    let mut found = Vec::new(alloc);
-    for one in holds {
-        put_resolved(&mut found, one)?;
-    }
-    Ok(found)
+    holds.iter().filter_map(if_resolved).collect(alloc)
 }
 
-fn put_resolved(found: &mut Vec<ChosenResolver>, one: &Placed) -> Result<(), NoMemory>
-    ensures { OnOk result (found.new.items
-        ≡ found.old.items ++ cons_option (Plans.if_resolved one.now.hold one.now.fate) []) }
+fn if_resolved(one: &Placed) -> Option<ChosenResolver>
+    ensures { result ≡ Plans.if_resolved one.now.hold one.now.fate }
 {
-    if let Fate::Resolved(resolver) = one.fate {
-        found.push(ChosenResolver {
-            hold: one.hold,
-            resolver,
-        })?;
+    match one.fate {
+        Fate::Resolved(resolver) => Some(with_resolver(one, resolver)),
+        Fate::Held(_) => None,
+        Fate::Unresolved => None,
     }
-    Ok(())
 }
 
 // The holds of which no resolver is GOOD and one is HELD, each with the one that is chosen.
 fn held_in(alloc: Global, holds: &[Placed]) -> Result<Vec<ChosenResolver>, NoMemory>
     ensures { IfOk result (λ found. found.items ≡ Plans.held_in holds.now) }
 {
-    let mut found = Vec::new(alloc);
-    for one in holds {
-        put_held(&mut found, one)?;
-    }
-    Ok(found)
+    holds.iter().filter_map(if_held).collect(alloc)
 }
 
-fn put_held(found: &mut Vec<ChosenResolver>, one: &Placed) -> Result<(), NoMemory>
-    ensures { OnOk result (found.new.items
-        ≡ found.old.items ++ cons_option (Plans.if_held one.now.hold one.now.fate) []) }
+fn if_held(one: &Placed) -> Option<ChosenResolver>
+    ensures { result ≡ Plans.if_held one.now.hold one.now.fate }
 {
-    if let Fate::Held(resolver) = one.fate {
-        found.push(ChosenResolver {
-            hold: one.hold,
-            resolver,
-        })?;
+    match one.fate {
+        Fate::Resolved(_) => None,
+        Fate::Held(resolver) => Some(with_resolver(one, resolver)),
+        Fate::Unresolved => None,
     }
-    Ok(())
 }
 
-/// The resolvers of some holds, in their order.
-pub(crate) fn resolvers_of(alloc: Global, holds: &[ChosenResolver]) -> Result<Vec<Id>, NoMemory>
-    ensures { IfOk result (λ ids. ids.items ≡ map (λ one. one.resolver) holds.now) }
+fn with_resolver(one: &Placed, resolver: Id) -> ChosenResolver
+    ensures { result ≡ record { hold = one.now.hold; resolver = resolver } }
 {
-    let mut ids = Vec::with_capacity(alloc, holds.len())?;
-    for one in holds {
-        ids.push(one.resolver)?;
+    ChosenResolver {
+        hold: one.hold,
+        resolver,
     }
-    Ok(ids)
 }
 
 // The holds of which no resolver is GOOD or HELD.
 fn unresolved_in(alloc: Global, holds: &[Placed]) -> Result<Vec<HoldOn>, NoMemory>
     ensures { IfOk result (λ found. found.items ≡ Plans.unresolved_in holds.now) }
 {
-    let mut found = Vec::new(alloc);
-    for one in holds {
-        put_unresolved(&mut found, one)?;
-    }
-    Ok(found)
+    holds.iter().filter_map(if_unresolved).collect(alloc)
 }
 
-fn put_unresolved(found: &mut Vec<HoldOn>, one: &Placed) -> Result<(), NoMemory>
-    ensures { OnOk result (found.new.items
-        ≡ found.old.items ++ cons_option (Plans.if_unresolved one.now.hold one.now.fate) []) }
+fn if_unresolved(one: &Placed) -> Option<HoldOn>
+    ensures { result ≡ Plans.if_unresolved one.now.hold one.now.fate }
 {
-    if let Fate::Unresolved = one.fate {
-        found.push(one.hold)?;
+    match one.fate {
+        Fate::Resolved(_) => None,
+        Fate::Held(_) => None,
+        Fate::Unresolved => Some(one.hold),
     }
-    Ok(())
+}
+
+/// The resolvers of some holds, in their order.
+pub(crate) fn resolvers_of(alloc: Global, holds: &[ChosenResolver]) -> Result<Vec<Id>, NoMemory>
+    ensures { IfOk result (λ ids. ids.items ≡ map (λ one. one.resolver) holds.now) }
+{
+    holds.iter().map(|one| one.resolver).collect(alloc)
 }

@@ -1,6 +1,0 @@
-use Rattle.std.proofs.Common.{◌≡◌, take}
-use Rattle.zone_plans.specs.Plans.{unresolved_in}
-use Rattle.zone_plans.proofs.placing.unresolved_in.Given as goal
-
-abbrev pub invariant-loop-one : goal.invariant-loop-one
-invariant-loop-one l = l.found.items ≡ unresolved_in (take l.one-index l.holds)
