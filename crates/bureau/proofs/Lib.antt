@@ -7,6 +7,7 @@ pub mod ProperFacts
 pub mod PublicationFacts
 pub mod SeenFacts
 pub mod ShownFacts
+pub mod TextFacts
 pub mod ChangeFacts
 pub mod QuestionFacts
 pub mod RowsFacts

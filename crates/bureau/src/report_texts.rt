@@ -1,9 +1,7 @@
 //! The texts that are made from what is published, for a zone: reports, plans and verdicts.
-ghost use Rattle.std.specs.Prelude.{◌≡◌, IfOk};
 ghost use Rattle.holddata.specs.HoldBook.{IsInKeyOrder};
 ghost use Rattle.catalogue.specs.Ids.{Ascend};
-ghost use Rattle.catalogue.specs.View.{MayAsk, Tells};
-ghost use Rattle.catalogue.specs.declared.fault.SourceFault.TheVariants.{Device};
+ghost use Rattle.bureau.specs.Reading.{TellsText};
 ghost use Rattle.bureau.specs.Texts.{chain_text_from, err_json_from, err_report_from, missing_json_from, missing_report_from};
 ghost use Rattle.bureau.specs.Wanted.{text_from};
 
@@ -34,12 +32,9 @@ pub(crate) fn report_text<P: Published, J: Judge<P>>(
 ) -> Result<Vec<u8>, SourceFault>
     requires received { Ascend received.now }
     requires holds { IsInKeyOrder holds.now }
-    ensures asks { MayAsk P.content_view Device source.old source.new result }
-    ensures text { IfOk result (λ text. Tells P.content_view source.old source.new
-        (λ content. J.is_right judge.old content → text.items
-        ≡ text_from report wanted content zone.now installed.now received.now patterns.now holds.now)) }
-    ensures right { Tells P.content_view source.old source.new
-        (λ content. J.is_right judge.old content → J.is_right judge.new content) }
+    ensures { TellsText P.content_view J.is_right source.old source.new judge.old judge.new result
+        (λ content. text_from report wanted content
+        zone.now installed.now received.now patterns.now holds.now) }
 {
     match report {
         Report::ErrSysmods => match wanted {
@@ -80,12 +75,8 @@ fn err_report<P: Published, J: Judge<P>>(
     holds: &[Hold],
 ) -> Result<Vec<u8>, SourceFault>
     requires received { Ascend received.now }
-    ensures asks { MayAsk P.content_view Device source.old source.new result }
-    ensures text { IfOk result (λ text. Tells P.content_view source.old source.new
-        (λ content. J.is_right judge.old content
-        → text.items ≡ err_report_from content zone.now installed.now received.now holds.now)) }
-    ensures right { Tells P.content_view source.old source.new
-        (λ content. J.is_right judge.old content → J.is_right judge.new content) }
+    ensures { TellsText P.content_view J.is_right source.old source.new judge.old judge.new result
+        (λ content. err_report_from content zone.now installed.now received.now holds.now) }
 {
     let rows = err_rows(alloc, source, judge, installed, received, holds)?;
     Ok(err_text(alloc, zone, &rows)?)
@@ -103,12 +94,8 @@ fn err_report_json<P: Published, J: Judge<P>>(
 ) -> Result<Vec<u8>, SourceFault>
     requires received { Ascend received.now }
     requires holds { IsInKeyOrder holds.now }
-    ensures asks { MayAsk P.content_view Device source.old source.new result }
-    ensures text { IfOk result (λ text. Tells P.content_view source.old source.new
-        (λ content. J.is_right judge.old content
-        → text.items ≡ err_json_from content zone.now installed.now received.now holds.now)) }
-    ensures right { Tells P.content_view source.old source.new
-        (λ content. J.is_right judge.old content → J.is_right judge.new content) }
+    ensures { TellsText P.content_view J.is_right source.old source.new judge.old judge.new result
+        (λ content. err_json_from content zone.now installed.now received.now holds.now) }
 {
     let rows = err_rows(alloc, source, judge, installed, received, holds)?;
     err_json(alloc, source, zone, holds, &rows)
@@ -126,12 +113,8 @@ fn missing_report<P: Published, J: Judge<P>>(
     holds: &[Hold],
 ) -> Result<Vec<u8>, SourceFault>
     requires received { Ascend received.now }
-    ensures asks { MayAsk P.content_view Device source.old source.new result }
-    ensures text { IfOk result (λ text. Tells P.content_view source.old source.new
-        (λ content. J.is_right judge.old content → text.items
-        ≡ missing_report_from content zone.now installed.now received.now patterns.now holds.now)) }
-    ensures right { Tells P.content_view source.old source.new
-        (λ content. J.is_right judge.old content → J.is_right judge.new content) }
+    ensures { TellsText P.content_view J.is_right source.old source.new judge.old judge.new result
+        (λ content. missing_report_from content zone.now installed.now received.now patterns.now holds.now) }
 {
     let rows = missing_rows(alloc, source, judge, installed, received, patterns, holds)?;
     Ok(missing_text(alloc, zone, &rows)?)
@@ -150,12 +133,8 @@ fn missing_report_json<P: Published, J: Judge<P>>(
 ) -> Result<Vec<u8>, SourceFault>
     requires received { Ascend received.now }
     requires holds { IsInKeyOrder holds.now }
-    ensures asks { MayAsk P.content_view Device source.old source.new result }
-    ensures text { IfOk result (λ text. Tells P.content_view source.old source.new
-        (λ content. J.is_right judge.old content → text.items
-        ≡ missing_json_from content zone.now installed.now received.now patterns.now holds.now)) }
-    ensures right { Tells P.content_view source.old source.new
-        (λ content. J.is_right judge.old content → J.is_right judge.new content) }
+    ensures { TellsText P.content_view J.is_right source.old source.new judge.old judge.new result
+        (λ content. missing_json_from content zone.now installed.now received.now patterns.now holds.now) }
 {
     let rows = missing_rows(alloc, source, judge, installed, received, patterns, holds)?;
     missing_json(alloc, source, zone, holds, &rows)
@@ -170,12 +149,8 @@ pub(crate) fn chain_text<P: Published, J: Judge<P>>(
     installed: &Zone,
     sysmod: &Id,
 ) -> Result<Vec<u8>, SourceFault>
-    ensures asks { MayAsk P.content_view Device source.old source.new result }
-    ensures text { IfOk result (λ text. Tells P.content_view source.old source.new
-        (λ content. J.is_right judge.old content
-        → text.items ≡ chain_text_from content zone.now installed.now sysmod.now)) }
-    ensures right { Tells P.content_view source.old source.new
-        (λ content. J.is_right judge.old content → J.is_right judge.new content) }
+    ensures { TellsText P.content_view J.is_right source.old source.new judge.old judge.new result
+        (λ content. chain_text_from content zone.now installed.now sysmod.now) }
 {
     let verdict = judge.verdict(alloc, source, installed, sysmod)?;
     plan_json(alloc, source, zone, sysmod, &verdict)

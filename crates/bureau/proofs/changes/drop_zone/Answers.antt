@@ -1,7 +1,6 @@
 use Rattle.std.proofs.Common.{refl, sym, ◌∙◌, ap}
 use Rattle.bureau_store.specs.Tables.{zone_named}
 use Rattle.bureau_store.specs.Effect.{zone_dropped}
-use Rattle.bureau_store.specs.declared.caller.Caller.TheVariants.{Client}
 use Rattle.bureau.specs.Call as call
 use Rattle.bureau.specs.Outcome.{accepted}
 use Rattle.bureau.specs.declared.outcome.Effect.TheVariants.{ZoneDropped}

@@ -2,7 +2,6 @@ use Rattle.std.proofs.Common.{refl, sym, ◌∙◌, ap, subst}
 use Rattle.zone_lists.specs.PatternList.{patterns_of}
 use Rattle.bureau_store.specs.Tables.{zone_named}
 use Rattle.bureau_store.specs.Effect.{patterns_put}
-use Rattle.bureau_store.specs.declared.caller.Caller.TheVariants.{Client}
 use Rattle.bureau.specs.Call as call
 use Rattle.bureau.specs.Outcome.{accepted, said}
 use Rattle.bureau.specs.Bodies.{list_said, patterns_in}
