@@ -17,12 +17,12 @@ use Rattle.connections.specs.declared.rounds.RoundFault.{RoundFault}
 use Rattle.connections.proofs.CallFacts.{asked_in, free_slots, nothing_answered, nothing_called}
 use Rattle.bureau_sql.specs.Files.{HoldTables, HoldTrees, HoldsEarlier, HoldsStore}
 use Rattle.bureau_sql.specs.SqlState.{SqlState}
-use Rattle.bureau_sql.specs.SqlView.{IsAtRest, IsOurStore, shown, sql_view}
+use Rattle.bureau_sql.specs.SqlView.{IsOurStore, shown, sql_view}
 use Rattle.bureau_sql.proofs.FilesFacts.{earlier_found, store_found}
+use Rattle.catalogue.specs.View.{Goes}
 use Rattle.chain_cache.specs.Cache.{CacheLists, IsRightFor}
 use Rattle.faults.specs.declared.any.AnyFault.{AnyFault}
-use Rattle.sql_state.specs.Ours.{AreOurs, IsOurs, held_by}
-use Rattle.sql_state.specs.Reading.{OnlyReads}
+use Rattle.sql_state.specs.Ours.{IsOurs, held_by}
 use Rattle.sql_state.proofs.StopFacts.{was_clean}
 use Rattle.sql_tables.specs.InTrees.{stored_in}
 use Rattle.sql_tables.specs.Stored.{tables_of}
@@ -30,21 +30,21 @@ use Rattle.sql_tables.proofs.ChangeFacts.{tables_in_order}
 use Rattle.sqlite_disk.specs.declared.Disk as disk
 use Rattle.sqlite_store.specs.FileStore.{view}
 use Rattle.sqlite_store.specs.declared.store.FileStore.{FileStore}
-use Rattle.sqlite_trees.specs.Tree.{Trees}
 use Rattle.sqlite_trees.specs.View.{IsClean}
 use Rattle.sqlite_wal.specs.Recovery.{Image}
-use Rattle.sqlite.specs.Files.{HoldsDatabase, file_state, over_files}
+use Rattle.sqlite.specs.Files.{file_state, over_files}
 use Rattle.sqlite.specs.Held.{Held}
 use Rattle.sqlite.specs.State.{HasCleanDisk}
 use Rattle.store_runs.specs.Desk.{HasOpened, of_store}
 use Rattle.store_runs.specs.Ended.{HasEnded, HasFound, IsEndOf, IsLeftOver}
-use Rattle.store_runs.specs.Keeping.{EndsWell, HasNoTables, KeepsEarlier, Leaves, TellsOnly}
+use Rattle.store_runs.specs.Keeping.{EndsWell, KeepsEarlier, Leaves, TellsOnly}
 use Rattle.bureau_program.specs.Served.{HasFailed, IsServedFrom, KeepsServed, MayFollow}
 use Rattle.bureau_program.specs.Replay.{IsAlwaysRight}
 use Rattle.bureau_program.specs.Serving.{IsServeOutput, IsServedOver, Session, desk_ends, desk_over, file_ends, free_in, store_ends}
 use Rattle.store_runs.specs.declared.ended.Ended.{Ended}
 use Rattle.store_runs.specs.declared.ended.Ended.TheVariants.{Nothing, Left, Closed}
 use Rattle.bureau_program.proofs.OpensFacts.{serve_faults}
+use Rattle.store_runs.proofs.CallersFacts.{database_left, read_left}
 use Rattle.store_runs.proofs.EndFacts.{left_of}
 use Rattle.store_runs.proofs.StayFacts.{earlier_stays, kept_earlier, kept_tables}
 
@@ -156,26 +156,6 @@ module _ {D : Type 0} {g : disk.Ghosts D} (from : Image) (before : Tables) (hold
         let store : HoldsStore left this = record { trees = it.0; held = it.1; ours = ours.0 it.0 it.2; tables = refl } in
         let r : (this : Tables) × HoldsStore left this × (this ≡ before) = (this, store, rests has.opened this (it.0, it.2, refl)) in r)
 
-  -- where the store was refused, and only read
-  pub refused_from : (found : Held (FileStore D g)) → HasFound from found → IsAtRest (file_state found) → (conn : Held (FileStore D g)) → OnlyReads (file_state found) (file_state conn)
-      → (last : FileStore D g) → HasEnded conn last → IsClean (view last) → (left : Image) → Leaves from (Closed last) left → HoldTables left (λ this. this ≡ before)
-  refused_from found finds rests conn reads last ends still left may =
-      let clean = was_clean (file_state found) (file_state conn) (λ trees. ⊥) reads.survives (ends.clean still) in
-      let is_open = (finds.opened clean).0.is_open in
-      let there = finds_store found finds clean in
-      ∥∥₁_map (left_of from conn last ends still left may) (λ it.
-      let same : it.0 ≡ (file_state found).committed.trees = elim (reads.survives.crash (ends.clean still) it.0 it.2) [
-        | inl was ↦ rests it.0 is_open was
-        | inr none ↦ absurd none
-      ] in
-      let store : HoldsStore left before = record {
-        trees = it.0;
-        held = it.1;
-        ours = subst AreOurs (sym same) there.0.rows;
-        tables = ap (λ trees. tables_of (stored_in trees)) same ∙ there.1;
-      } in
-      let r : (this : Tables) × HoldsStore left this × (this ≡ before) = (before, store, refl) in r)
-
 -- ---- wherever a run ends
 
 -- a connection was made, and ended
@@ -187,18 +167,26 @@ module _ {D : Type 0} {g : disk.Ghosts D} (session : Session) (from : Image) (fo
   closed_clean : (closing : SqlState (FileStore D g)) → left ≡ closing.conn → HasCleanDisk (shown over_files closing)
   closed_clean closing is = subst (λ (conn : Held (FileStore D g)). HasCleanDisk (file_state conn)) is (ends.clean still)
 
+  -- a desk served these rounds, from free slots on
+  kept_rounds : (outcome : Option AnyFault) (cache : CacheLists) → IsAlwaysRight cache → (opened closing : SqlState (FileStore D g)) → HasOpened over_files (file_state found) opened
+      → left ≡ closing.conn → (cache_after : CacheLists) (after : Slots) → Goes (bureau_view (sql_view over_files) IsRightFor) (desk_over opened cache) (desk_over closing cache_after)
+      → (rounds : List Entry) → AreRounds (bureau_view (sql_view over_files) IsRightFor) (desk_over opened cache) (desk_over closing cache_after) rounds (free_in session) after
+      → AreLogged session.log session.log_after (HasFailed outcome) rounds → Follows closing cache_after outcome (told_in rounds)
+      → IsServedFrom before session.log session.log_after outcome (Leaves from (Closed last))
+  kept_rounds outcome cache right opened closing has is cache_after after goes rounds served logged follows =
+      let closed = closed_clean closing is in
+      let clean = goes.clean closed in
+      served_from from before holds found finds opened has clean cache cache_after right closing closed session.log session.log_after
+      rounds (free_in session) after (free_slots session.most_open) served (goes.ours (ours from before holds found finds opened has clean) closed) outcome logged follows left is last ends still
+
   kept_all : kept_over None (λ old new. (desk_ends over_files session old new).served)
   unfolding kept_over
   kept_all over =
       let by = over.did.1 in
       let does = by.did in
       let did = does.did in
-      let closed = closed_clean over.closing over.after_is in
-      let opened = does.goes.clean closed in
-      served_from from before holds found finds over.opened over.has_opened opened by.cache does.cache_after by.is_new.right over.closing closed session.log session.log_after
-      did.rounds (free_in session) does.after (free_slots session.most_open) did.served
-      (does.goes.ours (ours from before holds found finds over.opened over.has_opened opened) closed) None (inl did.logged)
-      (follows_sound over.closing does.cache_after None (told_in did.rounds) did.sound) left over.after_is last ends still
+      kept_rounds None by.cache by.is_new.right over.opened over.closing over.has_opened over.after_is does.cache_after does.after does.goes did.rounds did.served (inl did.logged)
+      (follows_sound over.closing does.cache_after None (told_in did.rounds) did.sound)
 
   kept_some : (fault : AnyFault) (why : RoundFault) → kept_over (Some fault) (λ old new. (desk_ends over_files session old new).halted why)
   unfolding kept_over
@@ -206,12 +194,8 @@ module _ {D : Type 0} {g : disk.Ghosts D} (session : Session) (from : Image) (fo
       let by = over.did.1 in
       let does = by.did in
       let did = does.did in
-      let closed = closed_clean over.closing over.after_is in
-      let opened = does.goes.clean closed in
-      served_from from before holds found finds over.opened over.has_opened opened by.cache does.cache_after by.is_new.right over.closing closed session.log session.log_after
-      did.rounds (free_in session) does.after (free_slots session.most_open) did.served
-      (does.goes.ours (ours from before holds found finds over.opened over.has_opened opened) closed) (Some fault) (inl did.logged)
-      (follows_sound over.closing does.cache_after (Some fault) (told_in did.rounds) did.sound) left over.after_is last ends still
+      kept_rounds (Some fault) by.cache by.is_new.right over.opened over.closing over.has_opened over.after_is does.cache_after does.after does.goes did.rounds did.served (inl did.logged)
+      (follows_sound over.closing does.cache_after (Some fault) (told_in did.rounds) did.sound)
 
   kept_until : (fault : AnyFault) → fault ≡ of_store Device → kept_over (Some fault) (λ old new. (desk_ends over_files session old new).failed)
   unfolding kept_over
@@ -221,15 +205,11 @@ module _ {D : Type 0} {g : disk.Ghosts D} (session : Session) (from : Image) (fo
       let did = does.did in
       let told = did.first ++ did.last ∷ [] in
       let rounds = did.earlier ++ round_of did.shown did.left told ∷ last_showing does.after ∷ [] in
-      let closed = closed_clean over.closing over.after_is in
-      let opened = does.goes.clean closed in
       let logged = subst (λ (told : List Event). Logs session.log session.log_after (did.earlier ++ round_of did.shown did.left told ∷ last_showing does.after ∷ []))
       (sym (append_assoc did.first (did.last ∷ []) did.rest)) did.logged in
-      served_from from before holds found finds over.opened over.has_opened opened by.cache does.cache_after by.is_new.right over.closing closed session.log session.log_after
-      rounds (free_in session) does.after (free_slots session.most_open) did.whole
-      (does.goes.ours (ours from before holds found finds over.opened over.has_opened opened) closed) (Some fault)
+      kept_rounds (Some fault) by.cache by.is_new.right over.opened over.closing over.has_opened over.after_is does.cache_after does.after does.goes rounds did.whole
       (inr (ap Some device, (did.earlier, did.shown, did.left, told, did.rest, does.after, refl, logged)))
-      (follows_failed over.closing does.cache_after fault (told_in rounds) device) left over.after_is last ends still
+      (follows_failed over.closing does.cache_after fault (told_in rounds) device)
 
   kept_unserved : (fault : AnyFault) → kept_over (Some fault) (λ old new. (desk_ends over_files session old new).unserved)
   unfolding kept_over
@@ -242,7 +222,7 @@ module _ {D : Type 0} {g : disk.Ghosts D} (session : Session) (from : Image) (fo
       → IsServedFrom before session.log session.log_after (Some fault) (Leaves from (Closed last))
   kept_refused fault refused did =
       nothing_served before session.log session.log_after (Some fault) (Leaves from (Closed last)) did.3
-      (refused_from from before holds found finds did.0 left did.1 last ends still)
+      (read_left from [] found left finds last ends refused (did.0, did.1, did.2) still before holds)
 
 -- a store of version 1 is not opened, so it is only read
 module _ {D : Type 0} {g : disk.Ghosts D} (session : Session) (from : Image) (found left : Held (FileStore D g)) (finds : HasFound from found)
@@ -270,15 +250,7 @@ module _ {D : Type 0} {g : disk.Ghosts D} (session : Session) (from : Image) (fo
       not_earlier before holds over.opened over.has_opened (closing_clean still over.opened is)
 
   earlier_read : (refused : StoreFault) → (store_ends over_files session found left).refused refused → KeepsEarlier from (Closed last)
-  earlier_read refused did = earlier_stays from (Closed last) (λ now. ⊥) (λ trees holds still image may.
-      let clean = was_clean (file_state found) (file_state left) (λ trees. ⊥) did.1.survives (ends.clean still) in
-      let is_open = (finds.opened clean).0.is_open in
-      ∥∥₁_map (left_of from left last ends still image may) (λ it.
-      let same : it.0 ≡ (file_state found).committed.trees = elim (did.1.survives.crash (ends.clean still) it.0 it.2) [
-        | inl was ↦ did.0 it.0 is_open was
-        | inr none ↦ absurd none
-      ] in
-      let r : (now : Trees) × HoldsDatabase image now × ((now ≡ trees) ⊎ (HasNoTables trees × ⊥)) = (it.0, it.1, inl (same ∙ (finds.found clean).holds trees holds)) in r))
+  earlier_read refused did = earlier_stays from (Closed last) (λ now. ⊥) (λ trees holds still. database_left from [] found left finds last ends refused (did.0, did.1, did.2) still trees holds)
 
 module _ {D : Type 0} {g : disk.Ghosts D} (session : Session) (from : Image) where
   closed_so : (last : FileStore D g) (outcome : Option AnyFault) (port : ℕ) (old new : Option (List ℕ)) → IsServeOutput (file_ends session from (Closed last)) outcome port old new

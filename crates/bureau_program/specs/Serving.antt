@@ -11,6 +11,7 @@ use Rattle.bureau_store.specs.declared.fault.StoreFault.TheVariants as store
 use Rattle.bureau.specs.Answering.{bureau_view}
 use Rattle.bureau.specs.Parts.{Parts}
 use Rattle.connections.specs.Items.{Slots}
+use Rattle.connections.specs.Memory.{IsWithin}
 use Rattle.connections.specs.Rounds.{AreAllServed, AreServedSoFar, EndsInFailure, Log}
 use Rattle.connections.specs.declared.rounds.Halt.{Halt}
 use Rattle.connections.specs.declared.rounds.Halt.TheVariants as halt
@@ -33,6 +34,7 @@ use Rattle.run_parts.specs.ProgramFault.{of_program}
 use Rattle.bureau_program.specs.Replay.{IsAlwaysRight}
 use Rattle.store_runs.specs.declared.ended.Ended.{Ended}
 use Rattle.run_parts.specs.declared.fault.ProgramFault.TheVariants.{NotListening, NotWritten, Memory}
+use Rattle.bureau_program.specs.declared.serving.Prepared.{Prepared}
 use Rattle.bureau_program.specs.declared.serving.Service.{Service}
 
 -- where the desk listens
@@ -77,6 +79,13 @@ module _ {Store : Type 0} (view : View Store Tables) (log log_after : Log) (slot
 pub record IsNewCache (room : ℕ) (cache : CacheLists) : Type 0 where
   pub right : IsAlwaysRight cache
   pub room_is : 1 ≤ room → room ≤ 65536 → cache.capacity ≡ room
+
+-- Serves private contracts alone: what a desk has before anybody comes is a new cache, free slots, and room for four of the largest bodies.
+pub record IsPrepared (service : Service) (prepared : Prepared) : Type 0 where
+  pub cache : IsNewCache service.cache prepared.cache
+  pub free : prepared.connections.slots.items ≡ replicate service.most_open None
+  pub limit : prepared.connections.shares.limit ≡ 268435456
+  pub within : IsWithin prepared.connections
 
 -- that was done with a store by a desk with a new cache
 pub record ByDesk {Store : Type 0} (room : ℕ) (Does : CacheLists → Store → Store → Type 0) (old new : Store) : Type 0 where

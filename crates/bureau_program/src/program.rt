@@ -45,14 +45,17 @@ pub fn run<S: Surroundings, D: Start, I: Read, O: Write, E: Write>(
         Ok(words) => line_of(alloc, words.as_slice()),
         Err(fault) => Err(fault),
     };
-    answer(surroundings, alloc, line, start, input, output, errors)
+    let done = answer(surroundings, alloc, &line, start, input, output, errors);
+    // By a call, which is proved once. At the end of the scope each text of each command would be let go here.
+    drop(line);
+    done
 }
 
 // Does what a line asks for.
 fn answer<S: Surroundings, D: Start, I: Read, O: Write, E: Write>(
     surroundings: &mut S,
     alloc: Global,
-    line: Result<Line, LineFault>,
+    line: &Result<Line, LineFault>,
     start: D,
     input: &mut I,
     output: &mut O,
@@ -62,7 +65,7 @@ fn answer<S: Surroundings, D: Start, I: Read, O: Write, E: Write>(
         (found_in (S.known_file surroundings.old) (S.known_store surroundings.old)
         (S.known_port surroundings.old) (S.is_over surroundings.new)
         (S.log surroundings.old) (S.log surroundings.new))
-        (image_at D.Start) line
+        (image_at D.Start) line.now
         (I.remaining input.old) (I.remaining input.new)
         (outputs_of O.contents E.contents output.old output.new errors.old errors.new)
         result.0 result.1 }
@@ -80,7 +83,7 @@ fn answer<S: Surroundings, D: Start, I: Read, O: Write, E: Write>(
             },
         ) => {
             let (callers, files) = (callers.as_str(), files.as_slice());
-            let status = do_replay(surroundings, alloc, cache, callers, files, output, errors);
+            let status = do_replay(surroundings, alloc, *cache, callers, files, output, errors);
             (status, Ended::Nothing)
         }
         Ok(Line::Init { store, callers }) => {
@@ -98,11 +101,11 @@ fn answer<S: Surroundings, D: Start, I: Read, O: Write, E: Write>(
             },
         ) => {
             let service = Service {
-                port,
-                cache,
-                connections,
-                most_open,
-                log,
+                port: *port,
+                cache: *cache,
+                connections: *connections,
+                most_open: *most_open,
+                log: *log,
             };
             let store = store.as_str();
             run_serve(surroundings, alloc, service, store, start, output, errors)
@@ -112,17 +115,17 @@ fn answer<S: Surroundings, D: Start, I: Read, O: Write, E: Write>(
         }
         Ok(Line::ErrSysmods { files }) => {
             let report = Report::ErrSysmods;
-            let status = do_report(surroundings, alloc, report, &files, input, output, errors);
+            let status = do_report(surroundings, alloc, report, files, input, output, errors);
             (status, Ended::Nothing)
         }
         Ok(Line::MissingFix { files }) => {
             let report = Report::MissingFix;
-            let status = do_report(surroundings, alloc, report, &files, input, output, errors);
+            let status = do_report(surroundings, alloc, report, files, input, output, errors);
             (status, Ended::Nothing)
         }
         Ok(Line::Chain { sysmod, files }) => {
             let sysmod = sysmod.as_str();
-            let status = do_chain(surroundings, alloc, sysmod, &files, input, output, errors);
+            let status = do_chain(surroundings, alloc, sysmod, files, input, output, errors);
             (status, Ended::Nothing)
         }
         Ok(Line::Callers { store, callers }) => {

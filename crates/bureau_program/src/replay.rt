@@ -109,8 +109,14 @@ fn serve_rows(
     ensures fault { IfErr result IsNotServed }
 {
     let conn = database_in_memory(alloc)?;
-    let judge = cache_of(alloc, cache, keys)?;
-    serve_over(alloc, conn, judge, rows, files)
+    match cache_of(alloc, cache, keys) {
+        Ok(judge) => serve_over(alloc, conn, judge, rows, files),
+        Err(_) => {
+            // By a call, which is proved once. At the end of the scope each list in it would be let go here.
+            drop(conn);
+            Err(AnyFault::from(ProgramFault::Memory))
+        }
+    }
 }
 
 // The same over an empty database, where its files return what was written to them, and by any judge.

@@ -4,7 +4,7 @@ ghost use Rattle.std.specs.Io.KnownBytes.{Appends};
 ghost use Rattle.run_parts.specs.Outputs.{fault_in, outputs_of};
 ghost use Rattle.bureau_program.specs.Program.{IsServe, found_in};
 ghost use Rattle.connections.specs.Memory.{IsWithin};
-ghost use Rattle.bureau_program.specs.Serving.{IsNewCache, IsNotListening, IsServeOutput, IsServeRun, IsUnheard, HaltsBy, ServesAll, desk_ends, fault_of_halt, listening_text, session_of, store_ends};
+ghost use Rattle.bureau_program.specs.Serving.{IsNewCache, IsNotListening, IsPrepared, IsServeOutput, IsServeRun, IsUnheard, HaltsBy, ServesAll, desk_ends, fault_of_halt, listening_text, session_of, store_ends};
 ghost use Rattle.sqlite_wal.specs.Files.{image_at};
 
 use crate::cache::cache_of;
@@ -155,11 +155,7 @@ fn announce<S: Surroundings, W: Write>(
     service: Service,
     writer: &mut W,
 ) -> Result<Prepared, AnyFault>
-    ensures cache { IfOk result (λ prepared. IsNewCache service.cache prepared.cache) }
-    ensures free { IfOk result (λ prepared.
-        prepared.connections.slots.items ≡ replicate service.most_open None) }
-    ensures limit { IfOk result (λ prepared. prepared.connections.shares.limit ≡ 268435456) }
-    ensures within { IfOk result (λ prepared. IsWithin prepared.connections) }
+    ensures prepared { IfOk result (IsPrepared service) }
     ensures line { OnOk result (Appends (W.contents writer.old) (W.contents writer.new)
         (listening_text service.port)) }
     ensures port { OnOk result (S.known_port surroundings.old service.port service.most_open service.log) }
@@ -170,7 +166,11 @@ fn announce<S: Surroundings, W: Write>(
     let prepared = prepare(surroundings, alloc, service)?;
     match listen_and_tell(surroundings, alloc, service, writer) {
         Ok(()) => Ok(prepared),
-        Err(fault) => Err(fault),
+        Err(fault) => {
+            // By a call, which is proved once. At the end of the scope each list in it would be let go here.
+            drop(prepared);
+            Err(fault)
+        }
     }
 }
 
@@ -200,11 +200,7 @@ fn prepare<S: Surroundings>(
     alloc: Global,
     service: Service,
 ) -> Result<Prepared, AnyFault>
-    ensures cache { IfOk result (λ prepared. IsNewCache service.cache prepared.cache) }
-    ensures free { IfOk result (λ prepared.
-        prepared.connections.slots.items ≡ replicate service.most_open None) }
-    ensures limit { IfOk result (λ prepared. prepared.connections.shares.limit ≡ 268435456) }
-    ensures within { IfOk result (λ prepared. IsWithin prepared.connections) }
+    ensures prepared { IfOk result (IsPrepared service) }
     ensures fault { IfErr result IsNotListening }
 {
     // The cache is the largest, and made last: what stands before a call that may fail is let go there too.

@@ -1,6 +1,7 @@
-use Rattle.std.proofs.Common.{List, Ok, ℕ, refl, subst, sym, string_bytes, ap, ◌∙◌}
+use Rattle.std.proofs.Common.{rules, ◌≡◌, List, Ok, ℕ, refl, subst, sym, string_bytes}
 use Rattle.std.proofs.KnownBytes.{Keeps-refl}
 use Rattle.sqlite_wal.specs.Files.{image_at}
+use Rattle.command_line.specs.declared.line.Line.TheVariants.{Callers, Check, Init, Migrate, Serve}
 use Rattle.bureau_program.specs.Program.{Found, IsAnswered, IsServe, found_in}
 use Rattle.run_parts.specs.Outputs.{Outputs, outputs_of}
 use Rattle.bureau_program.specs.declared.serving.Service.{Service}
@@ -17,7 +18,8 @@ returns-in-Ok-Init g c =
     let input = g.I.Read.remaining c.args.input.now in
     let outputs : Outputs =
     outputs_of g.O.Write.contents g.E.Write.contents c.args.output.now c.do_init.new.output c.args.errors.now c.do_init.new.errors in
-    subst (λ line. IsAnswered of (image_at g.D.Start) line input input outputs c.do_init.result.0 c.do_init.result.1) (sym (c.in-Ok-Init.is ∙ ap Ok c.in-Ok-Init.field-0-is)) (
+    let is : c.args.line.now ≡ Ok (Init c.in-Ok-Init.store c.in-Ok-Init.callers) = search rules in
+    subst (λ line. IsAnswered of (image_at g.D.Start) line input input outputs c.do_init.result.0 c.do_init.result.1) (sym is) (
       Keeps-refl input,
       refl,
       same_init of.files of.stores (image_at g.D.Start) c.do_init.result.1 (string_bytes c.in-Ok-Init.store) c.as_str-store.result.now (string_bytes c.in-Ok-Init.callers) c.as_str-callers-in-Ok-Init.result.now
@@ -32,7 +34,8 @@ returns-in-Ok-Serve g c =
     let service : Service = record { port = c.in-Ok-Serve.port; cache = c.in-Ok-Serve.cache; connections = c.in-Ok-Serve.connections; most_open = c.in-Ok-Serve.most_open; log = c.in-Ok-Serve.log } in
     let outputs : Outputs =
     outputs_of g.O.Write.contents g.E.Write.contents c.args.output.now c.run_serve.new.writer c.args.errors.now c.run_serve.new.errors in
-    subst (λ line. IsAnswered of (image_at g.D.Start) line input input outputs c.run_serve.result.0 c.run_serve.result.1) (sym (c.in-Ok-Serve.is ∙ ap Ok c.in-Ok-Serve.field-0-is)) (
+    let is : c.args.line.now ≡ Ok (Serve c.in-Ok-Serve.port c.in-Ok-Serve.cache c.in-Ok-Serve.connections c.in-Ok-Serve.most_open c.in-Ok-Serve.log c.in-Ok-Serve.store) = search rules in
+    subst (λ line. IsAnswered of (image_at g.D.Start) line input input outputs c.run_serve.result.0 c.run_serve.result.1) (sym is) (
       Keeps-refl input,
       subst (λ (name : List ℕ). IsServe of (image_at g.D.Start) service name outputs c.run_serve.result.0 c.run_serve.result.1) c.as_str-store-in-Ok-Serve.ensures.value c.run_serve.ensures,
     )
@@ -44,7 +47,8 @@ returns-in-Ok-Migrate g c =
     let input = g.I.Read.remaining c.args.input.now in
     let outputs : Outputs =
     outputs_of g.O.Write.contents g.E.Write.contents c.args.output.now c.migrate_file.new.writer c.args.errors.now c.migrate_file.new.errors in
-    subst (λ line. IsAnswered of (image_at g.D.Start) line input input outputs c.migrate_file.result.0 c.migrate_file.result.1) (sym (c.in-Ok-Migrate.is ∙ ap Ok c.in-Ok-Migrate.field-0-is)) (
+    let is : c.args.line.now ≡ Ok (Migrate c.in-Ok-Migrate.store) = search rules in
+    subst (λ line. IsAnswered of (image_at g.D.Start) line input input outputs c.migrate_file.result.0 c.migrate_file.result.1) (sym is) (
       Keeps-refl input,
       refl,
       record {
@@ -61,7 +65,8 @@ returns-in-Ok-Check g c =
     let input = g.I.Read.remaining c.args.input.now in
     let outputs : Outputs =
     outputs_of g.O.Write.contents g.E.Write.contents c.args.output.now c.check_file.new.writer c.args.errors.now c.check_file.new.errors in
-    subst (λ line. IsAnswered of (image_at g.D.Start) line input input outputs c.check_file.result.0 c.check_file.result.1) (sym (c.in-Ok-Check.is ∙ ap Ok c.in-Ok-Check.field-0-is)) (
+    let is : c.args.line.now ≡ Ok (Check c.in-Ok-Check.store) = search rules in
+    subst (λ line. IsAnswered of (image_at g.D.Start) line input input outputs c.check_file.result.0 c.check_file.result.1) (sym is) (
       Keeps-refl input,
       refl,
       subst (λ (name : List ℕ). IsCheck of.stores (image_at g.D.Start) name outputs c.check_file.result.0 c.check_file.result.1) c.as_str-in-Ok-Check.ensures.value c.check_file.ensures,
@@ -74,7 +79,8 @@ returns-in-Ok-Callers g c =
     let input = g.I.Read.remaining c.args.input.now in
     let outputs : Outputs =
     outputs_of g.O.Write.contents g.E.Write.contents c.args.output.now c.callers_file.new.output c.args.errors.now c.callers_file.new.errors in
-    subst (λ line. IsAnswered of (image_at g.D.Start) line input input outputs c.callers_file.result.0 c.callers_file.result.1) (sym (c.in-Ok-Callers.is ∙ ap Ok c.in-Ok-Callers.field-0-is)) (
+    let is : c.args.line.now ≡ Ok (Callers c.in-Ok-Callers.store c.in-Ok-Callers.callers) = search rules in
+    subst (λ line. IsAnswered of (image_at g.D.Start) line input input outputs c.callers_file.result.0 c.callers_file.result.1) (sym is) (
       Keeps-refl input,
       refl,
       same_callers_run of.files of.stores (image_at g.D.Start) c.callers_file.result.1 (string_bytes c.in-Ok-Callers.store) c.as_str-store-in-Ok-Callers.result.now (string_bytes c.in-Ok-Callers.callers)

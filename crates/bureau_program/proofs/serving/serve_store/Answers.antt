@@ -14,6 +14,6 @@ returns-in-Err-default g c =
     let new = c.serve_in_rounds.result.1 in
     let session = session_of c.args.service (g.S.Surroundings.known_port c.args.surroundings.now) over (g.S.Rounds.log c.args.surroundings.now) after in
     halted g.D.Store session c.in-Err-default.halt begun slots cache c.args.store new c.fault_of.result c.args.service.port
-    (g.W.Write.contents c.args.writer.now) (g.W.Write.contents c.announce.new.writer) c.announce.ensures.none c.in-Ok.ensures.free c.in-Ok.ensures.port c.in-Ok.ensures.cache
+    (g.W.Write.contents c.args.writer.now) (g.W.Write.contents c.announce.new.writer) c.announce.ensures.none c.in-Ok.ensures.prepared.free c.in-Ok.ensures.port c.in-Ok.ensures.prepared.cache
     (subst (λ served. IfErr served (λ why. HaltsBy (sql_view g.D.Store) begun after slots c.args.service.connections over why cache c.args.store new)) c.in-Err-default.is-0
     c.serve_in_rounds.ensures.halted) c.fault_of.ensures c.in-Ok.ensures.line
