@@ -1,5 +1,4 @@
-use Rattle.std.proofs.Common.{rules, ◌≡◌, List, Ok, ℕ, arith, refl, subst, sym, string_bytes}
-use Rattle.std.proofs.lemmas.Grind.{common_steps}
+use Rattle.std.proofs.Common.{rules, ◌≡◌, List, Ok, ℕ, refl, subst, sym, string_bytes}
 use Rattle.std.proofs.KnownBytes.{Keeps-refl}
 use Rattle.sqlite_wal.specs.Files.{image_at}
 use Rattle.command_line.specs.declared.line.Line.TheVariants.{Callers, Check, Init, Migrate, Serve}
@@ -19,7 +18,7 @@ returns-in-Ok-Init g c =
     let input = g.I.Read.remaining c.args.input.now in
     let outputs : Outputs =
     outputs_of g.O.Write.contents g.E.Write.contents c.args.output.now c.do_init.new.output c.args.errors.now c.do_init.new.errors in
-    let is : c.args.line.now ≡ Ok (Init c.in-Ok-Init.store c.in-Ok-Init.callers) = first_of (cc, search rules, grind (arith, common_steps)) in
+    let is : c.args.line.now ≡ Ok (Init c.in-Ok-Init.store c.in-Ok-Init.callers) = search rules in
     subst (λ line. IsAnswered of (image_at g.D.Start) line input input outputs c.do_init.result.0 c.do_init.result.1) (sym is) (
       Keeps-refl input,
       refl,
@@ -35,7 +34,7 @@ returns-in-Ok-Serve g c =
     let service : Service = record { port = c.in-Ok-Serve.port; cache = c.in-Ok-Serve.cache; connections = c.in-Ok-Serve.connections; most_open = c.in-Ok-Serve.most_open; log = c.in-Ok-Serve.log } in
     let outputs : Outputs =
     outputs_of g.O.Write.contents g.E.Write.contents c.args.output.now c.run_serve.new.writer c.args.errors.now c.run_serve.new.errors in
-    let is : c.args.line.now ≡ Ok (Serve c.in-Ok-Serve.port c.in-Ok-Serve.cache c.in-Ok-Serve.connections c.in-Ok-Serve.most_open c.in-Ok-Serve.log c.in-Ok-Serve.store) = first_of (cc, search rules, grind (arith, common_steps)) in
+    let is : c.args.line.now ≡ Ok (Serve c.in-Ok-Serve.port c.in-Ok-Serve.cache c.in-Ok-Serve.connections c.in-Ok-Serve.most_open c.in-Ok-Serve.log c.in-Ok-Serve.store) = search rules in
     subst (λ line. IsAnswered of (image_at g.D.Start) line input input outputs c.run_serve.result.0 c.run_serve.result.1) (sym is) (
       Keeps-refl input,
       subst (λ (name : List ℕ). IsServe of (image_at g.D.Start) service name outputs c.run_serve.result.0 c.run_serve.result.1) c.as_str-store-in-Ok-Serve.ensures.value c.run_serve.ensures,
@@ -48,7 +47,7 @@ returns-in-Ok-Migrate g c =
     let input = g.I.Read.remaining c.args.input.now in
     let outputs : Outputs =
     outputs_of g.O.Write.contents g.E.Write.contents c.args.output.now c.migrate_file.new.writer c.args.errors.now c.migrate_file.new.errors in
-    let is : c.args.line.now ≡ Ok (Migrate c.in-Ok-Migrate.store) = first_of (cc, search rules, grind (arith, common_steps)) in
+    let is : c.args.line.now ≡ Ok (Migrate c.in-Ok-Migrate.store) = search rules in
     subst (λ line. IsAnswered of (image_at g.D.Start) line input input outputs c.migrate_file.result.0 c.migrate_file.result.1) (sym is) (
       Keeps-refl input,
       refl,
@@ -66,7 +65,7 @@ returns-in-Ok-Check g c =
     let input = g.I.Read.remaining c.args.input.now in
     let outputs : Outputs =
     outputs_of g.O.Write.contents g.E.Write.contents c.args.output.now c.check_file.new.writer c.args.errors.now c.check_file.new.errors in
-    let is : c.args.line.now ≡ Ok (Check c.in-Ok-Check.store) = first_of (cc, search rules, grind (arith, common_steps)) in
+    let is : c.args.line.now ≡ Ok (Check c.in-Ok-Check.store) = search rules in
     subst (λ line. IsAnswered of (image_at g.D.Start) line input input outputs c.check_file.result.0 c.check_file.result.1) (sym is) (
       Keeps-refl input,
       refl,
@@ -80,7 +79,7 @@ returns-in-Ok-Callers g c =
     let input = g.I.Read.remaining c.args.input.now in
     let outputs : Outputs =
     outputs_of g.O.Write.contents g.E.Write.contents c.args.output.now c.callers_file.new.output c.args.errors.now c.callers_file.new.errors in
-    let is : c.args.line.now ≡ Ok (Callers c.in-Ok-Callers.store c.in-Ok-Callers.callers) = first_of (cc, search rules, grind (arith, common_steps)) in
+    let is : c.args.line.now ≡ Ok (Callers c.in-Ok-Callers.store c.in-Ok-Callers.callers) = search rules in
     subst (λ line. IsAnswered of (image_at g.D.Start) line input input outputs c.callers_file.result.0 c.callers_file.result.1) (sym is) (
       Keeps-refl input,
       refl,
