@@ -11,7 +11,7 @@ weight_of_lines() { # FOLDER
 }
 
 # The program is built after its check, by two compilers, one after the other: tenths of a minute.
-build_weight=52
+build_weight=17
 
 # Takes the minutes of a check from the table of docs/GATE.md.
 read_weights() {

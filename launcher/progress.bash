@@ -44,14 +44,14 @@ take_in() {
     [ -z "$kept" ] || measure_ways
 }
 
-# What five minutes do on four processors, in the tenths of a minute of docs/GATE.md: of all the work, and of the longest way to
+# What ten minutes do on four processors, in the tenths of a minute of docs/GATE.md: of all the work, and of the longest way to
 # the program, along which no two crates are proved side by side.
-usual_seconds=300
-usual_work=110
-usual_way=60
+usual_seconds=600
+usual_work=208
+usual_way=99
 
 # How much is done of all, and how many minutes are left, once that can be told. It goes by what the time so far has brought, with
-# five usual minutes before it: rt tells of a crate once it is proved, so that the first minutes would tell of hours.
+# ten usual minutes before it: rt tells of a crate once it is proved, so that the first minutes would tell of hours.
 how_much() {
     local name all=0 made=0 longest=0 open=0 left by_way seconds=$((SECONDS - began))
     for name in "${!libraries[@]}"; do
