@@ -1,5 +1,5 @@
 -- What each row of a store keeps to, so that it is one that the bureau writes, and that a read takes. Each table's file in `src/table/`
--- says what stands in the columns of its rows (`known`).
+-- says what stands in the columns of its rows (`keeps_to`).
 use Rattle.std.specs.Prelude.{ℕ, List}
 use Rattle.sqlite.specs.Table.{Table}
 use Rattle.sqlite_value.specs.Order.{Row}

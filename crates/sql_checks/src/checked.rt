@@ -1,4 +1,4 @@
-//! A table of a store with all that a check knows of it.
+//! A table of a store as a check knows it: how it is made, and what its rows keep to.
 ghost use Rattle.std.specs.Prelude.{◌≡◌, ◌↔◌, IfOk, IsTrue};
 ghost use Rattle.sqlite_value.specs.Order.{Row as Values};
 ghost use Rattle.sql_checks.specs.Known.{Known};

@@ -1,4 +1,4 @@
-//! The tables of a store, each with all that a check knows of it in a file of its own.
+//! The tables of a store. How each is made, and what its rows keep to, stands in a file of its own.
 ghost use Rattle.std.specs.Prelude.{◌≡◌, map};
 ghost use Rattle.sql_checks.specs.Shapes.{index_of_shape, table_of_shape};
 ghost use Rattle.sql_texts.specs.Schema as made;

@@ -1,4 +1,4 @@
--- Records under whose ids nothing stands, and what a read of one row tells.
+-- Records under whose ids nothing stands.
 use Rattle.std.proofs.Common.{◌≡◌, ◌<◌, ◌+◌, ◌++◌, ℕ, zero, suc, Bool, false, List, [], ◌∷◌, drop, get_or, length, map, take, refl, sym, ◌∙◌, ap, subst, arith}
 use Rattle.std.specs.Prelude.{flat_map, fold}
 use Rattle.std.specs.List.{AllByRecursion, IsDistinct, list_any}
