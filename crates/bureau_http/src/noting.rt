@@ -1,6 +1,6 @@
 //! What the log notes of a request.
 ghost use Rattle.std.specs.Prelude.{◌≡◌, [], true};
-ghost use Rattle.log_lines.specs.Words.{none, word_of};
+ghost use Rattle.log_lines.specs.Words.{none};
 ghost use Rattle.bureau_http.specs.Noted.{caller_word};
 ghost use Rattle.bureau_http.specs.Told.{IsToldAs};
 ghost use Rattle.requests.specs.NextRequest.{IsAt, parts_in, request_len};

@@ -5,7 +5,6 @@ ghost use Rattle.run_parts.specs.Outputs.{fault_in, outputs_of};
 ghost use Rattle.run_parts.specs.declared.fault.ProgramFault.TheVariants.{Memory};
 ghost use Rattle.store_runs.specs.Callers.{IsCallersOutput, IsCallersRun, IsLineLost, callers_text, connection_set, store_set};
 ghost use Rattle.store_runs.specs.NamedStore.{HasRows, IsCallers, IsNotBegun};
-ghost use Rattle.sqlite.specs.Held.{state};
 ghost use Rattle.sqlite_wal.specs.Files.{image_at};
 
 use crate::desk::{callers_in, of_store, open};
