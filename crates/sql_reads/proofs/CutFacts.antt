@@ -1,20 +1,21 @@
 -- How rows in the order of a key are cut up by it.
-use Rattle.std.proofs.Common.{◌≡◌, ◌≢◌, ℕ, zero, suc, Bool, true, false, List, [], ◌∷◌, ◌++◌, refl, sym, ◌∙◌, ap, ap₂, subst, arith, take, drop, get_or, length}
-use Rattle.std.specs.Prelude.{◌+◌, ◌-◌, ◌<◌, ◌≤◌, filter, nat_lt, IfSome, slice_get}
+use Rattle.std.proofs.Common.{◌≡◌, ◌≢◌, ℕ, zero, suc, Bool, true, false, List, [], ◌∷◌, ◌++◌, refl, sym, ◌∙◌, ap, ap₂, subst, subst₂, arith, take, drop, get_or, length}
+use Rattle.std.specs.Prelude.{◌+◌, ◌<◌, filter, map, IfSome, IsTrue, slice_get}
 use Rattle.std.specs.Cmp.Lexicographic.{slice_cmp}
-use Rattle.std.specs.List.{All, AllByRecursion}
+use Rattle.std.specs.List.{All, AllAdjacentBelow, AllByRecursion, IsAllAdjacentAnswer}
+use Rattle.std.specs.List.Sorted.{IsStrictlySortedBy}
 use Rattle.std.specs.Ordering.{is_eq, is_le, nat_cmp}
 use Rattle.std.specs.declared.cmp.Ordering.{Ordering}
 use Rattle.std.specs.declared.cmp.Ordering.TheVariants.{Equal, Greater, Less}
-use Rattle.std.proofs.lemmas.Bool.Decides.{nat_tests}
 use Rattle.std.proofs.lemmas.Cmp.{alike_right, nat_list_cmp_total}
-use Rattle.std.proofs.lemmas.List.{append-nil, get_or_default, take-append-drop, take_more}
+use Rattle.std.proofs.lemmas.List.{append-nil, take-append-drop, take_more}
 use Rattle.std.proofs.lemmas.List.Elements.{All-push, filter-append, recursion_from_All}
 use Rattle.std.proofs.lemmas.Map.Text.{is_eq-slice_cmp}
 use Rattle.sqlite_trees.proofs.ListLemmas.{filter_all, filter_none}
 use Rattle.sqlite_value.specs.Order.{Row}
 use Rattle.lemmas.proofs.ListFacts.{all_so}
-use Rattle.sql_reads.specs.Scans.{IsCut, KeysRise, has_key, key_at}
+use Rattle.mcs_reader.specs.Id.{IsId, is_id_text, padded, text_of}
+use Rattle.sql_reads.specs.Scans.{AreOf, IsCut, KeysRise, Takes, has_key, key_at}
 
 -- ---- texts in order
 
@@ -89,35 +90,29 @@ module _ (place : ℕ) where
     all_so (λ other. cmp (key next) (key other) ≢ Greater) (λ other. cmp (key row) (key other) ≢ Greater) (λ other. not_above_on (key row) (key next) (key other) h.0) rows (least next rows h.1),
   )
 
-  -- one more pair of neighbours
-  pub neighbours_more : (rows : List Row) (n : ℕ) (a b : Row) → 1 ≤ n → n < length rows → get_or rows (n - 1) a ≡ a → get_or rows n b ≡ b → is_le (cmp (key a) (key b)) ≡ true
-      → ((k : ℕ) (d : Row) → k + 1 < n → is_le (cmp (key (get_or rows k d)) (key (get_or rows (k + 1) d))) ≡ true)
-      → (k : ℕ) (d : Row) → k + 1 < n + 1 → is_le (cmp (key (get_or rows k d)) (key (get_or rows (k + 1) d))) ≡ true
-  neighbours_more rows n a b from within at next rise before k d here = by (nat_lt (k + 1) n) refl
-    where
-      by : (t : Bool) → nat_lt (k + 1) n ≡ t → is_le (cmp (key (get_or rows k d)) (key (get_or rows (k + 1) d))) ≡ true
-      by true below = before k d (grind (arith, nat_tests, below))
-      by false not_below =
-          let same : k + 1 ≡ n = grind (arith, nat_tests, not_below, here) in
-          let second : get_or rows (k + 1) d ≡ b = ap (λ m. get_or rows m d) same ∙ get_or_default rows n d b within ∙ next in
-          let first : get_or rows k d ≡ a = get_or_default rows k d a (omega (arith, same, within)) ∙ ap (λ m. get_or rows m a) {y = n - 1} (omega (arith, same)) ∙ at in
-          ap is_le (ap₂ (λ x y. cmp (key x) (key y)) first second) ∙ rise
+  -- whether a row's key is not above the next one's
+  abbrev pub is_rise : Row → Row → Bool
+  is_rise row next = is_le (cmp (key row) (key next))
 
-  -- from neighbours
-  pub rises_by_neighbours : (rows : List Row) → ((k : ℕ) (d : Row) → k + 1 < length rows → is_le (cmp (key (get_or rows k d)) (key (get_or rows (k + 1) d))) ≡ true) → KeysRise place rows
-  rises_by_neighbours [] each = tt
-  rises_by_neighbours (x ∷ []) each = tt
-  rises_by_neighbours (x ∷ y ∷ xs) each = (
+  rises_each : (rows : List Row) → AllAdjacentBelow (λ row next. true ≡ is_rise row next) rows (length rows) → KeysRise place rows
+  rises_each [] each = tt
+  rises_each (x ∷ []) each = tt
+  rises_each (x ∷ y ∷ xs) each = (
     so (cmp (key x) (key y)) (each 0 x (omega arith)),
-    rises_by_neighbours (y ∷ xs) (λ k d within.
+    rises_each (y ∷ xs) (λ k d within.
         let more : suc k + 1 ≡ suc (k + 1) = omega arith in
-        subst (λ n. is_le (cmp (key (get_or (y ∷ xs) k d)) (key (get_or (x ∷ y ∷ xs) n d))) ≡ true) more (each (suc k) d (omega (arith, within)))),
+        subst (λ n. true ≡ is_rise (get_or (y ∷ xs) k d) (get_or (x ∷ y ∷ xs) n d)) more (each (suc k) d (omega (arith, within)))),
   )
     where
-      so : (o : Ordering) → is_le o ≡ true → o ≢ Greater
+      so : (o : Ordering) → true ≡ is_le o → o ≢ Greater
       so Less e h = cc
       so Equal e h = cc
       so Greater e h = cc
+
+  -- from neighbours
+  pub rises_by_neighbours : (rows : List Row) (answer : Bool) → IsAllAdjacentAnswer (λ row next is. is ≡ is_rise row next) rows answer → IsTrue answer → KeysRise place rows
+  rises_by_neighbours rows true said so = rises_each rows said
+  rises_by_neighbours rows false said so = let e : false ≡ true = so in cc
 
   module _ (text : List ℕ) where
     abbrev how : Row → Ordering
@@ -179,3 +174,25 @@ module _ (place : ℕ) where
         let whole : take m from ++ drop m from ≡ from = take-append-drop m from in
         cut_of rows (take n rows) (take m from) (drop m from) (ap (λ xs. take n rows ++ xs) whole ∙ take-append-drop n rows) (rises_from m from (rises_from n rows rises)) (recursion_from_All (λ row. how row ≡ Less) (take n rows) below) equal
         (above (take m from) (drop m from) (subst (KeysRise place) (sym whole) (rises_from n rows rises)) (subst (OfFirst (λ row. how row ≢ Less)) (sym whole) (first_after _ n rows stop)) equal (first_after _ m from end))
+
+-- ---- the rows of ids
+
+-- a text of an id, and the id of it
+pub id_of_text : (id text : List ℕ) → text ≡ text_of id → IsTrue (is_id_text text) → id ≡ padded text → IsId id
+id_of_text id text same allowed whole = (ap is_id_text (sym same) ∙ allowed, whole ∙ ap padded same)
+
+-- what is left has all rows of the ids after one that is cut off
+still : (columns : List ℕ) (place : ℕ) (table : List Row) (id : List ℕ) (rows mine left : List Row) → IsCut place (text_of id) rows mine left
+    → (ids : List (List ℕ)) → AllByRecursion (λ text. cmp (text_of id) text ≡ Less) (map text_of ids)
+    → AllByRecursion (λ x. IsId x → AreOf columns table x (filter (has_key place (text_of x)) rows)) ids → AllByRecursion (λ x. IsId x → AreOf columns table x (filter (has_key place (text_of x)) left)) ids
+still columns place table id rows mine left is_cut [] later each = tt
+still columns place table id rows mine left is_cut (x ∷ ids) later each =
+    (λ is. subst (AreOf columns table x) (sym (is_cut.stays (text_of x) later.0)) (each.0 is), still columns place table id rows mine left is_cut ids later.1 each.1)
+
+-- what a cut takes off by the text of an id
+pub takes : (columns : List ℕ) (at place : ℕ) (id text : List ℕ) (rows mine left : List Row) → place ≡ at → text ≡ text_of id → IsId id → (KeysRise place rows → IsCut place text rows mine left)
+    → Takes columns at id rows mine left
+unfolding IsStrictlySortedBy
+takes columns at place id text rows mine left same_place same_text is cuts table later all =
+    let is_cut : IsCut at (text_of id) rows mine left = subst₂ (λ p t. KeysRise p rows → IsCut p t rows mine left) same_place same_text cuts all.rises in
+    (subst (AreOf columns table id) (sym is_cut.taken) (all.each.0 is), record { ascend = all.ascend.1; rises = is_cut.rises; each = still columns at table id rows mine left is_cut later all.ascend.0 all.each.1 })

@@ -1,11 +1,22 @@
 -- What a scan of a table finds.
-use Rattle.std.proofs.Common.{◌≡◌, ◌&&◌, ℕ, Bool, true, List, [], ◌∷◌, refl, sym, ◌∙◌, ap, ap₂, subst, Some}
-use Rattle.std.specs.Prelude.{drop, filter, map}
+use Rattle.std.proofs.Common.{◌≡◌, ◌&&◌, ◌-◌, ◌<◌, ◌≤◌, ℕ, Bool, true, false, List, [], ◌∷◌, refl, sym, ◌∙◌, ap, ap₂, subst, subst₂, arith, get_or, length, Some}
+use Rattle.std.specs.Prelude.{drop, filter, map, nat_lt}
 use Rattle.std.specs.Cmp.Lexicographic.{slice_cmp}
+use Rattle.std.specs.List.{All}
 use Rattle.std.specs.List.Sorted.{IsPermutation}
-use Rattle.std.specs.Ordering.{is_ge, is_le, nat_cmp}
+use Rattle.std.specs.Ordering.{is_ge, is_le, nat_cmp, ordering_reverse}
 use Rattle.std.specs.Str.{bytes_eq}
+use Rattle.std.specs.declared.cmp.Ordering.{Ordering}
+use Rattle.std.specs.declared.cmp.Ordering.TheVariants.{Equal, Greater, Less}
 use Rattle.std.proofs.Math.Bool.{and-true}
+use Rattle.std.proofs.Math.ListN.{get_or-map}
+use Rattle.std.proofs.lemmas.Bool.{and_from}
+use Rattle.std.proofs.lemmas.Bool.Decides.{nat_tests}
+use Rattle.std.proofs.lemmas.Cmp.{nat_list_cmp_total, tied_itself}
+use Rattle.std.proofs.lemmas.List.{get_or_default, length-map}
+use Rattle.std.proofs.lemmas.List.Elements.{recursion_from_All}
+use Rattle.std.proofs.lemmas.Map.Keys.{Less-from_sorted}
+use Rattle.lemmas.proofs.ListFacts.{all_so}
 use Rattle.mcs_reader.specs.Id.{IsId, text_of}
 use Rattle.catalogue.proofs.IdFacts.{one_id}
 use Rattle.sqlite.specs.Collation.TheVariants.{Binary}
@@ -26,10 +37,19 @@ use Rattle.sql_tables.specs.Stored.{Stored, is_named, is_of, shown}
 use Rattle.sql_tables.specs.Values.{text_in}
 use Rattle.sql_tables.proofs.TreeFacts.{column_after}
 use Rattle.sql_state.proofs.TextFacts.{text_named}
-use Rattle.sql_reads.specs.Scans.{FindsBetween, between_given, has_key, lies_between, scan_of}
+use Rattle.sql_reads.specs.Runs.{IsRun, TextsAscend}
+use Rattle.sql_reads.specs.Scans.{AreOf, HaveEach, KeysRise, between_given, has_key, scan_of}
 use Rattle.sql_reads.proofs.TableFacts.{kept_alike, table_found}
 
 -- ---- which rows lie between
+
+-- whether a value is a text from one text to another, byte for byte
+abbrev lies_between : List ℕ → List ℕ → Value → Bool
+lies_between first last (Text t) = is_ge (slice_cmp nat_cmp t first) && is_le (slice_cmp nat_cmp t last)
+lies_between first last (Blob b) = false
+lies_between first last (Int n) = false
+lies_between first last (Real x) = false
+lies_between first last Null = false
 
 -- how a text is compared with both ends
 at_least : (t first : List ℕ) → is_true (binary (Compare Ge Binary) (Text t) (Text first)) ≡ is_ge (slice_cmp nat_cmp t first)
@@ -71,15 +91,50 @@ named_between first last id is inside (Real x) named = let e = text_named id is 
 named_between first last id is inside (Blob b) named = let e = text_named id is (Blob b) ∙ named in cc
 named_between first last id is inside (Text t) named = subst (λ text. lies_between first last (Text text) ≡ true) (sym (one_id t (text_of id) (text_named id is (Text t) ∙ named))) inside
 
--- A scan of a tree that shows the id at some place finds the rows of each id that lies between.
+-- ---- a run of ids
+
+-- an id of a run is not above a later one
+not_above : (ids : List (List ℕ)) (i k : ℕ) (d e : List ℕ) → TextsAscend ids → i ≤ k → k < length ids → is_le (slice_cmp nat_cmp (text_of (get_or ids i d)) (text_of (get_or ids k e))) ≡ true
+not_above ids i k d e ascend before within = by (nat_lt i k) refl
+  where
+    by : (t : Bool) → nat_lt i k ≡ t → is_le (slice_cmp nat_cmp (text_of (get_or ids i d)) (text_of (get_or ids k e))) ≡ true
+    by true below =
+        subst (λ x. is_le (slice_cmp nat_cmp (text_of (get_or ids i d)) (text_of x)) ≡ true) (get_or_default ids k d e within)
+        (subst₂ (λ a b. is_le (slice_cmp nat_cmp a b) ≡ true) (get_or-map text_of ids i d) (get_or-map text_of ids k d)
+        (ap is_le (Less-from_sorted (slice_cmp nat_cmp) (map text_of ids) i k (text_of d) ascend (grind (arith, nat_tests, below)) (subst (λ n. k < n) (sym (length-map ids text_of)) within))))
+    by false beyond =
+        let there : k ≡ i = grind (arith, nat_tests, beyond, before) in
+        let same : get_or ids k e ≡ get_or ids i d = get_or_default ids k e d within ∙ ap (λ n. get_or ids n d) there in
+        subst (λ x. is_le (slice_cmp nat_cmp (text_of (get_or ids i d)) (text_of x)) ≡ true) (sym same) (ap is_le (tied_itself nat_list_cmp_total (text_of (get_or ids i d))))
+
+-- what is not above a text is not below it the other way round
+turned : (a b : List ℕ) → is_le (slice_cmp nat_cmp a b) ≡ true → is_ge (slice_cmp nat_cmp b a) ≡ true
+turned a b h = ap is_ge (nat_list_cmp_total.antisymm b a) ∙ by (slice_cmp nat_cmp a b) ∙ h
+  where
+    by : (o : Ordering) → is_ge (ordering_reverse o) ≡ is_le o
+    by Less = refl
+    by Equal = refl
+    by Greater = refl
+
+-- each id of a run lies between the first and the last
+run_between : (ids : List (List ℕ)) (first last : List ℕ) → IsRun ids → get_or ids 0 first ≡ first → get_or ids (length ids - 1) last ≡ last
+    → All (λ id. lies_between (text_of first) (text_of last) (Text (text_of id)) ≡ true) ids
+run_between ids first last run at_first at_last k d within =
+    and_from _ _
+    (turned (text_of first) (text_of (get_or ids k d)) (subst (λ x. is_le (slice_cmp nat_cmp (text_of x) (text_of (get_or ids k d))) ≡ true) at_first (not_above ids 0 k first d run.ascend (omega arith) within)))
+    (subst (λ x. is_le (slice_cmp nat_cmp (text_of (get_or ids k d)) (text_of x)) ≡ true) at_last (not_above ids k (length ids - 1) d last run.ascend (omega (arith, within)) (omega (arith, within))))
+
+-- ---- what a scan finds
+
+-- A scan of a tree that shows the id at some place finds the rows of each id of a run.
 module _ (tree : ℕ) (columns order : List ℕ) (place : ℕ) (rows_in : Stored → List Row) (here : (trees : Trees) → rows_in (stored_in trees) ≡ columns_of (trees tree))
     (placed : (row : Row) → column (shown columns row) place ≡ column row 0) where
   shown_key : (id : List ℕ) → IsId id → (row : Row) → has_key place (text_of id) (shown columns row) ≡ is_of id row
   shown_key id is row = ap (λ value. bytes_eq (text_in value) (text_of id)) (placed row) ∙ key_named id is (column row 0)
 
-  pub found_between : (first last : List ℕ) (trees : Trees) (rows : List Row) → IsAnswer (scan_of tree columns order) trees (Text first ∷ Text last ∷ []) rows
-      → FindsBetween columns place first last (rows_in (stored_in trees)) rows
-  found_between first last trees rows answer id is inside =
+  found_between : (first last : List ℕ) (trees : Trees) (rows : List Row) → IsAnswer (scan_of tree columns order) trees (Text first ∷ Text last ∷ []) rows
+      → (id : List ℕ) → lies_between first last (Text (text_of id)) ≡ true → IsId id → AreOf columns (rows_in (stored_in trees)) id (filter (has_key place (text_of id)) rows)
+  found_between first last trees rows answer id inside is =
       let all = columns_of (trees tree) in
       let test : Row → Bool = λ row. lies_between first last (column row 0) in
       let show = shown columns in
@@ -92,3 +147,14 @@ module _ (tree : ℕ) (columns order : List ℕ) (place : ℕ) (rows_in : Stored
       ∙ filter-filter (is_of id) test (λ row named. named_between first last id is inside (column row 0) named) all
       ∙ ap (filter (is_of id)) (sym (here trees))))
       (IsPermutation-filter mine (map show (filter test all)) rows found)
+
+  pub scan_has : (ids : List (List ℕ)) (first last : List ℕ) → IsRun ids → get_or ids 0 first ≡ first → get_or ids (length ids - 1) last ≡ last
+      → (trees : Trees) (rows : List Row) → IsAnswer (scan_of tree columns order) trees (Text (text_of first) ∷ Text (text_of last) ∷ []) rows → KeysRise place rows
+      → HaveEach columns place (rows_in (stored_in trees)) ids rows
+  scan_has ids first last run at_first at_last trees rows answer rises =
+      let inside : List ℕ → Type 0 = λ id. lies_between (text_of first) (text_of last) (Text (text_of id)) ≡ true in
+      record {
+        ascend = run.ascend;
+        rises = rises;
+        each = all_so inside _ (found_between (text_of first) (text_of last) trees rows answer) ids (recursion_from_All inside ids (run_between ids first last run at_first at_last));
+      }

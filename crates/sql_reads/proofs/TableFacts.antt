@@ -1,6 +1,6 @@
 -- What a text shows of one table, as rows without their rowids; and the one row that it shows.
 use Rattle.std.proofs.Common.{◌≡◌, ◌⊎◌, ℕ, suc, Bool, true, false, cond, length, drop, List, [], ◌∷◌, refl, sym, ◌∙◌, ap, subst, arith, inl, inr, Ok, Err, Result, Some, None}
-use Rattle.std.specs.Prelude.{filter, map, Option, option_map, Vec, IfOk}
+use Rattle.std.specs.Prelude.{filter, map, Option, option_map, Vec, IfOk, IsErr}
 use Rattle.std.specs.declared.alloc.Global.{Global}
 use Rattle.std.specs.List.{AllByRecursion, Contains}
 use Rattle.std.specs.List.Sorted.{IsPermutation}
@@ -14,7 +14,7 @@ use Rattle.sqlite_value.specs.Order.{Row}
 use Rattle.lemmas.proofs.ListFacts.{first_inside, inside_cases, none_inside}
 use Rattle.lemmas.proofs.ResultFacts.{ok_both}
 use Rattle.sql_state.specs.Ours.{IsOurs, held_by}
-use Rattle.sql_state.specs.Reading.{Finds}
+use Rattle.sql_state.specs.Reading.{Finds, OnlyReads}
 use Rattle.sql_state.proofs.StopFacts.{read_on, was_clean}
 use Rattle.sql_tables.specs.InTrees.{columns_of}
 use Rattle.sql_tables.specs.Stored.{Stored, first}
@@ -76,6 +76,11 @@ module _ (old mid new : State) where
         (subst (λ d. Second (held_by d) b) same (second.told clean (subst IsOurs (sym same) ours)));
   }
 
+  -- and they find it together
+  pub finds_pair : {A B Fault : Type 0} (a : A) (b : B) (First : Stored → A → Type 0) (Second : Stored → B → Type 0) → Finds old mid {Answer = A} {Fault = Fault} (Ok a) First → Finds mid new {Answer = B} {Fault = Fault} (Ok b) Second
+      → Finds old new {Answer = A × B} {Fault = Fault} (Ok (a, b)) (λ stored both. First stored both.0 × Second stored both.1)
+  finds_pair a b First Second first second = finds_on a b (a, b) First Second _ first second (λ stored whole one two. (one, two))
+
   -- what two reads find, and what is made of both
   pub finds_both : {A B C Fault : Type 0} (a : A) (b : B) (result : Result C Fault) (First : Stored → A → Type 0) (Second : Stored → B → Type 0) (Fact : Stored → C → Type 0)
       → Finds old mid {Answer = A} {Fault = Fault} (Ok a) First → Finds mid new {Answer = B} {Fault = Fault} (Ok b) Second → (Said : C → Type 0) → IfOk result Said
@@ -94,6 +99,11 @@ module _ (old mid new : State) where
   pub then_refused : {A B C Fault : Type 0} (a : A) (fault : Fault) (First : Stored → A → Type 0) (Second : Stored → B → Type 0) (Fact : Stored → C → Type 0)
       → Finds old mid {Answer = A} {Fault = Fault} (Ok a) First → Finds mid new {Answer = B} {Fault = Fault} (Err fault) Second → Finds old new {Answer = C} {Fault = Fault} (Err fault) Fact
   then_refused a fault First Second Fact first second = record { reads = read_on old mid new first.reads second.reads; is_open = tt; told = tt }
+
+  -- what is refused after another read
+  pub refused_on : {C Fault : Type 0} (result : Result C Fault) (Fact : Stored → C → Type 0) → IsErr result → OnlyReads old mid → OnlyReads mid new → Finds old new {Answer = C} {Fault = Fault} result Fact
+  refused_on (Ok c) Fact refused first second = let e : false ≡ true = refused in cc
+  refused_on (Err e) Fact refused first second = record { reads = read_on old mid new first second; is_open = tt; told = tt }
 
 -- what one read finds says more
 pub finds_so : {A B Fault : Type 0} (old new : State) (a : A) (b : B) (First : Stored → A → Type 0) (Fact : Stored → B → Type 0) → Finds old new {Answer = A} {Fault = Fault} (Ok a) First

@@ -23,12 +23,7 @@ fn key_at(row: &Row, place: usize) -> &[u8]
 pub(crate) fn keys_rise(rows: &[Row], place: usize) -> bool
     ensures { IsTrue result → KeysRise place rows.now }
 {
-    for next in 1..rows.len() {
-        if !is_not_above(&rows[next - 1], &rows[next], place) {
-            return false;
-        }
-    }
-    true
+    rows.is_sorted_by(|row, next| is_not_above(row, next, place))
 }
 
 // Whether a row's key is not above another's.
@@ -64,10 +59,9 @@ fn front(rows: &[Row], place: usize, text: &[u8], wanted: Ordering) -> usize
     count
 }
 
-/// The rows with a key, and those after them. Rows with lower keys are passed over.
+/// Of rows in the order of their keys those with this one, and those after them. Rows with lower keys are passed over.
 pub(crate) fn cut<'a>(rows: &'a [Row], place: usize, text: &[u8]) -> (&'a [Row], &'a [Row])
-    requires rises { KeysRise place rows.now }
-    ensures { IsCut place text.now rows.now result.0.now result.1.now }
+    ensures { KeysRise place rows.now → IsCut place text.now rows.now result.0.now result.1.now }
 {
     let lower = front(rows, place, text, Ordering::Less);
     let (_, from) = rows.split_at(lower);

@@ -28,6 +28,7 @@ mod joins;
 mod listed;
 mod many;
 mod one;
+mod queue;
 mod rows;
 mod scan;
 mod selection;

@@ -2,12 +2,12 @@
 ghost use Rattle.std.specs.Prelude.{◌≡◌, ℕ, List, false, IfOk};
 ghost use Rattle.sqlite.specs.Held.{state};
 ghost use Rattle.sqlite_value.specs.Order.{Row as Values, column};
-ghost use Rattle.mcs_reader.specs.Id.{text_of};
 ghost use Rattle.sql_state.specs.Reading.{Finds};
 ghost use Rattle.sql_tables.specs.Stored.{shown as show};
 ghost use Rattle.sql_texts.specs.Meaning.{Reads};
 ghost use Rattle.sql_texts.specs.Schema.{bureau};
-ghost use Rattle.sql_reads.specs.Scans.{FindsBetween, KeysRise, scan_of};
+ghost use Rattle.sql_reads.specs.Runs.{IsRun};
+ghost use Rattle.sql_reads.specs.Scans.{HaveEach, KeysRise, scan_of};
 
 use crate::ReadFault;
 use crate::cut::keys_rise;
@@ -43,19 +43,18 @@ pub(crate) trait Scanned: Table {
     ghost placed: { (row : Values) → column (show scan_shown row) at ≡ column row 0 };
 }
 
-/// The rows of the SYSMODs from one to another, in the order of the SYSMODs.
+/// The rows of some SYSMODs that ascend, in the order of these. Those of the SYSMODs between them are among them.
 pub(crate) fn scan<T: Scanned, S: Alter>(
     conn: &mut Connection<S>,
-    first: &Id,
-    last: &Id,
+    ids: &[Id],
 ) -> Result<Vec<Row>, ReadFault>
     requires rest { conn.old.in_transaction ≡ false }
+    requires run { IsRun ids.now }
     ensures mode { conn.new.in_transaction ≡ false }
     ensures finds { Finds (state S.Store conn.old) (state S.Store conn.new) result (λ stored rows.
-        FindsBetween T.scan_shown T.at (text_of first.now) (text_of last.now) (T.rows stored) rows.items) }
-    ensures rise { IfOk result (λ rows. KeysRise T.at rows.items) }
+        HaveEach T.scan_shown T.at (T.rows stored) ids.now rows.items) }
 {
-    let params = [id_of(first), id_of(last)];
+    let params = [id_of(&ids[0]), id_of(&ids[ids.len() - 1])];
     let rows = rows_of(conn, T::scan_text(), &params)?;
     in_order(rows, T::place())
 }

@@ -9,7 +9,7 @@ use Rattle.sql_reads.proofs.CutFacts.{cut_at}
 use Rattle.sql_reads.proofs.cut.cut.Goals as goal
 
 pub returns : goal.returns
-returns c =
+returns c rises =
     let rows = c.args.rows.now in
     let place = c.args.place in
     let text = c.args.text.now in
@@ -17,6 +17,6 @@ returns c =
     let m = c.front-count.result in
     let from : c.split_at.result.1.now ≡ drop n rows = c.split_at.ensures.back in
     subst₂ (IsCut place text rows) (sym (c.split_at-2.ensures.front ∙ ap (take m) from)) (sym (c.split_at-2.ensures.back ∙ ap (drop m) from))
-    (cut_at place text rows n m c.requires.rises c.front-lower.ensures.front c.front-lower.ensures.next
+    (cut_at place text rows n m rises c.front-lower.ensures.front c.front-lower.ensures.next
     (subst (λ xs. All (λ row. slice_cmp nat_cmp (key_at place row) text ≡ Equal) (take m xs)) from c.front-count.ensures.front)
     (subst (λ xs. IfSome (slice_get xs m) (λ row. slice_cmp nat_cmp (key_at place row) text ≢ Equal)) from c.front-count.ensures.next))

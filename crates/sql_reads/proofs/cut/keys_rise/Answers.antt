@@ -1,11 +1,10 @@
-use Rattle.std.proofs.Common.{sym, arith, ◌∙◌}
-use Rattle.sql_reads.proofs.CutFacts.{neighbours_more, rises_by_neighbours}
+use Rattle.std.proofs.Common.{◌≡◌, rules}
+use Rattle.std.proofs.lemmas.Fn.{always_returns_same}
+use Rattle.sql_reads.proofs.CutFacts.{is_rise, rises_by_neighbours}
 use Rattle.sql_reads.proofs.cut.keys_rise.Goals as goal
 
-pub loop-next-preserved : goal.loop-next-preserved
-loop-next-preserved c =
-    neighbours_more c.args.place c.args.rows.now c.loop-next.next c.index-rows-next.result c.index-rows-next-in-loop-next.result (omega (arith, c.loop-next.auto)) c.loop-next-test.true
-    (sym c.index-rows-next.is) (sym c.index-rows-next-in-loop-next.is) (sym c.is_not_above.ensures ∙ c.if-not-is_not_above.false) c.loop-next.invariant
-
 pub returns : goal.returns
-returns c = λ so. rises_by_neighbours c.args.place c.args.rows.now (λ k d within. c.loop-next.invariant k d (omega (arith, within, c.loop-next-test.false, c.loop-next.auto)))
+returns c =
+    let place = c.args.place in
+    rises_by_neighbours place c.args.rows.now c.is_sorted_by.result
+    (c.is_sorted_by.ensures.cases (is_rise place) (always_returns_same _ (λ a r. r ≡ is_rise place a.0.now a.1.0.now) _ (λ a r next called. (search (called, rules), search (called, rules)))))

@@ -1,36 +1,23 @@
-use Rattle.std.proofs.Common.{◌∙◌, ap, sym}
+use Rattle.std.proofs.Common.{◌+◌, ◌∷◌, ◌∙◌, ap, drop, subst, sym}
 use Rattle.std.specs.Prelude.{map}
-use Rattle.std.proofs.lemmas.List.{take_all}
+use Rattle.std.proofs.lemmas.List.{drop_more, take_all}
 use Rattle.catalogue.specs.Seen.{seen_in}
 use Rattle.sql_tables.specs.Stored.{tables_of}
-use Rattle.sql_reads.proofs.SeenFacts.{conds_left, holds_left, id_of_text, more_seen, next_seen, records_left, sups_left}
+use Rattle.sql_reads.specs.Scans.{AreLeft}
+use Rattle.sql_reads.proofs.SeenFacts.{more_seen}
 use Rattle.sql_reads.proofs.many.each_seen.Goals as goal
 
 pub loop-id-preserved : goal.loop-id-preserved
-loop-id-preserved c =
+loop-id-preserved c = λ stored left.
     let ids = c.args.ids.now in
     let i = c.loop-id.id-index in
     let id = c.id-item.result in
-    let rows = c.args.rows.now in
-    let before = c.loop-id.invariant in
     let is = sym c.id-item.is in
-    record {
-      records = records_left ids c.requires.ascend i id c.as_bytes.result.now is c.loop-id-test.true c.as_bytes.ensures.value rows.records.items rows.sups.items rows.conds.items rows.holds.items
-          c.loop-id.left c.cut_all.result.0 c.cut_all.result.1 before.records before.sups before.conds before.holds c.cut_all.ensures;
-      sups = sups_left ids c.requires.ascend i id c.as_bytes.result.now is c.loop-id-test.true c.as_bytes.ensures.value rows.records.items rows.sups.items rows.conds.items rows.holds.items
-          c.loop-id.left c.cut_all.result.0 c.cut_all.result.1 before.records before.sups before.conds before.holds c.cut_all.ensures;
-      conds = conds_left ids c.requires.ascend i id c.as_bytes.result.now is c.loop-id-test.true c.as_bytes.ensures.value rows.records.items rows.sups.items rows.conds.items rows.holds.items
-          c.loop-id.left c.cut_all.result.0 c.cut_all.result.1 before.records before.sups before.conds before.holds c.cut_all.ensures;
-      holds = holds_left ids c.requires.ascend i id c.as_bytes.result.now is c.loop-id-test.true c.as_bytes.ensures.value rows.records.items rows.sups.items rows.conds.items rows.holds.items
-          c.loop-id.left c.cut_all.result.0 c.cut_all.result.1 before.records before.sups before.conds before.holds c.cut_all.ensures;
-      so_far = λ stored first last between found.
-          c.in_ok-push.ensures.items
-          ∙ more_seen (seen_in (tables_of stored).content) ids i id c.loop-id.seen.items c.in_ok-said.field-0 c.loop-id-test.true is (before.so_far stored first last between found)
-          (next_seen ids c.requires.ascend i id c.as_bytes.result.now is c.loop-id-test.true c.as_bytes.ensures.value rows.records.items rows.sups.items rows.conds.items rows.holds.items
-          c.loop-id.left c.cut_all.result.0 c.cut_all.result.1 before.records before.sups before.conds before.holds c.cut_all.ensures
-          c.in_ok-said.field-0 c.in_ok-said.ensures (id_of_text id c.as_bytes.result.now c.as_bytes.ensures.value c.as_bytes.ensures.allowed c.as_bytes.ensures.whole) stored first last between found);
-    }
+    let before = c.loop-id.invariant stored left in
+    let next = drop_more ids i id c.loop-id-test.true ∙ ap (λ x. x ∷ drop (i + 1) ids) is in
+    let it = c.in_ok-take.ensures stored (drop (i + 1) ids) (subst (λ xs. AreLeft stored xs c.loop-id.queues) next before.1) in
+    (c.in_ok-push.ensures.items ∙ more_seen (seen_in (tables_of stored).content) ids i id c.loop-id.seen.items c.in_ok-take.field-0 c.loop-id-test.true is before.0 it.0, it.1)
 
 pub returns : goal.returns
-returns c = λ stored first last between found.
-    c.loop-id.invariant.so_far stored first last between found ∙ ap (map (seen_in (tables_of stored).content)) (take_all c.loop-id.id-index c.args.ids.now c.loop-id-test.false)
+returns c = λ stored left.
+    (c.loop-id.invariant stored left).0 ∙ ap (map (seen_in (tables_of stored).content)) (take_all c.loop-id.id-index c.args.ids.now c.loop-id-test.false)
