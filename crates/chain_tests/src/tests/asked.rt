@@ -1,7 +1,7 @@
 //! What is asked of a judge. Each question is a function over any source and any judge, without a contract: its callers
 //! need to know nothing of the answer, and so their proofs are short.
 use super::print::verdict_text;
-use catalogue::{Change, Published, touched};
+use catalogue::{Change, Published, SourceFault, touched};
 use chains::{Judge, Listing, Status, candidates_for};
 use mcs_reader::Id;
 use std::alloc::Global;
@@ -21,8 +21,8 @@ pub(crate) fn told<P: Published, J: Judge<P>>(
 }
 
 /// All that is catalogued.
-pub(crate) fn all_ids<P: Published>(source: &mut P) -> Result<Vec<Id>, Fail> {
-    Ok(source.ids()?)
+pub(crate) fn all_ids<P: Published>(source: &mut P) -> Result<Vec<Id>, SourceFault> {
+    source.ids()
 }
 
 /// The statuses of ids.
@@ -32,8 +32,8 @@ pub(crate) fn statuses<P: Published, J: Judge<P>>(
     judge: &mut J,
     zone: &Zone,
     ids: &[Id],
-) -> Result<Vec<Status>, Fail> {
-    Ok(judge.statuses(alloc, source, zone, ids)?)
+) -> Result<Vec<Status>, SourceFault> {
+    judge.statuses(alloc, source, zone, ids)
 }
 
 /// The statuses of all that is catalogued.
@@ -42,7 +42,7 @@ pub(crate) fn all_statuses<P: Published, J: Judge<P>>(
     source: &mut P,
     judge: &mut J,
     zone: &Zone,
-) -> Result<Vec<Status>, Fail> {
+) -> Result<Vec<Status>, SourceFault> {
     let ids = all_ids(source)?;
     statuses(alloc, source, judge, zone, &ids)
 }
@@ -54,8 +54,8 @@ pub(crate) fn united<P: Published, J: Judge<P>>(
     judge: &mut J,
     zone: &Zone,
     ids: &[Id],
-) -> Result<Vec<Id>, Fail> {
-    Ok(judge.united(alloc, source, zone, ids)?)
+) -> Result<Vec<Id>, SourceFault> {
+    judge.united(alloc, source, zone, ids)
 }
 
 /// What the chosen plans of all that is catalogued have together.
@@ -64,7 +64,7 @@ pub(crate) fn all_united<P: Published, J: Judge<P>>(
     source: &mut P,
     judge: &mut J,
     zone: &Zone,
-) -> Result<Vec<Id>, Fail> {
+) -> Result<Vec<Id>, SourceFault> {
     let ids = all_ids(source)?;
     united(alloc, source, judge, zone, &ids)
 }
@@ -76,8 +76,8 @@ pub(crate) fn candidates<P: Published, J: Judge<P>>(
     judge: &mut J,
     zone: &Zone,
     ids: &[Id],
-) -> Result<Vec<Option<Vec<Id>>>, Fail> {
-    Ok(judge.candidates(alloc, source, zone, ids)?)
+) -> Result<Vec<Option<Vec<Id>>>, SourceFault> {
+    judge.candidates(alloc, source, zone, ids)
 }
 
 /// Whether a listing has the candidates that the source has, where the source is asked for what is marked.
@@ -88,7 +88,7 @@ pub(crate) fn has_candidates<P: Published>(
     marks: &[Id],
     zone: &Zone,
     ids: &[Id],
-) -> Result<bool, Fail> {
+) -> Result<bool, SourceFault> {
     let listed = candidates_for(alloc, source, Some(listing), marks, zone, ids)?;
     let read = candidates_for(alloc, source, None, &[], zone, ids)?;
     Ok(listed.as_slice() == read.as_slice())
@@ -100,7 +100,7 @@ pub(crate) fn forget<P: Published, J: Judge<P>>(
     source: &mut P,
     judge: &mut J,
     changes: &[Change],
-) -> Result<(), Fail> {
+) -> Result<(), SourceFault> {
     let ids = touched(alloc, source, changes)?;
     judge.drop_touched(&ids);
     Ok(())

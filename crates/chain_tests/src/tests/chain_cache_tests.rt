@@ -2,7 +2,7 @@
 ghost use Rattle.std.specs.Prelude.{◌≤◌};
 
 use super::asked;
-use catalogue::{Change, ListPublished};
+use catalogue::{Change, ListPublished, SourceFault};
 use chain_cache::ChainCache;
 use chains::Status;
 use mcs_reader::Id;
@@ -85,12 +85,12 @@ impl Cached {
     }
 
     // The statuses of all that is catalogued.
-    fn statuses(&mut self, alloc: Global, zone: &Zone) -> Result<Vec<Status>, Fail> {
+    fn statuses(&mut self, alloc: Global, zone: &Zone) -> Result<Vec<Status>, SourceFault> {
         asked::all_statuses(alloc, &mut self.lists, &mut self.cache, zone)
     }
 
     // What the chosen plans of all that is catalogued have together.
-    fn united(&mut self, alloc: Global, zone: &Zone) -> Result<Vec<Id>, Fail> {
+    fn united(&mut self, alloc: Global, zone: &Zone) -> Result<Vec<Id>, SourceFault> {
         asked::all_united(alloc, &mut self.lists, &mut self.cache, zone)
     }
 

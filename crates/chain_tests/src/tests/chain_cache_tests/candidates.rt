@@ -66,7 +66,7 @@ fn assert_given<P: Published, J: Judge<P>>(
 // Whether a source answers nothing, and a judge that keeps nothing has a fault.
 fn is_refused<P: Published>(alloc: Global, source: &mut P, zone: &Zone) -> Result<bool, Fail> {
     let ids = ids_of(alloc, &ASKED)?;
-    let refused = Whole::new().candidates(alloc, source, zone, &ids);
+    let refused = asked::candidates(alloc, source, &mut Whole::new(), zone, &ids);
     Ok(matches!(refused, Err(SourceFault::Device)))
 }
 

@@ -1,14 +1,12 @@
 //! What is kept of the catalogue over publications: a report after one is that over the whole catalogue, and only what
 //! was touched is read for it.
 use super::stored::{COUNT, Stored};
-use crate::tests::asked::all_ids;
-use catalogue::{Published, SourceFault};
-use chains::{Judge, Status};
+use crate::tests::asked::{all_ids, statuses};
+use catalogue::SourceFault;
 use mcs_reader::Id;
 use std::alloc::Global;
 use std::hash::RandomState;
 use std::test::Fail;
-use supersede::Zone;
 use testing::assert_equal_at;
 use testing_content::sequence;
 
@@ -24,16 +22,6 @@ fn reported(alloc: Global, keys: RandomState) -> Result<Stored, Fail> {
     let mut stored = Stored::filled(alloc, keys, &row)?;
     stored.assert_whole(alloc, "row")?;
     Ok(stored)
-}
-
-fn statuses<P: Published, J: Judge<P>>(
-    alloc: Global,
-    source: &mut P,
-    judge: &mut J,
-    zone: &Zone,
-    ids: &[Id],
-) -> Result<Vec<Status>, SourceFault> {
-    judge.statuses(alloc, source, zone, ids)
 }
 
 // Whether so many calls of the source are enough for a report on these.

@@ -2,7 +2,7 @@
 //! verdict is that over the whole catalogue.
 use super::Cached;
 use crate::tests::asked::{all_statuses, all_united, has_candidates, told};
-use catalogue::{Ids, ListPublished};
+use catalogue::{Ids, ListPublished, SourceFault};
 use chains::{Frame, FrameNode, Whole, frame, listing_of};
 use mcs_reader::Id;
 use std::alloc::Global;
@@ -98,13 +98,13 @@ fn is_as_built(
     lists: &mut ListPublished,
     id: &Id,
     kept: &Frame,
-) -> Result<bool, Fail> {
+) -> Result<bool, SourceFault> {
     let built = frame(alloc, lists, id)?;
     Ok(is_same_frame(kept, &built))
 }
 
 // Whether each frame that is kept is what would be built.
-fn are_as_built(alloc: Global, cached: &mut Cached) -> Result<bool, Fail> {
+fn are_as_built(alloc: Global, cached: &mut Cached) -> Result<bool, SourceFault> {
     let Cached { lists, cache } = cached;
     for (id, kept) in cache.iter() {
         if !is_as_built(alloc, lists, id, kept)? {
@@ -169,7 +169,7 @@ fn are_candidates(alloc: Global, lists: &mut ListPublished, zone: &Zone) -> Resu
     let listing = listing_of(alloc, lists)?;
     let are = has_candidates(alloc, lists, &listing, &[], zone, &ids);
     drop(listing);
-    are
+    Ok(are?)
 }
 
 // Whether frames, verdicts, statuses, plans and candidates are as over the whole catalogue, in a zone.
@@ -199,7 +199,7 @@ fn is_as_whole(
             return Ok(false);
         }
     }
-    are_as_built(alloc, cached)
+    Ok(are_as_built(alloc, cached)?)
 }
 
 // They are so after each of some publications.

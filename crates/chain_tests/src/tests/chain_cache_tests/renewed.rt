@@ -2,9 +2,9 @@
 //! anew, is the listing of the catalogue after it.
 use super::random::{PUBLICATIONS, RUNS, statements, zones};
 use crate::tests::asked::{all_ids, all_statuses, has_candidates};
-use catalogue::{Change, ListPublished, Published, touched};
+use catalogue::{Change, ListPublished, Published, SourceFault, touched};
 use chains::{Listing, Status, Survey, Whole, listing_of, sort_each_once};
-use mcs_reader::Id;
+use mcs_reader::{Id, NoMemory};
 use std::alloc::Global;
 use std::test::Fail;
 use supersede::Zone;
@@ -27,7 +27,11 @@ impl Drop for Touched {
 }
 
 impl Touched {
-    fn by(alloc: Global, lists: &mut ListPublished, changes: &[Change]) -> Result<Touched, Fail> {
+    fn by(
+        alloc: Global,
+        lists: &mut ListPublished,
+        changes: &[Change],
+    ) -> Result<Touched, SourceFault> {
         let ids = touched(alloc, lists, changes)?;
         let listing = listing_of(alloc, lists)?;
         Ok(Touched { listing, ids })
@@ -52,7 +56,7 @@ fn are_candidates(
     lists: &mut ListPublished,
     before: &Touched,
     zone: &Zone,
-) -> Result<bool, Fail> {
+) -> Result<bool, SourceFault> {
     let ids = all_ids(lists)?;
     has_candidates(alloc, lists, &before.listing, &before.ids, zone, &ids)
 }
@@ -62,7 +66,7 @@ fn are_candidates_in(
     lists: &mut ListPublished,
     before: &Touched,
     zones: &[Zone],
-) -> Result<bool, Fail> {
+) -> Result<bool, SourceFault> {
     for zone in zones {
         if !are_candidates(alloc, lists, before, zone)? {
             return Ok(false);
@@ -71,7 +75,11 @@ fn are_candidates_in(
     Ok(true)
 }
 
-fn renewed(alloc: Global, lists: &mut ListPublished, before: Touched) -> Result<Touched, Fail> {
+fn renewed(
+    alloc: Global,
+    lists: &mut ListPublished,
+    before: Touched,
+) -> Result<Touched, SourceFault> {
     let mut ids = Vec::from_slice(alloc, &before.ids)?;
     sort_each_once(&mut ids)?;
     let read = lists.seen(alloc, &ids)?;
@@ -84,11 +92,11 @@ fn statuses_by(
     listing: &Listing,
     zone: &Zone,
     ids: &[Id],
-) -> Result<Vec<Status>, Fail> {
+) -> Result<Vec<Status>, NoMemory> {
     let survey = Survey::of(alloc, zone, listing)?;
     let statuses = survey.statuses(alloc, ids);
     drop(survey);
-    Ok(statuses?)
+    statuses
 }
 
 // Whether the statuses by a listing are those over the whole catalogue.
@@ -97,7 +105,7 @@ fn are_statuses(
     lists: &mut ListPublished,
     listing: &Listing,
     zone: &Zone,
-) -> Result<bool, Fail> {
+) -> Result<bool, SourceFault> {
     let ids = all_ids(lists)?;
     let found = statuses_by(alloc, listing, zone, &ids)?;
     let whole = all_statuses(alloc, lists, &mut Whole::new(), zone)?;
@@ -109,7 +117,7 @@ fn are_statuses_in(
     lists: &mut ListPublished,
     listing: &Listing,
     zones: &[Zone],
-) -> Result<bool, Fail> {
+) -> Result<bool, SourceFault> {
     for zone in zones {
         if !are_statuses(alloc, lists, listing, zone)? {
             return Ok(false);

@@ -36,7 +36,7 @@ fn assert_all_good(alloc: Global, cached: &mut Cached, count: u32) -> Result<(),
 }
 
 fn united(alloc: Global, cached: &mut Cached) -> Result<Vec<Id>, Fail> {
-    cached.united(alloc, &zone_of(alloc, ZONE)?)
+    Ok(cached.united(alloc, &zone_of(alloc, ZONE)?)?)
 }
 
 // The chosen plans of all SYSMODs of a ring have the ring together.
