@@ -1,16 +1,15 @@
 //! What statements publish, what a publication leaves and touches, and that each call succeeds where there is
 //! memory.
-use super::content::{changes_of, publish};
-use super::print::{id_of, ids_text, put_ids};
 use catalogue::{
     Change, CondNeed, Ids, ListPublished, Published, Sysmod, SysmodKind, read_changes, touched,
 };
 use faults::{AnyFault, Fault};
 use holddata::{HoldChange, HoldKey};
-use mcs_reader::{Id, read};
+use mcs_reader::{Id, Statement, read};
 use std::alloc::Global;
 use std::test::Fail;
 use testing::{BASE, assert_equal, assert_equal_at};
+use testing_content::{changes_of, id_of, ids_text, publish, put_ids};
 
 mod lists;
 mod long;
@@ -184,11 +183,17 @@ static FAULTY: [(&[u8], u8, u32); 12] = [
     ),
 ];
 
+fn fault_of(alloc: Global, statements: &[Statement]) -> Result<AnyFault, Fail> {
+    match read_changes(alloc, statements) {
+        Ok(_) => Err(Fail::from("a fault is missed")),
+        Err(fault) => Ok(fault.told()),
+    }
+}
+
 fn assert_fault(alloc: Global, source: &[u8], number: u8, line: u32) -> Result<(), Fail> {
-    let Err(fault) = read_changes(alloc, &read(alloc, source)?) else {
-        return Err(Fail::from("a fault is missed"));
-    };
-    assert_equal_at(source, fault.told(), AnyFault::at_place(number, line))
+    let statements = read(alloc, source)?;
+    let told = fault_of(alloc, &statements)?;
+    assert_equal_at(source, told, AnyFault::at_place(number, line))
 }
 
 #[test]
@@ -257,9 +262,15 @@ fn answers(alloc: Global, lists: &mut ListPublished, id: &Id) -> Result<String, 
     Ok(text)
 }
 
-fn assert_answered(alloc: Global, sources: &[&[u8]], id: &[u8], text: &str) -> Result<(), Fail> {
+// What is answered of it, where this is published.
+fn answered(alloc: Global, sources: &[&[u8]], id: &[u8]) -> Result<String, Fail> {
+    let id = id_of(id)?;
     let mut lists = published(alloc, sources)?;
-    let answered = answers(alloc, &mut lists, &id_of(id)?)?;
+    answers(alloc, &mut lists, &id)
+}
+
+fn assert_answered(alloc: Global, sources: &[&[u8]], id: &[u8], text: &str) -> Result<(), Fail> {
+    let answered = answered(alloc, sources, id)?;
     assert_equal_at((sources, id), answered.as_str(), text)
 }
 
@@ -287,15 +298,15 @@ static TOUCHING: [(&[&[u8]], &[u8], &str); 4] = [
     (&[BASE], b"++HOLD(UA10002) SYSTEM REASON(ACTION).\n", ""),
 ];
 
-// What a publication touches.
-fn touched_by(alloc: Global, lists: &mut ListPublished, source: &[u8]) -> Result<Vec<Id>, Fail> {
+// What a publication after others touches.
+fn touched_by(alloc: Global, sources: &[&[u8]], source: &[u8]) -> Result<Vec<Id>, Fail> {
     let changes = changes_of(alloc, source)?;
-    Ok(touched(alloc, lists, &changes)?)
+    let mut lists = published(alloc, sources)?;
+    Ok(touched(alloc, &mut lists, &changes)?)
 }
 
 fn assert_touched(alloc: Global, sources: &[&[u8]], source: &[u8], text: &str) -> Result<(), Fail> {
-    let mut lists = published(alloc, sources)?;
-    let ids = touched_by(alloc, &mut lists, source)?;
+    let ids = touched_by(alloc, sources, source)?;
     assert_equal_at(source, ids_text(alloc, &ids)?.as_str(), text)
 }
 

@@ -1,12 +1,11 @@
 //! Look-ups in a zone, and what gives what.
-use super::content::published;
-use super::print::{id_of, ids_of, ids_text, zone_of};
 use mcs_reader::Id;
 use std::alloc::Global;
 use std::fmt::Write;
 use std::test::Fail;
 use supersede::{Zone, givers, there};
 use testing::assert_equal_at;
+use testing_content::{id_of, ids_of, ids_text, published, zone_of};
 
 mod largest;
 

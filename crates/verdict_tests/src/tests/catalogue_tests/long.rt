@@ -1,6 +1,5 @@
 //! Long publications: each is read and published in time that grows with its length alone.
 use super::ids_from;
-use crate::tests::print::{id_of, ids_text};
 use catalogue::{
     Change, ChangeReader, CondNeeds, Ids, ListPublished, Published, Sysmod, SysmodKind, touched,
 };
@@ -9,6 +8,7 @@ use std::alloc::Global;
 use std::fmt::Write;
 use std::test::Fail;
 use testing::assert_equal;
+use testing_content::{id_of, ids_text};
 
 #[test]
 fn long_publications_are_read_and_published(rt: HostRuntime) -> Result<(), Fail> {
@@ -44,30 +44,30 @@ fn changes_by(alloc: Global, statements: &[Statement]) -> Result<Vec<Change>, Fa
     Ok(reader.finish()?)
 }
 
-// The record that stands among changes, and nothing else.
-fn only_record(mut changes: Vec<Change>) -> Result<Sysmod, Fail> {
-    assert_equal(changes.len(), 1)?;
-    match changes.pop() {
-        Some(Change::Whole(sysmod)) => Ok(sysmod),
-        _ => Err("a record".into()),
+// How many PRE, and how many requisites under a condition, has the record that stands among changes, and nothing else.
+fn lengths_of(changes: &[Change]) -> Result<(usize, usize), Fail> {
+    match changes {
+        [Change::Whole(sysmod)] => {
+            Ok((sysmod.pre.as_slice().len(), sysmod.conds.as_slice().len()))
+        }
+        _ => Err(Fail::from("one record")),
     }
 }
 
-fn one_record(alloc: Global, source: &[u8]) -> Result<Sysmod, Fail> {
+fn lengths_in(alloc: Global, source: &[u8]) -> Result<(usize, usize), Fail> {
     let statements = read(alloc, source)?;
-    only_record(changes_by(alloc, &statements)?)
+    let changes = changes_by(alloc, &statements)?;
+    lengths_of(&changes)
 }
 
 fn assert_vers_after_one_header(alloc: Global) -> Result<(), Fail> {
     let source = vers_after_one_header(alloc, 20_000)?;
-    let record = one_record(alloc, source.as_bytes())?;
-    assert_equal(record.pre.as_slice().len(), 20_000)
+    assert_equal(lengths_in(alloc, source.as_bytes())?, (20_000, 0))
 }
 
 fn assert_ifs_after_one_header(alloc: Global) -> Result<(), Fail> {
     let source = ifs_after_one_header(alloc, 20_000)?;
-    let record = one_record(alloc, source.as_bytes())?;
-    assert_equal(record.conds.as_slice().len(), 20_000)
+    assert_equal(lengths_in(alloc, source.as_bytes())?, (0, 20_000))
 }
 
 fn numbered(alloc: Global, letter: char, number: u32) -> Result<Id, Fail> {
@@ -75,11 +75,15 @@ fn numbered(alloc: Global, letter: char, number: u32) -> Result<Id, Fail> {
     id_of(text.as_bytes())
 }
 
+// A list of one id.
+fn only(alloc: Global, id: Id) -> Result<Ids, Fail> {
+    Ok(ids_from(alloc, &[id])?.ok_or("it ascends")?)
+}
+
 // The PTF with one number, which supersedes that with another.
 fn ptf(alloc: Global, number: u32, superseded: u32) -> Result<Change, Fail> {
     let id = numbered(alloc, 'U', number)?;
-    let below = numbered(alloc, 'S', superseded)?;
-    let sup = ids_from(alloc, &[below])?.ok_or("it ascends")?;
+    let sup = only(alloc, numbered(alloc, 'S', superseded)?)?;
     Ok(Change::Whole(Sysmod {
         id,
         kind: SysmodKind::Ptf,
@@ -133,13 +137,21 @@ fn assert_superseders_of_one(alloc: Global) -> Result<(), Fail> {
     assert_above_one(alloc, &mut lists, &changes)
 }
 
+fn assert_sup(alloc: Global, sysmod: &Sysmod, wanted: &str) -> Result<(), Fail> {
+    assert_equal(ids_text(alloc, sysmod.sup.as_slice())?.as_str(), wanted)
+}
+
 // The last record of the one is in force.
 fn assert_last(alloc: Global, lists: &mut ListPublished) -> Result<(), Fail> {
-    let last = lists.sysmod(&id_of(b"U1")?)?.ok_or("a record")?;
-    assert_equal(ids_text(alloc, last.sup.as_slice())?.as_str(), " S0")
+    let id = id_of(b"U1")?;
+    match lists.sysmod(&id)? {
+        Some(last) => assert_sup(alloc, &last, " S0"),
+        None => Err(Fail::from("a record")),
+    }
 }
 
 fn assert_one_again(alloc: Global) -> Result<(), Fail> {
     let changes = one_again(alloc, 20_000)?;
-    assert_last(alloc, &mut published_by(alloc, &changes)?)
+    let mut lists = published_by(alloc, &changes)?;
+    assert_last(alloc, &mut lists)
 }

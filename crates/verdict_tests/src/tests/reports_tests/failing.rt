@@ -1,25 +1,33 @@
 //! A source that fails: each call that reads it passes the failure on, whichever read it comes in.
+use super::asked::{chain_by, err_rows_by, missing_rows_by};
+use super::case::{ALPHA, case_of};
 use super::id;
-use super::worked::{ALPHA, FIXCAT, case_of};
-use crate::tests::content::changes_of;
+use super::worked::FIXCAT;
 use bureau_store::{ListStore, Store};
 use catalogue::{Change, Ids, Published, SourceFault, touched};
 use chains::{Judge, Whole};
 use failing_store::FailingStore;
 use holddata::{Hold, Kind};
 use mcs_reader::Id;
-use reports::{err_rows, missing_rows, plan_json};
 use std::alloc::Global;
 use std::test::Fail;
 use supersede::{Zone, givers};
 use testing::{BASE, assert_equal_at, with_base};
+use testing_content::{changes_of, zone_of};
 use zone_lists::{Pattern, patterns};
+
+// What changes publish, in a store.
+fn stored(alloc: Global, changes: &[Change]) -> Result<ListStore, Fail> {
+    let mut lists = ListStore::new(alloc, &[])?;
+    lists.publish(1, b"published", changes)?;
+    Ok(lists)
+}
 
 /// What the worked case and more publish, in a store that answers so many reads, and then fails for good.
 pub(crate) fn failing(alloc: Global, more: &str, left: u64) -> Result<FailingStore, Fail> {
-    let mut lists = ListStore::new(alloc, &[])?;
-    let changes = changes_of(alloc, &with_base(alloc, more.as_bytes())?)?;
-    lists.publish(1, b"published", &changes)?;
+    let source = with_base(alloc, more.as_bytes())?;
+    let changes = changes_of(alloc, &source)?;
+    let lists = stored(alloc, &changes)?;
     Ok(FailingStore::new(lists, left))
 }
 
@@ -36,43 +44,72 @@ enum Call {
 }
 
 // What is asked about.
-#[derive(Drop)]
 struct Asked {
     zone: Zone,
     name: Id,
     sysmod: Id,
     reason: Id,
+    received: Ids,
     errors: Vec<Hold>,
     fixes: Vec<Hold>,
     patterns: Vec<Pattern>,
     changes: Vec<Change>,
 }
 
+// By hand, so that a function that owns one lets it go by one call.
+impl Drop for Asked {
+    fn drop(self) {
+        let Asked {
+            zone,
+            name: _,
+            sysmod: _,
+            reason: _,
+            received,
+            errors,
+            fixes,
+            patterns,
+            changes,
+        } = self;
+        drop(zone);
+        drop(received);
+        drop(errors);
+        drop(fixes);
+        drop(patterns);
+        drop(changes);
+    }
+}
+
+fn holds_of(alloc: Global, kind: Kind) -> Result<Vec<Hold>, Fail> {
+    Ok(case_of(alloc, FIXCAT, ALPHA, kind)?.into_holds())
+}
+
 fn what_is_asked(alloc: Global) -> Result<Asked, Fail> {
-    let errors = case_of(alloc, FIXCAT, ALPHA, Kind::ErrorHold)?;
-    let fixes = case_of(alloc, FIXCAT, ALPHA, Kind::FixcatHold)?;
+    let (name, sysmod, reason) = (id("TGT1")?, id("UA10002")?, id("AA20002")?);
+    let errors = holds_of(alloc, Kind::ErrorHold)?;
+    let fixes = holds_of(alloc, Kind::FixcatHold)?;
+    let zone = zone_of(alloc, ALPHA)?;
+    let patterns = patterns(alloc, b"CATEGORY\n*\n")?;
+    let changes = changes_of(alloc, BASE)?;
     Ok(Asked {
-        zone: errors.zone,
-        name: id("TGT1")?,
-        sysmod: id("UA10002")?,
-        reason: id("AA20002")?,
-        errors: errors.holds,
-        fixes: fixes.holds,
-        patterns: patterns(alloc, b"CATEGORY\n*\n")?,
-        changes: changes_of(alloc, BASE)?,
+        zone,
+        name,
+        sysmod,
+        reason,
+        received: Ids::new(alloc),
+        errors,
+        fixes,
+        patterns,
+        changes,
     })
 }
 
-fn make(
+fn make<P: Published>(
     alloc: Global,
-    source: &mut FailingStore,
+    source: &mut P,
     asked: &Asked,
     call: Call,
 ) -> Result<(), SourceFault> {
-    let Asked { zone, .. } = asked;
-    let mut judge = Whole::new();
-    let none = Ids::new(alloc);
-    let received = none.as_slice();
+    let (zone, none) = (&asked.zone, &asked.received);
     match call {
         Call::Touched => {
             touched(alloc, source, &asked.changes)?;
@@ -81,47 +118,63 @@ fn make(
             givers(alloc, source, &asked.reason)?;
         }
         Call::Verdict => {
-            judge.verdict(alloc, source, zone, &asked.sysmod)?;
+            Whole::new().verdict(alloc, source, zone, &asked.sysmod)?;
         }
         Call::Statuses => {
-            judge.statuses(alloc, source, zone, &[asked.sysmod])?;
+            Whole::new().statuses(alloc, source, zone, &[asked.sysmod])?;
         }
         Call::ErrRows => {
-            err_rows(alloc, source, &mut judge, zone, received, &asked.errors)?;
+            err_rows_by(alloc, source, zone, none, &asked.errors)?;
         }
         Call::MissingRows => {
-            missing_rows(
-                alloc,
-                source,
-                &mut judge,
-                zone,
-                received,
-                &asked.patterns,
-                &asked.fixes,
-            )?;
+            missing_rows_by(alloc, source, zone, none, &asked.patterns, &asked.fixes)?;
         }
         Call::PlanJson => {
-            let verdict = judge.verdict(alloc, source, zone, &asked.sysmod)?;
-            plan_json(alloc, source, &asked.name, &asked.sysmod, &verdict)?;
+            chain_by(alloc, source, zone, &asked.name, &asked.sysmod)?;
         }
     }
     Ok(())
 }
 
-// How often a call reads, where each of its reads in turn fails and is passed on.
-fn reads_of(alloc: Global, asked: &Asked, which: Call) -> Result<u64, Fail> {
-    for left in 0..64 {
-        let mut source = failing(alloc, FIXCAT, left)?;
-        match make(alloc, &mut source, asked, which) {
-            Ok(()) => return Ok(left),
-            Err(SourceFault::Memory) => return Err(Fail::from(
-                "a failure is told as want of memory",
-            )),
-            Err(SourceFault::Device) => {}
+// A call read no more after its first failure.
+fn assert_ended(source: &mut FailingStore) -> Result<(), Fail> {
+    let again = source.ids();
+    if source.failures != 2 || !matches!(again, Err(SourceFault::Device)) {
+        return Err(Fail::from("a call goes on after a failure"));
+    }
+    Ok(())
+}
+
+// Whether a call succeeds where so many reads are answered. The first one that fails is passed on.
+fn succeeds(
+    alloc: Global,
+    source: &mut FailingStore,
+    asked: &Asked,
+    which: Call,
+    left: u64,
+) -> Result<bool, Fail> {
+    source.left = left;
+    source.failures = 0;
+    match make(alloc, source, asked, which) {
+        Ok(()) => Ok(true),
+        Err(SourceFault::Memory) => Err(Fail::from("a failure is told as want of memory")),
+        Err(SourceFault::Device) => {
+            assert_ended(source)?;
+            Ok(false)
         }
-        let again = source.ids();
-        if source.failures != 2 || !matches!(again, Err(SourceFault::Device)) {
-            return Err(Fail::from("a call goes on after a failure"));
+    }
+}
+
+// How often a call reads, where each of its reads in turn fails and is passed on.
+fn reads_of(
+    alloc: Global,
+    source: &mut FailingStore,
+    asked: &Asked,
+    which: Call,
+) -> Result<u64, Fail> {
+    for left in 0..64 {
+        if succeeds(alloc, source, asked, which, left)? {
+            return Ok(left);
         }
     }
     Err(Fail::from("a call never succeeds"))
@@ -138,12 +191,16 @@ static READS: [(Call, u64); 7] = [
     (Call::PlanJson, 16),
 ];
 
-#[test]
-fn each_read_that_fails_is_passed_on(rt: HostRuntime) -> Result<(), Fail> {
-    let alloc = rt.alloc();
-    let asked = what_is_asked(alloc)?;
+fn assert_reads(alloc: Global, source: &mut FailingStore, asked: &Asked) -> Result<(), Fail> {
     for (which, count) in &READS {
-        assert_equal_at(*which, reads_of(alloc, &asked, *which)?, *count)?;
+        assert_equal_at(*which, reads_of(alloc, source, asked, *which)?, *count)?;
     }
     Ok(())
+}
+
+#[test]
+fn each_read_that_fails_is_passed_on(rt: HostRuntime) -> Result<(), Fail> {
+    let asked = what_is_asked(rt.alloc())?;
+    let mut source = failing(rt.alloc(), FIXCAT, 0)?;
+    assert_reads(rt.alloc(), &mut source, &asked)
 }

@@ -1,63 +1,48 @@
 //! Worked reports and chains, from statements and a client's lists to their bytes.
-use super::{ERR_FRONT, MISSING_FRONT, assert_text, id};
-use crate::tests::content::published_with_base;
-use crate::tests::print::zone_of;
-use crate::tests::sequence::sequence;
-use catalogue::{ListPublished, Published};
-use chains::{Judge, Whole};
-use holddata::{Hold, Kind};
+use super::asked::{chain_by, err_rows_by, missing_rows_by, received_of};
+use super::case::{ALPHA, Case, case_of};
+use super::{ERR_FRONT, MISSING_FRONT, assert_report, assert_text, id};
+use holddata::Kind;
 use mcs_reader::Id;
-use reports::{err_rows, err_text, missing_rows, missing_text, plan_json};
+use reports::{ErrRow, MissingRow, err_text, missing_text};
 use std::alloc::Global;
 use std::fmt::Write;
 use std::test::Fail;
-use supersede::Zone;
-use zone_lists::{ZoneRow, patterns, received_rows, zone_rows};
+use testing_content::{published_with_base, sequence, zone_of};
+use zone_lists::patterns;
 
-pub(crate) const ALPHA: &[u8] = b"SYSMOD,STATE\nHBB7790,APPLIED\nUA10001,APPLIED\n";
-
-// The holds of a kind on the SYSMODs that are installed, in the order of their keys.
-pub(crate) fn held(
-    alloc: Global,
-    lists: &mut ListPublished,
-    rows: &[ZoneRow],
-    kind: Kind,
-) -> Result<Vec<Hold>, Fail> {
-    let mut held = Vec::new(alloc);
-    for row in rows {
-        if row.state.is_installed() {
-            for hold in lists.holds_on(&row.sysmod)? {
-                if hold.key.kind == kind {
-                    held.push(hold)?;
-                }
-            }
-        }
-    }
-    Ok(held)
+fn err_rows_in(alloc: Global, case: &mut Case, received: &[u8]) -> Result<Vec<ErrRow>, Fail> {
+    let Case { lists, zone, holds } = case;
+    let received = received_of(alloc, received)?;
+    Ok(err_rows_by(alloc, lists, zone, &received, holds)?)
 }
 
-// What is published, a zone, and the holds of a kind on the SYSMODs that are installed there.
-#[derive(Drop)]
-pub(crate) struct Case {
-    pub lists: ListPublished,
-    pub zone: Zone,
-    pub holds: Vec<Hold>,
-}
-
-pub(crate) fn case_of(alloc: Global, more: &str, zone: &[u8], kind: Kind) -> Result<Case, Fail> {
-    let mut lists = published_with_base(alloc, more.as_bytes())?;
-    let rows = zone_rows(alloc, zone)?;
-    let holds = held(alloc, &mut lists, &rows, kind)?;
-    let zone = Zone::new(alloc, &rows)?;
-    Ok(Case { lists, zone, holds })
+fn err_report_in(alloc: Global, case: &mut Case, received: &[u8]) -> Result<Vec<u8>, Fail> {
+    let name = id("TGT1")?;
+    let rows = err_rows_in(alloc, case, received)?;
+    Ok(err_text(alloc, &name, &rows)?)
 }
 
 fn err_report(alloc: Global, more: &str, received: &[u8]) -> Result<Vec<u8>, Fail> {
     let mut case = case_of(alloc, more, ALPHA, Kind::ErrorHold)?;
-    let Case { lists, zone, holds } = &mut case;
-    let received = received_rows(alloc, received)?;
-    let rows = err_rows(alloc, lists, &mut Whole::new(), zone, &received, holds)?;
-    Ok(err_text(alloc, &id("TGT1")?, &rows)?)
+    err_report_in(alloc, &mut case, received)
+}
+
+fn missing_rows_in(
+    alloc: Global,
+    case: &mut Case,
+    categories: &[u8],
+) -> Result<Vec<MissingRow>, Fail> {
+    let Case { lists, zone, holds } = case;
+    let received = received_of(alloc, b"SYSMOD\nUA10009\n")?;
+    let patterns = patterns(alloc, categories)?;
+    Ok(missing_rows_by(alloc, lists, zone, &received, &patterns, holds)?)
+}
+
+fn missing_report_in(alloc: Global, case: &mut Case, categories: &[u8]) -> Result<Vec<u8>, Fail> {
+    let name = id("TGT1")?;
+    let rows = missing_rows_in(alloc, case, categories)?;
+    Ok(missing_text(alloc, &name, &rows)?)
 }
 
 fn missing_report(
@@ -67,25 +52,14 @@ fn missing_report(
     categories: &[u8],
 ) -> Result<Vec<u8>, Fail> {
     let mut case = case_of(alloc, more, zone, Kind::FixcatHold)?;
-    let Case { lists, zone, holds } = &mut case;
-    let received = received_rows(alloc, b"SYSMOD\nUA10009\n")?;
-    let rows = missing_rows(
-        alloc,
-        lists,
-        &mut Whole::new(),
-        zone,
-        &received,
-        &patterns(alloc, categories)?,
-        holds,
-    )?;
-    Ok(missing_text(alloc, &id("TGT1")?, &rows)?)
+    missing_report_in(alloc, &mut case, categories)
 }
 
 fn chain(alloc: Global, more: &str, sysmod: &Id) -> Result<Vec<u8>, Fail> {
-    let mut lists = published_with_base(alloc, more.as_bytes())?;
+    let name = id("TGT1")?;
     let zone = zone_of(alloc, ALPHA)?;
-    let verdict = Whole::new().verdict(alloc, &mut lists, &zone, sysmod)?;
-    Ok(plan_json(alloc, &mut lists, &id("TGT1")?, sysmod, &verdict)?)
+    let mut lists = published_with_base(alloc, more.as_bytes())?;
+    Ok(chain_by(alloc, &mut lists, &zone, &name, sysmod)?)
 }
 
 fn assert_err_report(
@@ -96,8 +70,7 @@ fn assert_err_report(
     rows: &str,
 ) -> Result<(), Fail> {
     let text = err_report(alloc, more, received)?;
-    let wanted = format!(in alloc; "{ERR_FRONT}{rows}")?;
-    assert_text(what, &text, &wanted)
+    assert_report(alloc, what, &text, ERR_FRONT, rows)
 }
 
 const NOTHING: &[u8] = b"SYSMOD\n";
@@ -267,8 +240,8 @@ fn joined(alloc: Global, parts: &[&str]) -> Result<String, Fail> {
     Ok(text)
 }
 
-fn missing_text_of(alloc: Global, rows: &[(&str, &str)]) -> Result<String, Fail> {
-    let mut text = String::from_str(alloc, MISSING_FRONT)?;
+fn missing_rows_text(alloc: Global, rows: &[(&str, &str)]) -> Result<String, Fail> {
+    let mut text = String::new(alloc);
     for (front, resolver) in rows {
         write!(text, "{front}  {resolver}\n")?;
     }
@@ -278,8 +251,9 @@ fn missing_text_of(alloc: Global, rows: &[(&str, &str)]) -> Result<String, Fail>
 
 fn assert_missing_report(alloc: Global, missing: &Missing) -> Result<(), Fail> {
     let (what, more, zone, categories, rows) = missing;
+    let wanted = missing_rows_text(alloc, rows)?;
     let text = missing_report(alloc, joined(alloc, more)?.as_str(), zone, categories)?;
-    assert_text(what, &text, &missing_text_of(alloc, rows)?)
+    assert_report(alloc, what, &text, MISSING_FRONT, &wanted)
 }
 
 #[test]

@@ -1,10 +1,10 @@
 //! The largest zone that a client may have.
-use crate::tests::print::{id_of, zone_of};
 use std::alloc::Global;
 use std::fmt::Write;
 use std::test::Fail;
 use supersede::Zone;
 use testing::assert_equal;
+use testing_content::{id_of, zone_of};
 
 fn largest(alloc: Global) -> Result<String, Fail> {
     let mut text = String::from_str(alloc, "SYSMOD,STATE\n")?;

@@ -1,12 +1,11 @@
 //! Worked verdicts.
 use super::{assert_as_whole, assert_judged, assert_statuses, assert_united};
-use crate::tests::content::published_with_base;
-use crate::tests::print::{id_of, zone_of};
 use catalogue::ListPublished;
 use mcs_reader::Id;
 use std::alloc::Global;
 use std::test::Fail;
 use supersede::Zone;
+use testing_content::{id_of, published_with_base, zone_of};
 
 const ALPHA: &[u8] = b"SYSMOD,STATE\nHBB7790,APPLIED\nUA10001,APPLIED\n";
 
@@ -123,7 +122,8 @@ fn assert_verdict(
 }
 
 fn assert_row(alloc: Global, more: &[u8], zone: &[u8], id: &[u8], text: &str) -> Result<(), Fail> {
-    let (id, zone) = (id_of(id)?, zone_of(alloc, zone)?);
+    let id = id_of(id)?;
+    let zone = zone_of(alloc, zone)?;
     let mut lists = published_with_base(alloc, more)?;
     assert_verdict(alloc, &mut lists, &zone, id, text)
 }

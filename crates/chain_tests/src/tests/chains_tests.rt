@@ -1,7 +1,8 @@
 //! Worked verdicts over lists, verdicts beside a plain slow body, and hard shapes at length.
+use super::asked::{statuses, told, united};
 use super::print::verdict_text;
-use catalogue::{ListPublished, SourceFault};
-use chains::{Frame, Judge, Status, Verdict, Whole, frame, good, plan};
+use catalogue::{ListPublished, Published, SourceFault};
+use chains::{Frame, Judge, Verdict, Whole, frame, good, plan};
 use mcs_reader::Id;
 use std::alloc::Global;
 use std::fmt::Debug;
@@ -14,15 +15,9 @@ mod random;
 mod rows;
 mod shapes;
 
-/// The verdict over the whole catalogue, in print.
-pub(crate) fn judged(
-    alloc: Global,
-    lists: &mut ListPublished,
-    zone: &Zone,
-    id: &Id,
-) -> Result<String, Fail> {
-    let verdict = Whole::new().verdict(alloc, lists, zone, id)?;
-    verdict_text(alloc, &verdict)
+// The verdict over the whole catalogue, in print.
+fn judged(alloc: Global, lists: &mut ListPublished, zone: &Zone, id: &Id) -> Result<String, Fail> {
+    told(alloc, lists, &mut Whole::new(), zone, id)
 }
 
 // The verdict on an id over the whole catalogue is this, in a case.
@@ -42,13 +37,13 @@ fn assert_judged<P: Debug + Copy + Drop>(
 #[derive(Drop)]
 struct OneByOne;
 
-impl Judge<ListPublished> for OneByOne {
+impl<P: Published> Judge<P> for OneByOne {
     ghost is_right = { λ _ _. Unit {0} };
 
     fn verdict(
         &mut self,
         alloc: Global,
-        source: &mut ListPublished,
+        source: &mut P,
         zone: &Zone,
         id: &Id,
     ) -> Result<Verdict, SourceFault> {
@@ -66,8 +61,8 @@ fn assert_statuses<P: Debug + Drop>(
     zone: &Zone,
     ids: &[Id],
 ) -> Result<(), Fail> {
-    let together = Whole::new().statuses(alloc, lists, zone, ids)?;
-    let each = OneByOne.statuses(alloc, lists, zone, ids)?;
+    let together = statuses(alloc, lists, &mut Whole::new(), zone, ids)?;
+    let each = statuses(alloc, lists, &mut OneByOne, zone, ids)?;
     assert_equal_at(case, together.as_slice(), each.as_slice())
 }
 
@@ -79,8 +74,8 @@ fn assert_united<P: Debug + Drop>(
     zone: &Zone,
     ids: &[Id],
 ) -> Result<(), Fail> {
-    let together = Whole::new().united(alloc, lists, zone, ids)?;
-    let each = OneByOne.united(alloc, lists, zone, ids)?;
+    let together = united(alloc, lists, &mut Whole::new(), zone, ids)?;
+    let each = united(alloc, lists, &mut OneByOne, zone, ids)?;
     assert_equal_at(case, together.as_slice(), each.as_slice())
 }
 
@@ -90,23 +85,19 @@ fn planned(alloc: Global, frame: &Frame, zone: &Zone, id: &Id) -> Result<String,
     verdict_text(alloc, &verdict)
 }
 
-// The status of an id, whose verdict from a frame alone is that over the whole catalogue.
-fn status_by_both<P: Debug + Copy + Drop>(
+// Whether an id is good. Its verdict from a frame alone is that over the whole catalogue.
+fn is_good_by_both<P: Debug + Drop>(
     case: P,
     alloc: Global,
     lists: &mut ListPublished,
     frame: &Frame,
     zone: &Zone,
     id: &Id,
-) -> Result<Status, Fail> {
-    let whole = Whole::new().verdict(alloc, lists, zone, id)?;
+) -> Result<bool, Fail> {
+    let whole = judged(alloc, lists, zone, id)?;
     let text = planned(alloc, frame, zone, id)?;
-    assert_equal_at(
-        (case, *id),
-        text.as_str(),
-        verdict_text(alloc, &whole)?.as_str(),
-    )?;
-    Ok(whole.status())
+    assert_equal_at(case, text.as_str(), whole.as_str())?;
+    Ok(whole.starts_with("GOOD"))
 }
 
 // The good ones among all that a frame has.
@@ -119,7 +110,7 @@ fn good_by_both<P: Debug + Copy + Drop>(
 ) -> Result<Vec<Id>, Fail> {
     let mut those: Vec<Id> = Vec::new(alloc);
     for node in frame.nodes() {
-        if status_by_both(case, alloc, lists, frame, zone, &node.id)? == Status::Good {
+        if is_good_by_both((case, node.id), alloc, lists, frame, zone, &node.id)? {
             those.push(node.id)?;
         }
     }
@@ -138,6 +129,17 @@ fn assert_good<P: Debug + Drop>(
     assert_equal_at(case, good.as_slice(), those)
 }
 
+fn assert_frame<P: Debug + Copy + Drop>(
+    case: P,
+    alloc: Global,
+    lists: &mut ListPublished,
+    frame: &Frame,
+    zone: &Zone,
+) -> Result<(), Fail> {
+    let those = good_by_both(case, alloc, lists, frame, zone)?;
+    assert_good(case, alloc, frame, zone, &those)
+}
+
 // Whether the verdicts on all that an id reaches, from its frame alone, are those over the whole catalogue, in a case.
 fn assert_as_whole<P: Debug + Copy + Drop>(
     case: P,
@@ -147,6 +149,5 @@ fn assert_as_whole<P: Debug + Copy + Drop>(
     id: &Id,
 ) -> Result<(), Fail> {
     let frame = frame(alloc, lists, id)?;
-    let those = good_by_both(case, alloc, lists, &frame, zone)?;
-    assert_good((case, *id), alloc, &frame, zone, &those)
+    assert_frame((case, *id), alloc, lists, &frame, zone)
 }

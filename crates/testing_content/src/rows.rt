@@ -3,8 +3,12 @@ use std::alloc::Global;
 use std::fmt::Write;
 use std::test::Fail;
 
-/// A PTF, with an operand that names another.
-pub(crate) fn put_ptf(text: &mut String, number: u32, operand: &str, to: u32) -> Result<(), Fail> {
+/// Puts a PTF into a text, with an operand that names another.
+///
+/// # Errors
+///
+/// A failure where memory ran out.
+pub fn put_ptf(text: &mut String, number: u32, operand: &str, to: u32) -> Result<(), Fail> {
     write!(
         text,
         "++PTF(N{number:05}).\n++VER(Z038) FMID(HBB7790) {operand}(N{to:05}).\n"
@@ -13,12 +17,11 @@ pub(crate) fn put_ptf(text: &mut String, number: u32, operand: &str, to: u32) ->
 }
 
 /// So many PTFs, numbered from 0, each of which names the next by an operand, and the last one another.
-pub(crate) fn sequence(
-    alloc: Global,
-    operand: &str,
-    count: u32,
-    last: u32,
-) -> Result<String, Fail> {
+///
+/// # Errors
+///
+/// A failure where memory ran out.
+pub fn sequence(alloc: Global, operand: &str, count: u32, last: u32) -> Result<String, Fail> {
     let mut text = String::new(alloc);
     for number in 0..count {
         let next = number.saturating_add(1);
@@ -33,7 +36,11 @@ pub(crate) fn sequence(
 }
 
 /// So many PTFs, numbered from 0, each of which needs the next where the function HXX0001 is installed.
-pub(crate) fn conditional_sequence(alloc: Global, count: u32) -> Result<String, Fail> {
+///
+/// # Errors
+///
+/// A failure where memory ran out.
+pub fn conditional_sequence(alloc: Global, count: u32) -> Result<String, Fail> {
     let mut text = String::new(alloc);
     for number in 0..count {
         let next = number.saturating_add(1);

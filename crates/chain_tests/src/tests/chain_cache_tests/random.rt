@@ -1,10 +1,9 @@
 //! Catalogues that are drawn at random, with publications between: what is kept is what would be built, and each
 //! verdict is that over the whole catalogue.
 use super::Cached;
-use crate::tests::chains_tests::judged;
-use crate::tests::print::{id_of, zone_of};
-use catalogue::{Ids, ListPublished, Published};
-use chains::{Frame, Judge, Status, Whole, candidates_for, frame, listing_of};
+use crate::tests::asked::{all_statuses, all_united, has_candidates, told};
+use catalogue::{Ids, ListPublished, SourceFault};
+use chains::{Frame, FrameNode, Whole, frame, listing_of};
 use mcs_reader::Id;
 use std::alloc::Global;
 use std::fmt::Write;
@@ -12,6 +11,7 @@ use std::hash::RandomState;
 use std::test::Fail;
 use supersede::Zone;
 use testing::{Draws, assert_equal_at};
+use testing_content::{id_of, zone_of};
 
 pub(super) const RUNS: u32 = 20;
 
@@ -79,23 +79,35 @@ fn are_same(ids: &Ids, others: &Ids) -> bool {
     ids.as_slice() == others.as_slice()
 }
 
+fn is_same_node(node: &FrameNode, other: &FrameNode) -> bool {
+    node.id == other.id
+        && node.catalogued == other.catalogued
+        && are_same(&node.fmids, &other.fmids)
+        && are_same(&node.needs, &other.needs)
+        && node.conds.as_slice() == other.conds.as_slice()
+        && are_same(&node.givers, &other.givers)
+}
+
 fn is_same_frame(frame: &Frame, other: &Frame) -> bool {
-    frame.nodes().len() == other.nodes().len()
-        && frame.nodes().iter().zip(other.nodes()).all(|(node, same)| {
-            node.id == same.id
-                && node.catalogued == same.catalogued
-                && are_same(&node.fmids, &same.fmids)
-                && are_same(&node.needs, &same.needs)
-                && node.conds.as_slice() == same.conds.as_slice()
-                && are_same(&node.givers, &same.givers)
-        })
+    let mut pairs = frame.nodes().iter().zip(other.nodes());
+    frame.nodes().len() == other.nodes().len() && pairs.all(|(node, same)| is_same_node(node, same))
+}
+
+fn is_as_built(
+    alloc: Global,
+    lists: &mut ListPublished,
+    id: &Id,
+    kept: &Frame,
+) -> Result<bool, SourceFault> {
+    let built = frame(alloc, lists, id)?;
+    Ok(is_same_frame(kept, &built))
 }
 
 // Whether each frame that is kept is what would be built.
-fn are_as_built(alloc: Global, cached: &mut Cached) -> Result<bool, Fail> {
+fn are_as_built(alloc: Global, cached: &mut Cached) -> Result<bool, SourceFault> {
     let Cached { lists, cache } = cached;
     for (id, kept) in cache.iter() {
-        if !is_same_frame(kept, &frame(alloc, lists, id)?) {
+        if !is_as_built(alloc, lists, id, kept)? {
             return Ok(false);
         }
     }
@@ -109,7 +121,8 @@ fn id_by_number(alloc: Global, number: u32) -> Result<Id, Fail> {
 // Whether a verdict is that over the whole catalogue.
 fn is_verdict(alloc: Global, cached: &mut Cached, zone: &Zone, id: &Id) -> Result<bool, Fail> {
     let given = cached.verdict(alloc, zone, id)?;
-    Ok(given == judged(alloc, &mut cached.lists, zone, id)?)
+    let whole = told(alloc, &mut cached.lists, &mut Whole::new(), zone, id)?;
+    Ok(given == whole)
 }
 
 // Whether some verdicts are those over the whole catalogue.
@@ -128,33 +141,17 @@ fn are_verdicts(
     Ok(true)
 }
 
-// The statuses of all that is catalogued, over the whole catalogue.
-pub(super) fn statuses(
-    alloc: Global,
-    lists: &mut ListPublished,
-    zone: &Zone,
-) -> Result<Vec<Status>, Fail> {
-    let ids = lists.ids()?;
-    Ok(Whole::new().statuses(alloc, lists, zone, &ids)?)
-}
-
-// Whether the statuses of all that is catalogued are these.
+// Whether the statuses of all that is catalogued are those over the whole catalogue.
 fn are_statuses(alloc: Global, cached: &mut Cached, zone: &Zone) -> Result<bool, Fail> {
     let given = cached.statuses(alloc, zone)?;
-    let whole = statuses(alloc, &mut cached.lists, zone)?;
+    let whole = all_statuses(alloc, &mut cached.lists, &mut Whole::new(), zone)?;
     Ok(given.as_slice() == whole.as_slice())
 }
 
-// What the chosen plans of all that is catalogued have together, over the whole catalogue.
-fn united(alloc: Global, lists: &mut ListPublished, zone: &Zone) -> Result<Vec<Id>, Fail> {
-    let ids = lists.ids()?;
-    Ok(Whole::new().united(alloc, lists, zone, &ids)?)
-}
-
-// Whether the cache finds the same.
+// Whether what the chosen plans of all that is catalogued have together is the same.
 fn are_united(alloc: Global, cached: &mut Cached, zone: &Zone) -> Result<bool, Fail> {
     let given = cached.united(alloc, zone)?;
-    let whole = united(alloc, &mut cached.lists, zone)?;
+    let whole = all_united(alloc, &mut cached.lists, &mut Whole::new(), zone)?;
     Ok(given.as_slice() == whole.as_slice())
 }
 
@@ -166,16 +163,31 @@ fn all_ids(alloc: Global) -> Result<Vec<Id>, Fail> {
     Ok(ids)
 }
 
-// Whether a listing has the candidates that the source has.
+// Whether a listing of the source has the candidates that the source has.
 fn are_candidates(alloc: Global, lists: &mut ListPublished, zone: &Zone) -> Result<bool, Fail> {
     let ids = all_ids(alloc)?;
     let listing = listing_of(alloc, lists)?;
-    let listed = candidates_for(alloc, lists, Some(&listing), &[], zone, &ids)?;
-    let read = candidates_for(alloc, lists, None, &[], zone, &ids)?;
-    Ok(listed.as_slice() == read.as_slice())
+    let are = has_candidates(alloc, lists, &listing, &[], zone, &ids);
+    drop(listing);
+    Ok(are?)
 }
 
-// Whether frames, verdicts, statuses, plans and candidates are as over the whole catalogue, in each of some zones.
+// Whether frames, verdicts, statuses, plans and candidates are as over the whole catalogue, in a zone.
+fn is_as_whole_in(
+    alloc: Global,
+    draws: &mut Draws,
+    cached: &mut Cached,
+    zone: &Zone,
+) -> Result<bool, Fail> {
+    let built = are_as_built(alloc, cached)?;
+    let verdicts = are_verdicts(alloc, draws, cached, zone)?;
+    let statuses = are_statuses(alloc, cached, zone)?;
+    let united = are_united(alloc, cached, zone)?;
+    let candidates = are_candidates(alloc, &mut cached.lists, zone)?;
+    Ok(built & verdicts & statuses & united & candidates)
+}
+
+// They are so in each of some zones, and then the frames are as they were.
 fn is_as_whole(
     alloc: Global,
     draws: &mut Draws,
@@ -183,16 +195,11 @@ fn is_as_whole(
     zones: &[Zone],
 ) -> Result<bool, Fail> {
     for zone in zones {
-        let is_right = are_as_built(alloc, cached)?
-            && are_verdicts(alloc, draws, cached, zone)?
-            && are_statuses(alloc, cached, zone)?
-            && are_united(alloc, cached, zone)?
-            && are_candidates(alloc, &mut cached.lists, zone)?;
-        if !is_right {
+        if !is_as_whole_in(alloc, draws, cached, zone)? {
             return Ok(false);
         }
     }
-    are_as_built(alloc, cached)
+    Ok(are_as_built(alloc, cached)?)
 }
 
 // They are so after each of some publications.

@@ -1,15 +1,13 @@
 //! Frames: worked ones, and verdicts from a frame beside those over the whole catalogue.
 use super::assert_as_whole;
 use super::rows::CONDITIONAL;
-use crate::tests::content::published;
-use crate::tests::print::{id_of, ids_of, zone_of};
-use crate::tests::sequence::{conditional_sequence, put_ptf, sequence};
 use catalogue::{CondNeed, Ids, ListPublished};
 use chains::{Frame, FrameNode, frame, touches};
 use std::alloc::Global;
 use std::fmt::Write;
 use std::test::Fail;
 use testing::{BASE, assert_equal, assert_equal_at, with_base};
+use testing_content::{conditional_sequence, id_of, ids_of, published, put_ptf, sequence, zone_of};
 
 const ZONE: &[u8] = b"SYSMOD,STATE\nHBB7790,APPLIED\n";
 
@@ -57,7 +55,8 @@ fn frame_text(alloc: Global, frame: &Frame) -> Result<String, Fail> {
 }
 
 fn frame_of(alloc: Global, lists: &mut ListPublished, id: &[u8]) -> Result<Frame, Fail> {
-    Ok(frame(alloc, lists, &id_of(id)?)?)
+    let id = id_of(id)?;
+    Ok(frame(alloc, lists, &id)?)
 }
 
 // The frame of an id in what statements publish.
@@ -102,9 +101,16 @@ UA10022 yes HXX0001, - - UA10022,\n",
     ),
 ];
 
+// The frame of an id, in print, in what is published after the base.
+fn frame_text_in(alloc: Global, more: &[u8], id: &[u8]) -> Result<String, Fail> {
+    let source = with_base(alloc, more)?;
+    let frame = frame_in(alloc, &source, id)?;
+    frame_text(alloc, &frame)
+}
+
 fn assert_frame(alloc: Global, more: &[u8], id: &[u8], text: &str) -> Result<(), Fail> {
-    let frame = frame_in(alloc, &with_base(alloc, more)?, id)?;
-    assert_equal_at(id, frame_text(alloc, &frame)?.as_str(), text)
+    let found = frame_text_in(alloc, more, id)?;
+    assert_equal_at(id, found.as_str(), text)
 }
 
 #[test]
@@ -157,16 +163,25 @@ fn a_frame_goes_on_where_no_function_is_installed(rt: HostRuntime) -> Result<(),
 // How many nodes the frame of an id has, where so many SYSMODs name the next one, and the last of them this one.
 fn nodes_of(alloc: Global, operand: &str, count: u32, last: u32, id: &[u8]) -> Result<usize, Fail> {
     let text = sequence(alloc, operand, count, last)?;
-    Ok(frame_in(alloc, text.as_bytes(), id)?.nodes().len())
+    let frame = frame_in(alloc, text.as_bytes(), id)?;
+    Ok(frame.nodes().len())
 }
+
+// By which operand how many SYSMODs name the next one, what the last of them names, an id, and how many nodes its frame has.
+static LONG: [(&str, u32, u32, &[u8], usize); 4] = [
+    ("PRE", 10_000, 99_999, b"N00000", 10_001),
+    ("REQ", 2_000, 0, b"N01000", 2_000),
+    ("SUP", 100, 0, b"N00050", 100),
+    ("SUP", 100, 99_999, b"N99999", 101),
+];
 
 #[test]
 fn long_frames(rt: HostRuntime) -> Result<(), Fail> {
-    let alloc = rt.alloc();
-    assert_equal(nodes_of(alloc, "PRE", 10_000, 99_999, b"N00000")?, 10_001)?;
-    assert_equal(nodes_of(alloc, "REQ", 2_000, 0, b"N01000")?, 2_000)?;
-    assert_equal(nodes_of(alloc, "SUP", 100, 0, b"N00050")?, 100)?;
-    assert_equal(nodes_of(alloc, "SUP", 100, 99_999, b"N99999")?, 101)
+    for (operand, count, last, id, nodes) in &LONG {
+        let found = nodes_of(rt.alloc(), operand, *count, *last, id)?;
+        assert_equal_at(id, found, *nodes)?;
+    }
+    Ok(())
 }
 
 // PTFs in a row, of which the last supersedes what one more PTF needs.

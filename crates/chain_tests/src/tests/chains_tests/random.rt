@@ -1,7 +1,5 @@
 //! Verdicts on small contents that are drawn at random, beside a plain slow body that tries every set of ids.
 use super::{assert_as_whole, assert_judged, assert_statuses, assert_united};
-use crate::tests::content::published;
-use crate::tests::print::{id_of, zone_of};
 use catalogue::ListPublished;
 use mcs_reader::Id;
 use std::alloc::Global;
@@ -9,6 +7,7 @@ use std::fmt::Write;
 use std::test::Fail;
 use supersede::Zone;
 use testing::Draws;
+use testing_content::{id_of, published, zone_of};
 
 const IDS: u32 = 8;
 
@@ -199,8 +198,7 @@ impl Drawn {
             return good_text(alloc, self.chosen(good, id));
         }
         if has(self.candidates(), id) {
-            let blocked = self.blocked(good, id).ok_or("a blocked need")?;
-            return Ok(format!(in alloc; "HELD UA1000{blocked}")?);
+            return held_text(alloc, self.blocked(good, id));
         }
         Ok(String::from_str(alloc, "LACK")?)
     }
@@ -221,12 +219,17 @@ impl Drawn {
         Ok(())
     }
 
-    fn put_sysmod(&self, text: &mut String, id: u32) -> Result<(), Fail> {
-        let fmid = if has(self.applicable, id) {
+    // The function that an id is for. The zone has the first one.
+    fn function(&self, id: u32) -> &'static str {
+        if has(self.applicable, id) {
             "HBB7790"
         } else {
             "HXX0001"
-        };
+        }
+    }
+
+    fn put_sysmod(&self, text: &mut String, id: u32) -> Result<(), Fail> {
+        let fmid = self.function(id);
         write!(text, "++PTF(UA1000{id}).\n++VER(Z038) FMID({fmid})\n")?;
         self.put_operands(text, id)?;
         self.put_conditions(text, id)
@@ -302,6 +305,11 @@ fn good_text(alloc: Global, plan: u32) -> Result<String, Fail> {
     let mut text = String::from_str(alloc, "GOOD")?;
     put_ids(&mut text, plan)?;
     Ok(text)
+}
+
+fn held_text(alloc: Global, blocked: Option<u32>) -> Result<String, Fail> {
+    let need = blocked.ok_or("a blocked need")?;
+    Ok(format!(in alloc; "HELD UA1000{need}")?)
 }
 
 // Which needs are reasons of holds: of what isn't catalogued all.

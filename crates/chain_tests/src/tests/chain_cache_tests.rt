@@ -1,28 +1,40 @@
 //! Which frames are kept and in what order, that what is kept is what would be built, and what is kept over publications.
 ghost use Rattle.std.specs.Prelude.{◌≤◌};
 
-use super::content::changes_of;
-use super::print::verdict_text;
-use catalogue::{Change, ListPublished, Published, touched};
+use super::asked;
+use catalogue::{Change, ListPublished, SourceFault};
 use chain_cache::ChainCache;
-use chains::{Judge, Status};
+use chains::Status;
 use mcs_reader::Id;
 use std::alloc::Global;
 use std::hash::RandomState;
 use std::test::Fail;
 use supersede::Zone;
+use testing_content::{changes_of, id_of, zone_of};
 
 mod candidates;
 mod kept;
 mod publications;
 mod random;
 mod renewed;
+mod rings;
+mod stored;
+
+const ZONE: &[u8] = b"SYSMOD,STATE\nHBB7790,APPLIED\nUA10001,APPLIED\n";
 
 // What is published, and the cache of what is found there.
-#[derive(Drop)]
 struct Cached {
     lists: ListPublished,
     cache: ChainCache,
+}
+
+// By hand, so that a function that owns one lets it go by one call.
+impl Drop for Cached {
+    fn drop(self) {
+        let Cached { lists, cache } = self;
+        drop(lists);
+        drop(cache);
+    }
 }
 
 impl Cached {
@@ -36,35 +48,50 @@ impl Cached {
         Ok(Cached { lists, cache })
     }
 
+    // Statements are published, with room for so many frames.
+    fn filled(
+        alloc: Global,
+        capacity: u32,
+        keys: RandomState,
+        source: &[u8],
+    ) -> Result<Cached, Fail>
+        requires least { 1 ≤ capacity }
+        requires most { capacity ≤ 65536 }
+    {
+        let mut cached = Cached::new(alloc, capacity, keys)?;
+        cached.publish(alloc, source)?;
+        Ok(cached)
+    }
+
     // Publishes statements. The cache is told before what they touch.
     fn publish(&mut self, alloc: Global, source: &[u8]) -> Result<(), Fail> {
         let changes = changes_of(alloc, source)?;
-        self.drop_touched(alloc, &changes)?;
-        Ok(self.lists.publish(&changes)?)
+        self.publish_changes(alloc, &changes)
     }
 
-    fn drop_touched(&mut self, alloc: Global, changes: &[Change]) -> Result<(), Fail> {
-        let ids = touched(alloc, &mut self.lists, changes)?;
-        <ChainCache as Judge<ListPublished>>::drop_touched(&mut self.cache, ids.as_slice());
-        Ok(())
+    fn publish_changes(&mut self, alloc: Global, changes: &[Change]) -> Result<(), Fail> {
+        asked::forget(alloc, &mut self.lists, &mut self.cache, changes)?;
+        Ok(self.lists.publish(changes)?)
     }
 
     // The verdict on an id, in print.
     fn verdict(&mut self, alloc: Global, zone: &Zone, id: &Id) -> Result<String, Fail> {
-        let verdict = self.cache.verdict(alloc, &mut self.lists, zone, id)?;
-        verdict_text(alloc, &verdict)
+        asked::told(alloc, &mut self.lists, &mut self.cache, zone, id)
+    }
+
+    fn verdict_in(&mut self, alloc: Global, zone: &[u8], id: &[u8]) -> Result<String, Fail> {
+        let id = id_of(id)?;
+        self.verdict(alloc, &zone_of(alloc, zone)?, &id)
     }
 
     // The statuses of all that is catalogued.
-    fn statuses(&mut self, alloc: Global, zone: &Zone) -> Result<Vec<Status>, Fail> {
-        let ids = self.lists.ids()?;
-        Ok(self.cache.statuses(alloc, &mut self.lists, zone, &ids)?)
+    fn statuses(&mut self, alloc: Global, zone: &Zone) -> Result<Vec<Status>, SourceFault> {
+        asked::all_statuses(alloc, &mut self.lists, &mut self.cache, zone)
     }
 
     // What the chosen plans of all that is catalogued have together.
-    fn united(&mut self, alloc: Global, zone: &Zone) -> Result<Vec<Id>, Fail> {
-        let ids = self.lists.ids()?;
-        Ok(self.cache.united(alloc, &mut self.lists, zone, &ids)?)
+    fn united(&mut self, alloc: Global, zone: &Zone) -> Result<Vec<Id>, SourceFault> {
+        asked::all_united(alloc, &mut self.lists, &mut self.cache, zone)
     }
 
     // The ids of the frames that are kept, in their order.

@@ -6,23 +6,39 @@ use std::test::Fail;
 use testing::with_base;
 
 /// The changes that statements make.
-pub(crate) fn changes_of(alloc: Global, source: &[u8]) -> Result<Vec<Change>, Fail> {
+///
+/// # Errors
+///
+/// A failure where the statements have a fault, or memory ran out.
+pub fn changes_of(alloc: Global, source: &[u8]) -> Result<Vec<Change>, Fail> {
     Ok(read_changes(alloc, &read(alloc, source)?)?)
 }
 
 /// Publishes statements.
-pub(crate) fn publish(alloc: Global, lists: &mut ListPublished, source: &[u8]) -> Result<(), Fail> {
+///
+/// # Errors
+///
+/// Those of [`changes_of`].
+pub fn publish(alloc: Global, lists: &mut ListPublished, source: &[u8]) -> Result<(), Fail> {
     Ok(lists.publish(&changes_of(alloc, source)?)?)
 }
 
 /// What statements publish.
-pub(crate) fn published(alloc: Global, source: &[u8]) -> Result<ListPublished, Fail> {
+///
+/// # Errors
+///
+/// Those of [`changes_of`].
+pub fn published(alloc: Global, source: &[u8]) -> Result<ListPublished, Fail> {
     let mut lists = ListPublished::new(alloc);
     publish(alloc, &mut lists, source)?;
     Ok(lists)
 }
 
 /// What the statements of the worked case publish, and more after them.
-pub(crate) fn published_with_base(alloc: Global, more: &[u8]) -> Result<ListPublished, Fail> {
+///
+/// # Errors
+///
+/// Those of [`changes_of`].
+pub fn published_with_base(alloc: Global, more: &[u8]) -> Result<ListPublished, Fail> {
     published(alloc, &with_base(alloc, more)?)
 }

@@ -1,12 +1,11 @@
 //! Hard shapes, of 10,000 SYSMODs each.
 use super::judged;
-use crate::tests::content::published;
-use crate::tests::print::{id_of, ids_in, zone_of};
-use crate::tests::sequence::{conditional_sequence, put_ptf, sequence};
+use crate::tests::print::ids_in;
 use std::alloc::Global;
 use std::fmt::Write;
 use std::test::Fail;
 use testing::assert_equal_at;
+use testing_content::{conditional_sequence, id_of, published, put_ptf, sequence, zone_of};
 
 const COUNT: u32 = 10_000;
 
@@ -17,8 +16,10 @@ const ZONE: &[u8] = b"SYSMOD,STATE\nHBB7790,APPLIED\n";
 const WITH_OTHER: &[u8] = b"SYSMOD,STATE\nHBB7790,APPLIED\nHXX0001,APPLIED\n";
 
 fn verdict_in(alloc: Global, text: &str, zone: &[u8], id: &[u8]) -> Result<String, Fail> {
+    let id = id_of(id)?;
+    let zone = zone_of(alloc, zone)?;
     let mut lists = published(alloc, text.as_bytes())?;
-    judged(alloc, &mut lists, &zone_of(alloc, zone)?, &id_of(id)?)
+    judged(alloc, &mut lists, &zone, &id)
 }
 
 // The verdict on an id is this one, where such statements are published.
@@ -29,7 +30,8 @@ fn assert_verdict(
     id: &[u8],
     wanted: &str,
 ) -> Result<(), Fail> {
-    assert_equal_at(id, verdict_in(alloc, text, zone, id)?.as_str(), wanted)
+    let verdict = verdict_in(alloc, text, zone, id)?;
+    assert_equal_at(id, verdict.as_str(), wanted)
 }
 
 // An id is good, with all SYSMODs in the plan.
