@@ -5,3 +5,5 @@ mod device_tests;
 mod files;
 mod migrate_tests;
 mod script;
+mod stores;
+mod trial;

@@ -2,26 +2,43 @@
 //!
 //! The database refuses a read that finds the damage, but would commit what comes after it, and lose that at the
 //! next opening. So the store is closed from the first refusal on.
-use super::desk::{Trial, worked};
-use super::files::{InFiles, Opening, store_in};
 use super::script::{Checked, REQUESTS};
+use super::stores::{Opened, Opening, Step, connected, files_of, visited};
+use super::trial::{Course, Trial, worked};
+use bureau_store::{CallerRow, StoreFault};
 use sqlite::{Alter, Connection, Error, ErrorCode, Files};
 use sqlite_disk::{Disk, Memory, Rot};
 use std::alloc::Global;
 use std::hash::RandomState;
 use std::test::Fail;
 
-// Whether the connection says that its file is damaged, and commits a change all the same.
-fn would_commit<S: Alter>(conn: &mut Connection<S>) -> bool {
+fn says_damage<S: Alter>(conn: &mut Connection<S>) -> bool {
     let found = conn.query_all("SELECT count(*) FROM sysmod", &[]);
-    if !matches!(found, Err(Error::SqliteFailure(ErrorCode::DatabaseCorrupt))) {
-        return false;
-    }
+    matches!(found, Err(Error::SqliteFailure(ErrorCode::DatabaseCorrupt)))
+}
+
+fn commits<S: Alter>(conn: &mut Connection<S>) -> bool {
     conn.execute(
         "INSERT INTO caller (name, token) VALUES ('GAMMA', 'gamma-token')",
         &[],
     )
     .is_ok()
+}
+
+// The connection says that its file is damaged, and commits a change all the same. It is refused where it doesn't.
+struct Committing;
+
+impl Step for Committing {
+    fn done<S: Alter>(
+        &self,
+        _callers: &[CallerRow],
+        conn: &mut Connection<S>,
+    ) -> Result<(), StoreFault> {
+        if says_damage(conn) && commits(conn) {
+            return Ok(());
+        }
+        Err(StoreFault::Shape)
+    }
 }
 
 // New files, of which the log has a damaged byte.
@@ -32,17 +49,28 @@ fn damaged_files(alloc: Global, at: usize) -> Files<Rot<Memory>> {
     }
 }
 
-// How many requests are answered over this store, and whether the connection would have committed more.
-fn served_over<D: Disk + Drop>(trial: &mut Trial, store: InFiles<D>) -> Checked<(usize, bool)> {
-    let (answered, mut conn) = trial.served_by(store, 0..REQUESTS)?;
-    Ok((answered, would_commit(&mut conn)))
+fn would_commit<D: Disk + Drop>(trial: &mut Trial, conn: Opened<D>) -> Checked<bool> {
+    let (committed, conn) = visited(trial, conn, &Committing, Course::Nothing)?;
+    let _files = files_of(conn);
+    Ok(committed.is_ok())
 }
 
-// The same over a store in these files, which are new. None is answered where none can be made.
+// How many requests are answered over a new store of this connection, and whether the connection would have committed
+// more. None is answered where none can be made.
+fn served_over<D: Disk + Drop>(trial: &mut Trial, conn: Opened<D>) -> Checked<(usize, bool)> {
+    match visited(trial, conn, &Opening::Init, Course::Part(0, REQUESTS))? {
+        (Ok(answered), conn) => Ok((answered, would_commit(trial, conn)?)),
+        (Err(_), conn) => {
+            let _files = files_of(conn);
+            Ok((0, false))
+        }
+    }
+}
+
+// The same over a store in these files, which are new.
 fn served<D: Disk + Drop>(trial: &mut Trial, files: Files<D>) -> Checked<(usize, bool)> {
-    let init = Opening::Init(trial.case.callers.as_slice());
-    match store_in(trial.alloc, files, init, 2000) {
-        Ok(store) => served_over(trial, store),
+    match connected(trial.alloc, files, 2000) {
+        Ok(conn) => served_over(trial, conn),
         Err(_) => Ok((0, false)),
     }
 }

@@ -3,12 +3,12 @@
 //! What is opened after the stop has all that was acknowledged, with or without the change that was on its way, and
 //! nothing else. Then that change is sent again, and all that is left of the script has the answers that it has
 //! without a stop.
-use super::desk::{Stage, Trial, worked};
-use super::files::{
-    Calls, Failing, InFiles, Opening, SHORT_LOG, after_kill, after_power_loss, closed, files_of,
-    found, new_files, store_in,
-};
+use super::files::{Calls, Failing, Stoppable, after_kill, after_power_loss, new_files};
 use super::script::{Checked, OPENED_AGAIN, REQUESTS};
+use super::stores::{
+    Opened, Opening, SHORT_LOG, closed, connected, files_of, given_up, left, visited,
+};
+use super::trial::{Course, Stage, Trial, worked};
 use bureau::Reply;
 use bureau_store::StoreFault;
 use sqlite::Files;
@@ -23,35 +23,34 @@ type Stop<D> = (Option<usize>, Files<D>);
 
 // Makes a store and serves the script, with its files closed and opened again between, until the device fails.
 fn run<D: Disk + Drop>(trial: &mut Trial, files: Files<D>) -> Checked<Stop<D>> {
-    let init = Opening::Init(trial.case.callers.as_slice());
-    match store_in(trial.alloc, files, init, SHORT_LOG) {
-        Ok(store) => begin(trial, store),
-        Err((StoreFault::Device, files)) => Ok((None, files)),
-        Err(_) => Err("init is refused for another reason"),
+    match connected(trial.alloc, files, SHORT_LOG) {
+        Ok(conn) => begin(trial, conn),
+        Err(files) => Ok((None, files)),
     }
 }
 
-fn begin<D: Disk + Drop>(trial: &mut Trial, store: InFiles<D>) -> Checked<Stop<D>> {
-    let (answered, conn) = trial.served_by(store, 0..OPENED_AGAIN)?;
-    if answered < OPENED_AGAIN {
-        return Ok((Some(answered), files_of(conn)));
+fn begin<D: Disk + Drop>(trial: &mut Trial, conn: Opened<D>) -> Checked<Stop<D>> {
+    match visited(trial, conn, &Opening::Init, Course::Part(0, OPENED_AGAIN))? {
+        (Ok(OPENED_AGAIN), conn) => go_on(trial, conn),
+        (Ok(answered), conn) => Ok((Some(answered), files_of(conn))),
+        (Err(StoreFault::Device), conn) => Ok((None, files_of(conn))),
+        (Err(_), conn) => given_up(conn, "init is refused for another reason"),
     }
+}
+
+fn go_on<D: Disk + Drop>(trial: &mut Trial, conn: Opened<D>) -> Checked<Stop<D>> {
     match closed(conn) {
         Ok(files) => end(trial, files),
-        Err(files) => Ok((Some(answered), files)),
+        Err(files) => Ok((Some(OPENED_AGAIN), files)),
     }
-}
-
-fn served_to_end<D: Disk + Drop>(trial: &mut Trial, store: InFiles<D>) -> Checked<Stop<D>> {
-    let (more, conn) = trial.served_by(store, OPENED_AGAIN..REQUESTS)?;
-    Ok((Some(OPENED_AGAIN.saturating_add(more)), files_of(conn)))
 }
 
 fn end<D: Disk + Drop>(trial: &mut Trial, files: Files<D>) -> Checked<Stop<D>> {
-    match store_in(trial.alloc, files, Opening::Open, SHORT_LOG) {
-        Ok(store) => served_to_end(trial, store),
-        Err((StoreFault::Device, files)) => Ok((Some(OPENED_AGAIN), files)),
-        Err(_) => Err("open is refused for another reason"),
+    let rest = Course::Part(OPENED_AGAIN, REQUESTS);
+    match left(trial, files, Opening::Open, rest)? {
+        (Ok(more), files) => Ok((Some(OPENED_AGAIN.saturating_add(more)), files)),
+        (Err(StoreFault::Device), files) => Ok((Some(OPENED_AGAIN), files)),
+        (Err(_), _) => Err("open is refused for another reason"),
     }
 }
 
@@ -69,26 +68,47 @@ fn stage_of(answered: Option<usize>) -> Stage {
     }
 }
 
-// Nothing that was acknowledged is lost in these files, and nothing else is found.
+// A store is made in these files, which have none, since none was acknowledged. The script goes on from its beginning.
+fn look_anew<D: Disk + Drop>(
+    trial: &mut Trial,
+    answered: Option<usize>,
+    files: Files<D>,
+) -> Checked<()> {
+    if answered.is_some() {
+        return Err("the store is lost");
+    }
+    match left(trial, files, Opening::Init, Course::Rest(stage_of(None)))? {
+        (Ok(_), _) => Ok(()),
+        (Err(_), _) => Err("no store, and init is refused"),
+    }
+}
+
+// Nothing that was acknowledged is lost in these files, whose device doesn't fail now, and nothing else is found.
 fn look<D: Disk + Drop>(
     trial: &mut Trial,
     answered: Option<usize>,
     files: Files<D>,
 ) -> Checked<()> {
-    let (store, was_there) = found(trial.alloc, trial.case.callers.as_slice(), files)?;
-    if answered.is_some() && !was_there {
-        return Err("the store is lost");
+    let rest = Course::Rest(stage_of(answered));
+    match left(trial, files, Opening::Open, rest)? {
+        (Ok(_), _) => Ok(()),
+        (Err(StoreFault::Shape), files) => look_anew(trial, answered, files),
+        (Err(_), _) => Err("open is refused for another reason"),
     }
-    trial.goes_on_by(stage_of(answered), store)
 }
 
-// The files fail after so many calls: how many requests were answered before.
-fn stopped(trial: &mut Trial, calls: Calls) -> Checked<Option<usize>> {
-    let (answered, files) = run(trial, new_files(trial.alloc, calls))?;
+// These files fail: how many requests were answered before.
+fn stopped<D: Stoppable>(trial: &mut Trial, files: Files<D>) -> Checked<Option<usize>> {
+    let (answered, files) = run(trial, files)?;
     let killed = after_kill(trial.alloc, &files)?;
     look(trial, answered, killed)?;
     look(trial, answered, after_power_loss(files))?;
     Ok(answered)
+}
+
+// The files fail after so many calls.
+fn stopped_after(trial: &mut Trial, calls: Calls) -> Checked<Option<usize>> {
+    stopped(trial, new_files(trial.alloc, calls))
 }
 
 // After which requests of the script a run was stopped, where each call of one of the files failed in turn.
@@ -96,7 +116,7 @@ fn stops(alloc: Global, keys: RandomState, failing: Failing) -> Result<Vec<Optio
     let mut trial = worked(alloc, keys)?;
     let mut stops = Vec::new(alloc);
     for calls in 0..10_000u64 {
-        match stopped(&mut trial, failing.after(calls)) {
+        match stopped_after(&mut trial, failing.after(calls)) {
             Ok(Some(REQUESTS)) => return Ok(stops),
             Ok(answered) => stops.push(answered)?,
             Err(why) => return Err(Fail::new(format_args!("{why}, after {calls} calls"))),
@@ -106,13 +126,13 @@ fn stops(alloc: Global, keys: RandomState, failing: Failing) -> Result<Vec<Optio
 }
 
 // The changes of the script.
-const CHANGES: [usize; 9] = [0, 1, 2, 3, 7, 8, 11, 12, 13];
+static CHANGES: [usize; 9] = [0, 1, 2, 3, 7, 8, 11, 12, 13];
 
 #[test]
 fn nothing_acknowledged_is_lost_where_the_log_fails(rt: HostRuntime) -> Result<(), Fail> {
     let stops = stops(rt.alloc(), RandomState::new(&rt)?, Failing::Log)?;
     assert!(rt; stops.contains(&None));
-    for change in CHANGES {
+    for &change in &CHANGES {
         assert!(rt; stops.contains(&Some(change)), "{change}");
     }
     Ok(())
@@ -126,7 +146,7 @@ fn nothing_acknowledged_is_lost_where_the_database_fails(rt: HostRuntime) -> Res
 }
 
 // How much is published, and ALPHA's report, before the first request of the script and after each up to the eleventh.
-const SEEN: [(&str, &str); 12] = [
+static SEEN: [(&str, &str); 12] = [
     ("PUBLISHED SYSMODS 0 HOLDS 0\n", "NOT FOUND\n"),
     ("PUBLISHED SYSMODS 3 HOLDS 1\n", "NOT FOUND\n"),
     ("PUBLISHED SYSMODS 3 HOLDS 1\n", ONE_RESOLVER),

@@ -2,14 +2,16 @@
 //!
 //! What is found after the stop is of version 1, and is migrated then, or of version 2. Either way it has all that
 //! it had, and the script goes on.
-use super::desk::{Stage, Trial, worked};
 use super::files::{
-    ALL, Calls, Device, Failing, InFiles, Opening, SHORT_LOG, after_kill, after_power_loss, closed,
-    copied, files_of, new_files, store_in,
+    ALL, Calls, Device, Failing, Stoppable, after_kill, after_power_loss, copied, new_files,
 };
 use super::script::{Checked, OPENED_AGAIN};
-use bureau_store::StoreFault;
-use sqlite::{Alter, Connection, FileStore, Files};
+use super::stores::{
+    Opened, Opening, SHORT_LOG, Step, Visited, closed, connected, given_up, left, visited,
+};
+use super::trial::{Course, Stage, Trial, worked};
+use bureau_store::{CallerRow, StoreFault};
+use sqlite::{Alter, Connection, Files};
 use sqlite_disk::Disk;
 use std::alloc::Global;
 use std::hash::RandomState;
@@ -23,92 +25,99 @@ enum Found {
     Two,
 }
 
-// A connection over files.
-type Opened<D> = Connection<FileStore<D>>;
-
 // Whether the store was migrated before a stop, and what is found after the program ended and after a loss of power.
 type Stop = (bool, Found, Found);
 
+// What takes away what version 1 did not have.
+static EARLIER: [&str; 2] = [
+    "DROP TABLE sysmod_cond",
+    "UPDATE bureau_version SET version = 1",
+];
+
 // Takes away what version 1 did not have.
-fn take_back<S: Alter>(conn: &mut Connection<S>) -> Checked<()> {
-    let texts = [
-        "DROP TABLE sysmod_cond",
-        "UPDATE bureau_version SET version = 1",
-    ];
-    for text in texts {
-        if conn.execute(text, &[]).is_err() {
-            return Err("the tables of version 1");
+struct TakingBack;
+
+impl Step for TakingBack {
+    fn done<S: Alter>(
+        &self,
+        _callers: &[CallerRow],
+        conn: &mut Connection<S>,
+    ) -> Result<(), StoreFault> {
+        for text in &EARLIER {
+            if conn.execute(text, &[]).is_err() {
+                return Err(StoreFault::Shape);
+            }
         }
-    }
-    Ok(())
-}
-
-// A store in these files, which are new.
-fn begun<D: Disk + Drop>(trial: &Trial, files: Files<D>) -> Checked<InFiles<D>> {
-    let init = Opening::Init(trial.case.callers.as_slice());
-    match store_in(trial.alloc, files, init, SHORT_LOG) {
-        Ok(store) => Ok(store),
-        Err(_) => Err("a store"),
+        Ok(())
     }
 }
 
-// The script is served over this store up to where the files are closed. Its connection comes back.
-fn served<D: Disk + Drop>(trial: &mut Trial, store: InFiles<D>) -> Checked<Opened<D>> {
-    let (answered, conn) = trial.served_by(store, 0..OPENED_AGAIN)?;
-    if answered < OPENED_AGAIN {
-        return Err("the first part of the script");
+// A connection over which a store was made, and the script served up to where the files are closed.
+fn served<D: Disk + Drop>(trial: &mut Trial, conn: Opened<D>) -> Checked<Opened<D>> {
+    match visited(trial, conn, &Opening::Init, Course::Part(0, OPENED_AGAIN))? {
+        (Ok(OPENED_AGAIN), conn) => Ok(conn),
+        (_, conn) => given_up(conn, "the first part of the script"),
     }
-    Ok(conn)
 }
 
 // The files of this connection, with a store of version 1.
-fn taken_back<D: Disk + Drop>(mut conn: Opened<D>) -> Checked<Files<D>> {
-    take_back(&mut conn)?;
-    closed(conn).ok().ok_or("the files")
+fn taken_back<D: Disk + Drop>(trial: &mut Trial, conn: Opened<D>) -> Checked<Files<D>> {
+    match visited(trial, conn, &TakingBack, Course::Nothing)? {
+        (Ok(_), conn) => closed(conn).ok().ok_or("the files"),
+        (Err(_), conn) => given_up(conn, "the tables of version 1"),
+    }
 }
 
 // These files, which are new, with a store of version 1 over which the script was served up to where the files are
 // closed.
 fn earlier<D: Disk + Drop>(trial: &mut Trial, files: Files<D>) -> Checked<Files<D>> {
-    let store = begun(trial, files)?;
-    taken_back(served(trial, store)?)
+    match connected(trial.alloc, files, SHORT_LOG) {
+        Ok(conn) => {
+            let conn = served(trial, conn)?;
+            taken_back(trial, conn)
+        }
+        Err(_) => Err("a connection"),
+    }
 }
 
 fn earlier_files(trial: &mut Trial) -> Checked<Files<Device>> {
     earlier(trial, new_files(trial.alloc, ALL))
 }
 
-fn migrated<D: Disk + Drop>(alloc: Global, files: Files<D>) -> Checked<InFiles<D>> {
-    match store_in(alloc, files, Opening::Migrate, SHORT_LOG) {
-        Ok(store) => Ok(store),
-        Err(_) => Err("a store of version 1 is not migrated"),
-    }
-}
-
-// The store in these files, and which version it was of. It is of version 2 then.
-fn found_in<D: Disk + Drop>(alloc: Global, files: Files<D>) -> Checked<(InFiles<D>, Found)> {
-    match store_in(alloc, files, Opening::Open, SHORT_LOG) {
-        Ok(store) => Ok((store, Found::Two)),
-        Err((StoreFault::Version, files)) => Ok((migrated(alloc, files)?, Found::One)),
-        Err(_) => Err("open is refused for another reason"),
-    }
-}
-
+// The script was served up to where the files are closed.
 const MIGRATED: Stage = Stage {
     answered: OPENED_AGAIN,
     on_their_way: 0,
 };
 
+// The store in these files goes on with the script after this.
+fn goes_on<D: Disk + Drop>(
+    trial: &mut Trial,
+    files: Files<D>,
+    opening: Opening,
+) -> Checked<Visited<Files<D>>> {
+    left(trial, files, opening, Course::Rest(MIGRATED))
+}
+
+fn goes_on_migrated<D: Disk + Drop>(trial: &mut Trial, files: Files<D>) -> Checked<Found> {
+    match goes_on(trial, files, Opening::Migrate)? {
+        (Ok(_), _) => Ok(Found::One),
+        (Err(_), _) => Err("a store of version 1 is not migrated"),
+    }
+}
+
 // Nothing of what was served is lost in these files: which version they are of.
-fn goes_on<D: Disk + Drop>(trial: &mut Trial, files: Files<D>) -> Checked<Found> {
-    let (store, found) = found_in(trial.alloc, files)?;
-    trial.goes_on_by(MIGRATED, store)?;
-    Ok(found)
+fn version_in<D: Disk + Drop>(trial: &mut Trial, files: Files<D>) -> Checked<Found> {
+    match goes_on(trial, files, Opening::Open)? {
+        (Ok(_), _) => Ok(Found::Two),
+        (Err(StoreFault::Version), files) => goes_on_migrated(trial, files),
+        (Err(_), _) => Err("open is refused for another reason"),
+    }
 }
 
 // Nothing is lost in these files, which are of version 2 if that was acknowledged: which version they are of.
 fn look<D: Disk + Drop>(trial: &mut Trial, is_done: bool, files: Files<D>) -> Checked<Found> {
-    let found = goes_on(trial, files)?;
+    let found = version_in(trial, files)?;
     if is_done && found == Found::One {
         return Err("what was acknowledged is lost");
     }
@@ -116,39 +125,49 @@ fn look<D: Disk + Drop>(trial: &mut Trial, is_done: bool, files: Files<D>) -> Ch
 }
 
 // Migrates the store in these files: whether that was done, and the files.
-fn tried<D: Disk + Drop>(alloc: Global, files: Files<D>) -> Checked<(bool, Files<D>)> {
-    match store_in(alloc, files, Opening::Migrate, SHORT_LOG) {
-        Ok(store) => Ok((true, files_of(store.into_connection()))),
-        Err((StoreFault::Device, files)) => Ok((false, files)),
-        Err(_) => Err("migrate is refused for another reason"),
+fn tried<D: Disk + Drop>(trial: &mut Trial, files: Files<D>) -> Checked<(bool, Files<D>)> {
+    match left(trial, files, Opening::Migrate, Course::Nothing)? {
+        (Ok(_), files) => Ok((true, files)),
+        (Err(StoreFault::Device), files) => Ok((false, files)),
+        (Err(_), _) => Err("migrate is refused for another reason"),
     }
 }
 
-// Copies of these files fail after so many calls.
-fn stopped(trial: &mut Trial, files: &Files<Device>, calls: Calls) -> Checked<Stop> {
-    let (is_done, files) = tried(trial.alloc, copied(trial.alloc, files, calls)?)?;
-    let killed = look(trial, is_done, after_kill(trial.alloc, &files)?)?;
+// These files fail.
+fn stopped<D: Stoppable>(trial: &mut Trial, files: Files<D>) -> Checked<Stop> {
+    let (is_done, files) = tried(trial, files)?;
+    let killed = after_kill(trial.alloc, &files)?;
+    let killed = look(trial, is_done, killed)?;
     let crashed = look(trial, is_done, after_power_loss(files))?;
     Ok((is_done, killed, crashed))
 }
 
-fn stopped_after(
+// Copies of these files fail after so many calls.
+fn copies_stopped<D: Stoppable>(
     trial: &mut Trial,
-    files: &Files<Device>,
+    files: &Files<D>,
+    calls: Calls,
+) -> Checked<Stop> {
+    stopped(trial, copied(trial.alloc, files, calls)?)
+}
+
+fn stopped_after<D: Stoppable>(
+    trial: &mut Trial,
+    files: &Files<D>,
     failing: Failing,
     calls: u64,
 ) -> Result<Stop, Fail> {
-    match stopped(trial, files, failing.after(calls)) {
+    match copies_stopped(trial, files, failing.after(calls)) {
         Ok(stop) => Ok(stop),
         Err(why) => Err(Fail::new(format_args!("{why}, after {calls} calls"))),
     }
 }
 
 // What is found where each call of one of the files failed in turn, until none does.
-fn put_stops(
+fn put_stops<D: Stoppable>(
     stops: &mut Vec<Stop>,
     trial: &mut Trial,
-    files: &Files<Device>,
+    files: &Files<D>,
     failing: Failing,
 ) -> Result<(), Fail> {
     for calls in 0..10_000u64 {
@@ -161,17 +180,22 @@ fn put_stops(
     Err("migrate never runs through".into())
 }
 
-// These are among what is found where each call of one of the files failed in turn.
-fn assert_stops(
-    alloc: Global,
+// These are among what is found where each call of one of these files failed in turn.
+fn assert_stops_of<D: Stoppable>(
     trial: &mut Trial,
+    files: &Files<D>,
     failing: Failing,
     wanted: &[Stop],
 ) -> Result<(), Fail> {
-    let files = earlier_files(trial)?;
-    let mut stops = Vec::new(alloc);
-    put_stops(&mut stops, trial, &files, failing)?;
+    let mut stops = Vec::new(trial.alloc);
+    put_stops(&mut stops, trial, files, failing)?;
     assert_among(stops.as_slice(), wanted)
+}
+
+// The same of files with a store of version 1.
+fn assert_stops(trial: &mut Trial, failing: Failing, wanted: &[Stop]) -> Result<(), Fail> {
+    let files = earlier_files(trial)?;
+    assert_stops_of(trial, &files, failing, wanted)
 }
 
 fn assert_among(stops: &[Stop], wanted: &[Stop]) -> Result<(), Fail> {
@@ -195,11 +219,11 @@ static OF_DATABASE: [Stop; 2] = [
 #[test]
 fn a_migration_is_whole_or_nothing_where_the_log_fails(rt: HostRuntime) -> Result<(), Fail> {
     let mut trial = worked(rt.alloc(), RandomState::new(&rt)?)?;
-    assert_stops(rt.alloc(), &mut trial, Failing::Log, &OF_LOG)
+    assert_stops(&mut trial, Failing::Log, &OF_LOG)
 }
 
 #[test]
 fn a_migration_is_whole_or_nothing_where_the_database_fails(rt: HostRuntime) -> Result<(), Fail> {
     let mut trial = worked(rt.alloc(), RandomState::new(&rt)?)?;
-    assert_stops(rt.alloc(), &mut trial, Failing::Database, &OF_DATABASE)
+    assert_stops(&mut trial, Failing::Database, &OF_DATABASE)
 }

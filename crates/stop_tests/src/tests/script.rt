@@ -1,14 +1,13 @@
 //! What the publisher and two clients ask one after the other, and what each is told.
 use bureau::Call;
 use mcs_reader::Id;
-use std::alloc::Global;
 use testing::{BASE, LONG_PLAN, ONE_RECEIVED, ONE_RESOLVER, SHORT_PLAN, TWO_RESOLVERS};
 
 /// A value, or what is wrong.
 pub(crate) type Checked<T> = Result<T, &'static str>;
 
-/// Who asks, by a token, and what.
-pub(crate) type Asked = (&'static [u8], Call<'static>);
+/// Who asks, by a token, and what, and where.
+pub(crate) type Asked = (&'static [u8], Ask, Where);
 
 /// The same, with the body of the answer.
 pub(crate) type Told = (Asked, &'static str);
@@ -48,129 +47,155 @@ pub(crate) const REQUESTS: usize = 15;
 /// Before this one the store's files are closed and opened again.
 pub(crate) const OPENED_AGAIN: usize = 7;
 
-// A zone and a SYSMOD with these names.
-fn both(zone: &[u8], sysmod: &[u8]) -> Checked<(Id, Id)> {
-    match (Id::new(zone), Id::new(sysmod)) {
-        (Some(zone), Some(sysmod)) => Ok((zone, sysmod)),
-        _ => Err("an id"),
-    }
+/// A zone, and a SYSMOD of which a verdict is asked there.
+#[derive(Clone, Copy)]
+pub(crate) enum Where {
+    /// TGT1, and one that another one supersedes later.
+    Plain,
+    /// One in which what is required under a condition is required, and the SYSMOD that requires it.
+    Conditional,
 }
 
-/// A zone and a SYSMOD that is published.
-pub(crate) fn named() -> Checked<(Id, Id)> {
-    both(b"TGT1", b"UA10002")
-}
-
-// A zone in which what is required under a condition is required, and the SYSMOD that requires it.
-fn conditional() -> Checked<(Id, Id)> {
-    both(b"TGT2", b"UA10020")
-}
-
-fn publish(number: u64, body: &'static [u8]) -> Call<'static> {
-    let number = Some(number);
-    Call::Publish { number, body }
-}
-
-fn put(number: u64, zone: Id, body: &'static [u8]) -> Call<'static> {
-    let number = Some(number);
-    Call::PutZone { number, zone, body }
-}
-
-fn received(number: u64, body: &'static [u8]) -> Call<'static> {
-    let number = Some(number);
-    Call::PutReceived { number, body }
-}
-
-fn patterns(number: u64, zone: Id, body: &'static [u8]) -> Call<'static> {
-    let number = Some(number);
-    Call::PutPatterns { number, zone, body }
-}
-
-fn dropped(number: u64, zone: Id) -> Call<'static> {
-    let number = Some(number);
-    Call::DropZone { number, zone }
-}
-
-fn report(zone: Id) -> Call<'static> {
-    Call::ErrSysmods { zone }
-}
-
-fn chain(zone: Id, sysmod: Id) -> Call<'static> {
-    Call::Chain { zone, sysmod }
-}
-
-fn missing(zone: Id) -> Call<'static> {
-    Call::MissingFix { zone }
-}
-
-fn report_json(zone: Id) -> Call<'static> {
-    Call::ErrSysmodsJson { zone }
-}
-
-fn missing_json(zone: Id) -> Call<'static> {
-    Call::MissingFixJson { zone }
-}
-
-fn err_plan(zone: Id) -> Call<'static> {
-    Call::ErrPlan { zone }
-}
-
-fn missing_plan(zone: Id) -> Call<'static> {
-    Call::MissingPlanJson { zone }
+/// What is asked of a zone and a SYSMOD, or of all that is kept. A change has a number.
+pub(crate) enum Ask {
+    Publish(u64, &'static [u8]),
+    Put(u64, &'static [u8]),
+    Received(u64, &'static [u8]),
+    Patterns(u64, &'static [u8]),
+    Dropped(u64),
+    Report,
+    ReportJson,
+    Missing,
+    MissingJson,
+    ErrPlan,
+    MissingPlanJson,
+    Chain,
+    Zones,
+    ZonesJson,
+    Counts,
+    CountsJson,
 }
 
 /// Two publications, a zone of the same name of each of two clients, the other kinds of changes, and what they ask.
-pub(crate) fn script(alloc: Global, zone: Id, sysmod: Id) -> Checked<Vec<Told>> {
-    let (other, _) = conditional()?;
-    let rows = [
-        (
-            (PUBLISHER, publish(1, BASE)),
-            "ACCEPTED SYSMODS 3 HOLDS 1 RELEASES 0\n",
-        ),
-        ((ALPHA, put(1, zone, BOTH)), "ZONE TGT1 ROWS 2\n"),
-        ((BETA, put(1, zone, FUNCTION)), "ZONE TGT1 ROWS 1\n"),
-        ((ALPHA, put(2, other, FUNCTIONS)), "ZONE TGT2 ROWS 2\n"),
-        ((ALPHA, chain(zone, sysmod)), SHORT_PLAN),
-        ((BETA, chain(zone, sysmod)), LONG_PLAN),
-        ((ALPHA, report(zone)), ONE_RESOLVER),
-        (
-            (PUBLISHER, publish(2, SUPERSEDING)),
-            "ACCEPTED SYSMODS 3 HOLDS 0 RELEASES 0\n",
-        ),
-        ((BETA, put(2, zone, BOTH)), "ZONE TGT1 ROWS 2\n"),
-        ((ALPHA, report(zone)), TWO_RESOLVERS),
-        ((ALPHA, chain(zone, sysmod)), SHORT_PLAN),
-        ((ALPHA, received(3, RECEIVED)), "RECEIVED ROWS 1\n"),
-        (
-            (ALPHA, patterns(4, zone, PATTERNS)),
-            "ZONE TGT1 PATTERNS 1\n",
-        ),
-        ((BETA, dropped(3, zone)), "ZONE TGT1 DROPPED\n"),
-        ((ALPHA, report(zone)), ONE_RECEIVED),
-    ];
-    Vec::from_slice(alloc, rows.as_slice()).ok().ok_or("memory")
-}
+pub(crate) static SCRIPT: [Told; REQUESTS] = [
+    (
+        (PUBLISHER, Ask::Publish(1, BASE), Where::Plain),
+        "ACCEPTED SYSMODS 3 HOLDS 1 RELEASES 0\n",
+    ),
+    (
+        (ALPHA, Ask::Put(1, BOTH), Where::Plain),
+        "ZONE TGT1 ROWS 2\n",
+    ),
+    (
+        (BETA, Ask::Put(1, FUNCTION), Where::Plain),
+        "ZONE TGT1 ROWS 1\n",
+    ),
+    (
+        (ALPHA, Ask::Put(2, FUNCTIONS), Where::Conditional),
+        "ZONE TGT2 ROWS 2\n",
+    ),
+    ((ALPHA, Ask::Chain, Where::Plain), SHORT_PLAN),
+    ((BETA, Ask::Chain, Where::Plain), LONG_PLAN),
+    ((ALPHA, Ask::Report, Where::Plain), ONE_RESOLVER),
+    (
+        (PUBLISHER, Ask::Publish(2, SUPERSEDING), Where::Plain),
+        "ACCEPTED SYSMODS 3 HOLDS 0 RELEASES 0\n",
+    ),
+    (
+        (BETA, Ask::Put(2, BOTH), Where::Plain),
+        "ZONE TGT1 ROWS 2\n",
+    ),
+    ((ALPHA, Ask::Report, Where::Plain), TWO_RESOLVERS),
+    ((ALPHA, Ask::Chain, Where::Plain), SHORT_PLAN),
+    (
+        (ALPHA, Ask::Received(3, RECEIVED), Where::Plain),
+        "RECEIVED ROWS 1\n",
+    ),
+    (
+        (ALPHA, Ask::Patterns(4, PATTERNS), Where::Plain),
+        "ZONE TGT1 PATTERNS 1\n",
+    ),
+    ((BETA, Ask::Dropped(3), Where::Plain), "ZONE TGT1 DROPPED\n"),
+    ((ALPHA, Ask::Report, Where::Plain), ONE_RECEIVED),
+];
 
 /// All that each caller may ask of what is kept: how much is published and ALPHA's report come first.
-pub(crate) fn questions(alloc: Global, zone: Id, sysmod: Id) -> Checked<Vec<Asked>> {
-    let (other, requiring) = conditional()?;
-    let rows = [
-        (ALPHA, Call::Counts),
-        (ALPHA, report(zone)),
-        (ALPHA, Call::ListZones),
-        (ALPHA, chain(zone, sysmod)),
-        (ALPHA, chain(other, requiring)),
-        (ALPHA, missing(zone)),
-        (ALPHA, report_json(zone)),
-        (ALPHA, missing_json(zone)),
-        (ALPHA, Call::ListZonesJson),
-        (ALPHA, Call::CountsJson),
-        (ALPHA, err_plan(zone)),
-        (ALPHA, missing_plan(zone)),
-        (BETA, Call::ListZones),
-        (BETA, report(zone)),
-        (BETA, chain(zone, sysmod)),
-        (BETA, missing(zone)),
-    ];
-    Vec::from_slice(alloc, rows.as_slice()).ok().ok_or("memory")
+pub(crate) static QUESTIONS: [Asked; 16] = [
+    (ALPHA, Ask::Counts, Where::Plain),
+    (ALPHA, Ask::Report, Where::Plain),
+    (ALPHA, Ask::Zones, Where::Plain),
+    (ALPHA, Ask::Chain, Where::Plain),
+    (ALPHA, Ask::Chain, Where::Conditional),
+    (ALPHA, Ask::Missing, Where::Plain),
+    (ALPHA, Ask::ReportJson, Where::Plain),
+    (ALPHA, Ask::MissingJson, Where::Plain),
+    (ALPHA, Ask::ZonesJson, Where::Plain),
+    (ALPHA, Ask::CountsJson, Where::Plain),
+    (ALPHA, Ask::ErrPlan, Where::Plain),
+    (ALPHA, Ask::MissingPlanJson, Where::Plain),
+    (BETA, Ask::Zones, Where::Plain),
+    (BETA, Ask::Report, Where::Plain),
+    (BETA, Ask::Chain, Where::Plain),
+    (BETA, Ask::Missing, Where::Plain),
+];
+
+impl Where {
+    // The names of the zone and the SYSMOD.
+    fn names(self) -> (&'static [u8], &'static [u8]) {
+        match self {
+            Where::Plain => (b"TGT1", b"UA10002"),
+            Where::Conditional => (b"TGT2", b"UA10020"),
+        }
+    }
+
+    fn ids(self) -> Option<(Id, Id)> {
+        let (zone, sysmod) = self.names();
+        Some((Id::new(zone)?, Id::new(sysmod)?))
+    }
+}
+
+impl Ask {
+    fn call(&self, zone: Id, sysmod: Id) -> Call<'_> {
+        match *self {
+            Ask::Publish(number, body) => Call::Publish {
+                number: Some(number),
+                body,
+            },
+            Ask::Put(number, body) => Call::PutZone {
+                number: Some(number),
+                zone,
+                body,
+            },
+            Ask::Received(number, body) => Call::PutReceived {
+                number: Some(number),
+                body,
+            },
+            Ask::Patterns(number, body) => Call::PutPatterns {
+                number: Some(number),
+                zone,
+                body,
+            },
+            Ask::Dropped(number) => Call::DropZone {
+                number: Some(number),
+                zone,
+            },
+            Ask::Report => Call::ErrSysmods { zone },
+            Ask::ReportJson => Call::ErrSysmodsJson { zone },
+            Ask::Missing => Call::MissingFix { zone },
+            Ask::MissingJson => Call::MissingFixJson { zone },
+            Ask::ErrPlan => Call::ErrPlan { zone },
+            Ask::MissingPlanJson => Call::MissingPlanJson { zone },
+            Ask::Chain => Call::Chain { zone, sysmod },
+            Ask::Zones => Call::ListZones,
+            Ask::ZonesJson => Call::ListZonesJson,
+            Ask::Counts => Call::Counts,
+            Ask::CountsJson => Call::CountsJson,
+        }
+    }
+
+    /// The call, or `None` where a name is no id.
+    pub(crate) fn call_in(&self, place: Where) -> Option<Call<'_>> {
+        let (zone, sysmod) = place.ids()?;
+        Some(self.call(zone, sysmod))
+    }
 }

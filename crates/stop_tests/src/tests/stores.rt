@@ -1,0 +1,179 @@
+//! Stores in files.
+//!
+//! Each call with a contract of its own stands in a function of its own that promises little, so that no proof
+//! carries much along. Of what speaks of files on a device, `visited` and `files_of` alone call what speaks of any
+//! database: each such call has all of a store in files proved to be one.
+use super::script::Checked;
+use super::trial::{Course, Trial};
+use bureau_sql::{SqlStore, find_store, init, migrate};
+use bureau_store::{CallerRow, StoreFault};
+use sqlite::{Alter, Connection, FileStore, Files, Options};
+use sqlite_disk::Disk;
+use std::alloc::Global;
+
+/// A connection over files.
+pub(crate) type Opened<D> = Connection<FileStore<D>>;
+
+/// After how many pages the log is copied into the database file: some times while a script is served.
+pub(crate) const SHORT_LOG: usize = 8;
+
+// Few pages are kept in memory, so that the files are read often.
+fn options(log_pages: usize) -> Options {
+    Options {
+        cache_pages: 2,
+        spill_pages: 2000,
+        checkpoint_frames: log_pages,
+        seed: 1,
+    }
+}
+
+/// A connection to these files. The log is copied after so many pages. Refused, the files as they are.
+pub(crate) fn connected<D: Disk + Drop>(
+    alloc: Global,
+    files: Files<D>,
+    log_pages: usize,
+) -> Result<Opened<D>, Files<D>> {
+    if !files.may_be_used() {
+        return Err(files);
+    }
+    match Connection::open_files(alloc, files, options(log_pages)) {
+        Ok(conn) => Ok(conn),
+        Err((_, left)) => Err(left.into_files()),
+    }
+}
+
+/// The files of a connection as they are, with nothing written anew.
+pub(crate) fn files_of<D: Disk + Drop>(conn: Opened<D>) -> Files<D> {
+    conn.into_store().close()
+}
+
+/// Lets a connection go, and tells this. Its files are let go, since they cost less to prove than a connection.
+pub(crate) fn given_up<D: Disk + Drop, T>(conn: Opened<D>, why: &'static str) -> Checked<T> {
+    let _files = files_of(conn);
+    Err(why)
+}
+
+/// The files of a connection after the log was copied into the database, or where the device failed in that.
+pub(crate) fn closed<D: Disk + Drop>(conn: Opened<D>) -> Result<Files<D>, Files<D>> {
+    match conn.close_files() {
+        Ok(files) => Ok(files),
+        Err((_, store)) => Err(store.close()),
+    }
+}
+
+// A connection is not at rest. No step is to be refused so.
+const NOT_AT_REST: StoreFault = StoreFault::Memory;
+
+/// What is done to a database before a desk is asked over it.
+pub(crate) trait Step {
+    /// Does it. The script has these callers.
+    fn done<S: Alter>(
+        &self,
+        callers: &[CallerRow],
+        conn: &mut Connection<S>,
+    ) -> Result<(), StoreFault>;
+}
+
+/// What the bureau does to files that are opened.
+#[derive(Clone, Copy)]
+pub(crate) enum Opening {
+    /// A store with the callers is made in them.
+    Init,
+    /// The store is opened that is in them.
+    Open,
+    /// The store of version 1 that is in them is made one of version 2.
+    Migrate,
+}
+
+impl Step for Opening {
+    fn done<S: Alter>(
+        &self,
+        callers: &[CallerRow],
+        conn: &mut Connection<S>,
+    ) -> Result<(), StoreFault> {
+        if !conn.is_autocommit() {
+            return Err(NOT_AT_REST);
+        }
+        match self {
+            Opening::Init => init(conn, callers),
+            Opening::Open => find_store(conn),
+            Opening::Migrate => migrate(conn),
+        }
+    }
+}
+
+fn stepped<S: Alter, T: Step>(
+    trial: &Trial,
+    conn: &mut Connection<S>,
+    step: &T,
+) -> Result<(), StoreFault> {
+    step.done(trial.callers.as_slice(), conn)
+}
+
+// The store that a connection has. Refused, the connection.
+fn store_over<S: Alter + Drop>(
+    alloc: Global,
+    conn: Connection<S>,
+) -> Result<SqlStore<S>, (StoreFault, Connection<S>)> {
+    if !conn.is_autocommit() {
+        return Err((NOT_AT_REST, conn));
+    }
+    Ok(SqlStore::over(alloc, conn))
+}
+
+// The store that a connection has after this step. Refused, the connection with what was wrong.
+fn store_after<S: Alter + Drop, T: Step>(
+    trial: &Trial,
+    mut conn: Connection<S>,
+    step: &T,
+) -> Result<SqlStore<S>, (StoreFault, Connection<S>)> {
+    match stepped(trial, &mut conn, step) {
+        Ok(()) => store_over(trial.alloc, conn),
+        Err(fault) => Err((fault, conn)),
+    }
+}
+
+/// How many requests were answered in a visit, or why the step was refused; and the connection, or the files.
+pub(crate) type Visited<C> = (Result<usize, StoreFault>, C);
+
+// A desk is asked over the store that a connection has after this step.
+fn visited_over<S: Alter + Drop, T: Step>(
+    trial: &mut Trial,
+    conn: Connection<S>,
+    step: &T,
+    course: Course,
+) -> Checked<Visited<Connection<S>>> {
+    match store_after(trial, conn, step) {
+        Ok(store) => {
+            let (answered, store) = trial.asked_over(store, course)?;
+            Ok((Ok(answered), store.into_connection()))
+        }
+        Err((fault, conn)) => Ok((Err(fault), conn)),
+    }
+}
+
+/// A desk is asked over the store that a connection over files has after this step.
+pub(crate) fn visited<D: Disk + Drop, T: Step>(
+    trial: &mut Trial,
+    conn: Opened<D>,
+    step: &T,
+    course: Course,
+) -> Checked<Visited<Opened<D>>> {
+    visited_over(trial, conn, step, course)
+}
+
+/// The same over files that are opened for it, and left as they are then.
+pub(crate) fn left<D: Disk + Drop>(
+    trial: &mut Trial,
+    files: Files<D>,
+    opening: Opening,
+    course: Course,
+) -> Checked<Visited<Files<D>>> {
+    match connected(trial.alloc, files, SHORT_LOG) {
+        Ok(conn) => {
+            let (answered, conn) = visited(trial, conn, &opening, course)?;
+            Ok((answered, files_of(conn)))
+        }
+        Err(files) => Ok((Err(StoreFault::Device), files)),
+    }
+}
