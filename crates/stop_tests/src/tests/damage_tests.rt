@@ -3,43 +3,13 @@
 //! The database refuses a read that finds the damage, but would commit what comes after it, and lose that at the
 //! next opening. So the store is closed from the first refusal on.
 use super::script::{Checked, REQUESTS};
-use super::stores::{Opened, Opening, Step, connected, files_of, visited};
+use super::stores::{Opened, Step, connected, files_of, visited};
 use super::trial::{Course, Trial, worked};
-use bureau_store::{CallerRow, StoreFault};
-use sqlite::{Alter, Connection, Error, ErrorCode, Files};
+use sqlite::Files;
 use sqlite_disk::{Disk, Memory, Rot};
 use std::alloc::Global;
 use std::hash::RandomState;
 use std::test::Fail;
-
-fn says_damage<S: Alter>(conn: &mut Connection<S>) -> bool {
-    let found = conn.query_all("SELECT count(*) FROM sysmod", &[]);
-    matches!(found, Err(Error::SqliteFailure(ErrorCode::DatabaseCorrupt)))
-}
-
-fn commits<S: Alter>(conn: &mut Connection<S>) -> bool {
-    conn.execute(
-        "INSERT INTO caller (name, token) VALUES ('GAMMA', 'gamma-token')",
-        &[],
-    )
-    .is_ok()
-}
-
-// The connection says that its file is damaged, and commits a change all the same. It is refused where it doesn't.
-struct Committing;
-
-impl Step for Committing {
-    fn done<S: Alter>(
-        &self,
-        _callers: &[CallerRow],
-        conn: &mut Connection<S>,
-    ) -> Result<(), StoreFault> {
-        if says_damage(conn) && commits(conn) {
-            return Ok(());
-        }
-        Err(StoreFault::Shape)
-    }
-}
 
 // New files, of which the log has a damaged byte.
 fn damaged_files(alloc: Global, at: usize) -> Files<Rot<Memory>> {
@@ -49,8 +19,9 @@ fn damaged_files(alloc: Global, at: usize) -> Files<Rot<Memory>> {
     }
 }
 
+// Whether the connection says that its file is damaged, and commits a change all the same.
 fn would_commit<D: Disk + Drop>(trial: &mut Trial, conn: Opened<D>) -> Checked<bool> {
-    let (committed, conn) = visited(trial, conn, &Committing, Course::Nothing)?;
+    let (committed, conn) = visited(trial, conn, Step::Commit, Course::Nothing)?;
     let _files = files_of(conn);
     Ok(committed.is_ok())
 }
@@ -58,7 +29,7 @@ fn would_commit<D: Disk + Drop>(trial: &mut Trial, conn: Opened<D>) -> Checked<b
 // How many requests are answered over a new store of this connection, and whether the connection would have committed
 // more. None is answered where none can be made.
 fn served_over<D: Disk + Drop>(trial: &mut Trial, conn: Opened<D>) -> Checked<(usize, bool)> {
-    match visited(trial, conn, &Opening::Init, Course::Part(0, REQUESTS))? {
+    match visited(trial, conn, Step::Init, Course::Part(0, REQUESTS))? {
         (Ok(answered), conn) => Ok((answered, would_commit(trial, conn)?)),
         (Err(_), conn) => {
             let _files = files_of(conn);

@@ -6,7 +6,7 @@
 use super::files::{Calls, Failing, Stoppable, after_kill, after_power_loss, new_files};
 use super::script::{Checked, OPENED_AGAIN, REQUESTS};
 use super::stores::{
-    Opened, Opening, SHORT_LOG, closed, connected, files_of, given_up, left, visited,
+    Opened, SHORT_LOG, Step, closed, connected, files_of, given_up, left, visited,
 };
 use super::trial::{Course, Stage, Trial, worked};
 use bureau::Reply;
@@ -30,7 +30,7 @@ fn run<D: Disk + Drop>(trial: &mut Trial, files: Files<D>) -> Checked<Stop<D>> {
 }
 
 fn begin<D: Disk + Drop>(trial: &mut Trial, conn: Opened<D>) -> Checked<Stop<D>> {
-    match visited(trial, conn, &Opening::Init, Course::Part(0, OPENED_AGAIN))? {
+    match visited(trial, conn, Step::Init, Course::Part(0, OPENED_AGAIN))? {
         (Ok(OPENED_AGAIN), conn) => go_on(trial, conn),
         (Ok(answered), conn) => Ok((Some(answered), files_of(conn))),
         (Err(StoreFault::Device), conn) => Ok((None, files_of(conn))),
@@ -47,7 +47,7 @@ fn go_on<D: Disk + Drop>(trial: &mut Trial, conn: Opened<D>) -> Checked<Stop<D>>
 
 fn end<D: Disk + Drop>(trial: &mut Trial, files: Files<D>) -> Checked<Stop<D>> {
     let rest = Course::Part(OPENED_AGAIN, REQUESTS);
-    match left(trial, files, Opening::Open, rest)? {
+    match left(trial, files, Step::Open, rest)? {
         (Ok(more), files) => Ok((Some(OPENED_AGAIN.saturating_add(more)), files)),
         (Err(StoreFault::Device), files) => Ok((Some(OPENED_AGAIN), files)),
         (Err(_), _) => Err("open is refused for another reason"),
@@ -77,7 +77,7 @@ fn look_anew<D: Disk + Drop>(
     if answered.is_some() {
         return Err("the store is lost");
     }
-    match left(trial, files, Opening::Init, Course::Rest(stage_of(None)))? {
+    match left(trial, files, Step::Init, Course::Rest(stage_of(None)))? {
         (Ok(_), _) => Ok(()),
         (Err(_), _) => Err("no store, and init is refused"),
     }
@@ -90,7 +90,7 @@ fn look<D: Disk + Drop>(
     files: Files<D>,
 ) -> Checked<()> {
     let rest = Course::Rest(stage_of(answered));
-    match left(trial, files, Opening::Open, rest)? {
+    match left(trial, files, Step::Open, rest)? {
         (Ok(_), _) => Ok(()),
         (Err(StoreFault::Shape), files) => look_anew(trial, answered, files),
         (Err(_), _) => Err("open is refused for another reason"),

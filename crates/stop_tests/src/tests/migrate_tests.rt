@@ -6,12 +6,10 @@ use super::files::{
     ALL, Calls, Device, Failing, Stoppable, after_kill, after_power_loss, copied, new_files,
 };
 use super::script::{Checked, OPENED_AGAIN};
-use super::stores::{
-    Opened, Opening, SHORT_LOG, Step, Visited, closed, connected, given_up, left, visited,
-};
+use super::stores::{Opened, SHORT_LOG, Step, Visited, closed, connected, given_up, left, visited};
 use super::trial::{Course, Stage, Trial, worked};
-use bureau_store::{CallerRow, StoreFault};
-use sqlite::{Alter, Connection, Files};
+use bureau_store::StoreFault;
+use sqlite::Files;
 use sqlite_disk::Disk;
 use std::alloc::Global;
 use std::hash::RandomState;
@@ -28,33 +26,9 @@ enum Found {
 // Whether the store was migrated before a stop, and what is found after the program ended and after a loss of power.
 type Stop = (bool, Found, Found);
 
-// What takes away what version 1 did not have.
-static EARLIER: [&str; 2] = [
-    "DROP TABLE sysmod_cond",
-    "UPDATE bureau_version SET version = 1",
-];
-
-// Takes away what version 1 did not have.
-struct TakingBack;
-
-impl Step for TakingBack {
-    fn done<S: Alter>(
-        &self,
-        _callers: &[CallerRow],
-        conn: &mut Connection<S>,
-    ) -> Result<(), StoreFault> {
-        for text in &EARLIER {
-            if conn.execute(text, &[]).is_err() {
-                return Err(StoreFault::Shape);
-            }
-        }
-        Ok(())
-    }
-}
-
 // A connection over which a store was made, and the script served up to where the files are closed.
 fn served<D: Disk + Drop>(trial: &mut Trial, conn: Opened<D>) -> Checked<Opened<D>> {
-    match visited(trial, conn, &Opening::Init, Course::Part(0, OPENED_AGAIN))? {
+    match visited(trial, conn, Step::Init, Course::Part(0, OPENED_AGAIN))? {
         (Ok(OPENED_AGAIN), conn) => Ok(conn),
         (_, conn) => given_up(conn, "the first part of the script"),
     }
@@ -62,7 +36,7 @@ fn served<D: Disk + Drop>(trial: &mut Trial, conn: Opened<D>) -> Checked<Opened<
 
 // The files of this connection, with a store of version 1.
 fn taken_back<D: Disk + Drop>(trial: &mut Trial, conn: Opened<D>) -> Checked<Files<D>> {
-    match visited(trial, conn, &TakingBack, Course::Nothing)? {
+    match visited(trial, conn, Step::TakeBack, Course::Nothing)? {
         (Ok(_), conn) => closed(conn).ok().ok_or("the files"),
         (Err(_), conn) => given_up(conn, "the tables of version 1"),
     }
@@ -94,13 +68,13 @@ const MIGRATED: Stage = Stage {
 fn goes_on<D: Disk + Drop>(
     trial: &mut Trial,
     files: Files<D>,
-    opening: Opening,
+    step: Step,
 ) -> Checked<Visited<Files<D>>> {
-    left(trial, files, opening, Course::Rest(MIGRATED))
+    left(trial, files, step, Course::Rest(MIGRATED))
 }
 
 fn goes_on_migrated<D: Disk + Drop>(trial: &mut Trial, files: Files<D>) -> Checked<Found> {
-    match goes_on(trial, files, Opening::Migrate)? {
+    match goes_on(trial, files, Step::Migrate)? {
         (Ok(_), _) => Ok(Found::One),
         (Err(_), _) => Err("a store of version 1 is not migrated"),
     }
@@ -108,7 +82,7 @@ fn goes_on_migrated<D: Disk + Drop>(trial: &mut Trial, files: Files<D>) -> Check
 
 // Nothing of what was served is lost in these files: which version they are of.
 fn version_in<D: Disk + Drop>(trial: &mut Trial, files: Files<D>) -> Checked<Found> {
-    match goes_on(trial, files, Opening::Open)? {
+    match goes_on(trial, files, Step::Open)? {
         (Ok(_), _) => Ok(Found::Two),
         (Err(StoreFault::Version), files) => goes_on_migrated(trial, files),
         (Err(_), _) => Err("open is refused for another reason"),
@@ -126,7 +100,7 @@ fn look<D: Disk + Drop>(trial: &mut Trial, is_done: bool, files: Files<D>) -> Ch
 
 // Migrates the store in these files: whether that was done, and the files.
 fn tried<D: Disk + Drop>(trial: &mut Trial, files: Files<D>) -> Checked<(bool, Files<D>)> {
-    match left(trial, files, Opening::Migrate, Course::Nothing)? {
+    match left(trial, files, Step::Migrate, Course::Nothing)? {
         (Ok(_), files) => Ok((true, files)),
         (Err(StoreFault::Device), files) => Ok((false, files)),
         (Err(_), _) => Err("migrate is refused for another reason"),

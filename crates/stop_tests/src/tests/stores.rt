@@ -7,7 +7,7 @@ use super::script::Checked;
 use super::trial::{Course, Trial};
 use bureau_sql::{SqlStore, find_store, init, migrate};
 use bureau_store::{CallerRow, StoreFault};
-use sqlite::{Alter, Connection, FileStore, Files, Options};
+use sqlite::{Alter, Connection, Error, ErrorCode, FileStore, Files, Options};
 use sqlite_disk::Disk;
 use std::alloc::Global;
 
@@ -65,49 +65,64 @@ pub(crate) fn closed<D: Disk + Drop>(conn: Opened<D>) -> Result<Files<D>, Files<
 const NOT_AT_REST: StoreFault = StoreFault::Memory;
 
 /// What is done to a database before a desk is asked over it.
-pub(crate) trait Step {
-    /// Does it. The script has these callers.
-    fn done<S: Alter>(
-        &self,
-        callers: &[CallerRow],
-        conn: &mut Connection<S>,
-    ) -> Result<(), StoreFault>;
-}
-
-/// What the bureau does to files that are opened.
 #[derive(Clone, Copy)]
-pub(crate) enum Opening {
-    /// A store with the callers is made in them.
+pub(crate) enum Step {
+    /// A store with the callers is made in it.
     Init,
-    /// The store is opened that is in them.
+    /// The store is opened that is in it.
     Open,
-    /// The store of version 1 that is in them is made one of version 2.
+    /// The store of version 1 that is in it is made one of version 2.
     Migrate,
+    /// Something else than the bureau takes away what version 1 did not have.
+    TakeBack,
+    /// The connection says that its file is damaged, and commits a change all the same. It is refused where it doesn't.
+    Commit,
 }
 
-impl Step for Opening {
-    fn done<S: Alter>(
-        &self,
-        callers: &[CallerRow],
-        conn: &mut Connection<S>,
-    ) -> Result<(), StoreFault> {
-        if !conn.is_autocommit() {
-            return Err(NOT_AT_REST);
+fn take_back<S: Alter>(conn: &mut Connection<S>) -> Result<(), StoreFault> {
+    let texts = [
+        "DROP TABLE sysmod_cond",
+        "UPDATE bureau_version SET version = 1",
+    ];
+    for text in texts {
+        if conn.execute(text, &[]).is_err() {
+            return Err(StoreFault::Shape);
         }
-        match self {
-            Opening::Init => init(conn, callers),
-            Opening::Open => find_store(conn),
-            Opening::Migrate => migrate(conn),
-        }
+    }
+    Ok(())
+}
+
+fn says_damage<S: Alter>(conn: &mut Connection<S>) -> bool {
+    let found = conn.query_all("SELECT count(*) FROM sysmod", &[]);
+    matches!(found, Err(Error::SqliteFailure(ErrorCode::DatabaseCorrupt)))
+}
+
+fn commit<S: Alter>(conn: &mut Connection<S>) -> Result<(), StoreFault> {
+    if !says_damage(conn) {
+        return Err(StoreFault::Shape);
+    }
+    let text = "INSERT INTO caller (name, token) VALUES ('GAMMA', 'gamma-token')";
+    match conn.execute(text, &[]) {
+        Ok(_) => Ok(()),
+        Err(_) => Err(StoreFault::Device),
     }
 }
 
-fn stepped<S: Alter, T: Step>(
-    trial: &Trial,
+fn done<S: Alter>(
     conn: &mut Connection<S>,
-    step: &T,
+    callers: &[CallerRow],
+    step: Step,
 ) -> Result<(), StoreFault> {
-    step.done(trial.callers.as_slice(), conn)
+    if !conn.is_autocommit() {
+        return Err(NOT_AT_REST);
+    }
+    match step {
+        Step::Init => init(conn, callers),
+        Step::Open => find_store(conn),
+        Step::Migrate => migrate(conn),
+        Step::TakeBack => take_back(conn),
+        Step::Commit => commit(conn),
+    }
 }
 
 // The store that a connection has. Refused, the connection.
@@ -122,12 +137,12 @@ fn store_over<S: Alter + Drop>(
 }
 
 // The store that a connection has after this step. Refused, the connection with what was wrong.
-fn store_after<S: Alter + Drop, T: Step>(
+fn store_after<S: Alter + Drop>(
     trial: &Trial,
     mut conn: Connection<S>,
-    step: &T,
+    step: Step,
 ) -> Result<SqlStore<S>, (StoreFault, Connection<S>)> {
-    match stepped(trial, &mut conn, step) {
+    match done(&mut conn, trial.callers.as_slice(), step) {
         Ok(()) => store_over(trial.alloc, conn),
         Err(fault) => Err((fault, conn)),
     }
@@ -137,10 +152,10 @@ fn store_after<S: Alter + Drop, T: Step>(
 pub(crate) type Visited<C> = (Result<usize, StoreFault>, C);
 
 // A desk is asked over the store that a connection has after this step.
-fn visited_over<S: Alter + Drop, T: Step>(
+fn visited_over<S: Alter + Drop>(
     trial: &mut Trial,
     conn: Connection<S>,
-    step: &T,
+    step: Step,
     course: Course,
 ) -> Checked<Visited<Connection<S>>> {
     match store_after(trial, conn, step) {
@@ -153,10 +168,10 @@ fn visited_over<S: Alter + Drop, T: Step>(
 }
 
 /// A desk is asked over the store that a connection over files has after this step.
-pub(crate) fn visited<D: Disk + Drop, T: Step>(
+pub(crate) fn visited<D: Disk + Drop>(
     trial: &mut Trial,
     conn: Opened<D>,
-    step: &T,
+    step: Step,
     course: Course,
 ) -> Checked<Visited<Opened<D>>> {
     visited_over(trial, conn, step, course)
@@ -166,12 +181,12 @@ pub(crate) fn visited<D: Disk + Drop, T: Step>(
 pub(crate) fn left<D: Disk + Drop>(
     trial: &mut Trial,
     files: Files<D>,
-    opening: Opening,
+    step: Step,
     course: Course,
 ) -> Checked<Visited<Files<D>>> {
     match connected(trial.alloc, files, SHORT_LOG) {
         Ok(conn) => {
-            let (answered, conn) = visited(trial, conn, &opening, course)?;
+            let (answered, conn) = visited(trial, conn, step, course)?;
             Ok((answered, files_of(conn)))
         }
         Err(files) => Ok((Err(StoreFault::Device), files)),
