@@ -1,0 +1,114 @@
+"""Files of rows: what is asked of the program, and what it must answer, line by line.
+
+An empty line ends a case. The first letter of a line, or its first word, says what it is:
+
+    * TEXT                     a remark; the first one of a case is its title
+    + or a blank at the front  a line of statements, as it stands
+    |TEXT                      a line of anything else that the next command takes: a list, a body
+    base                       in place of such lines: the publication of the worked case, BASE below
+    each FIRST LAST TEXT       the same: TEXT for each number, with % for the number in five digits and & for the next one;
+                               a | in TEXT ends a line
+    = TEXT                     a line of what is wanted of the command before; = alone is an empty line
+    WORD ..                    a command. Which words there are, and what they answer, says the module of the kind of rows
+"""
+
+BASE = """++FUNCTION(HBB7790).
+++VER(Z038).
+++PTF(UA10001).
+++VER(Z038) FMID(HBB7790).
+++PTF(UA10002).
+++VER(Z038) FMID(HBB7790) PRE(UA10001) SUP(AA20002).
+++HOLD(UA10001) ERROR FMID(HBB7790)
+ REASON(AA20002) CLASS(PE) DATE(12045).
+""".splitlines()
+
+
+class Unreadable(Exception):
+    """What is wrong with a file of rows, with the file and the line."""
+
+
+class Row:
+    """A command with the lines that it takes and the lines that it must answer; `place` is its file and line."""
+
+    def __init__(self, place, text, given):
+        self.place = place
+        self.text = text
+        self.word, _, self.rest = text.partition(" ")
+        self.given = given
+        self.wanted = []
+
+
+class Case:
+    """The rows between two empty lines."""
+
+    def __init__(self, place):
+        self.place = place
+        self.title = ""
+        self.rows = []
+
+
+def lines_of_each(text, place):
+    """The lines for which `each FIRST LAST TEXT` stands."""
+    try:
+        first, last, template = text.split(" ", 2)
+        numbers = range(int(first), int(last) + 1)
+    except ValueError:
+        raise Unreadable(f"{place}: each FIRST LAST TEXT is wanted") from None
+    return [line.replace("%", f"{at:05}").replace("&", f"{at + 1:05}") for at in numbers for line in template.split("|")]
+
+
+class Reader:
+    """Makes cases of lines."""
+
+    def __init__(self):
+        self.cases = []
+        self.case = None
+        self.given = []
+
+    def end_case(self, place):
+        if self.given:
+            raise Unreadable(f"{place}: the lines before have no command")
+        self.case = None
+
+    def take(self, line, place):
+        if not line:
+            self.end_case(place)
+            return
+        if self.case is None:
+            self.case = Case(place)
+            self.cases.append(self.case)
+        word, _, rest = line.partition(" ")
+        if line[0] == "*":
+            self.case.title = self.case.title or line[1:].strip()
+        elif line[0] in "+ ":
+            self.given.append(line)
+        elif line[0] == "|":
+            self.given.append(line[1:])
+        elif line[0] == "=":
+            self.want(line, place)
+        elif line == "base":
+            self.given += BASE
+        elif word == "each":
+            self.given += lines_of_each(rest, place)
+        else:
+            self.case.rows.append(Row(place, line, self.given))
+            self.given = []
+
+    def want(self, line, place):
+        if line[1:2] not in ("", " "):
+            raise Unreadable(f"{place}: a blank stands after =")
+        if not self.case.rows or self.given:
+            raise Unreadable(f"{place}: no command stands before what is wanted")
+        self.case.rows[-1].wanted.append(line[2:])
+
+
+def read(name):
+    """The cases of a file."""
+    reader = Reader()
+    with open(name, encoding="utf-8") as lines:
+        for number, line in enumerate(lines, 1):
+            reader.take(line.rstrip("\n"), f"{name}:{number}")
+    reader.end_case(f"{name}: at the end")
+    if not any(case.rows for case in reader.cases):
+        raise Unreadable(f"{name}: it has no row")
+    return reader.cases

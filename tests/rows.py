@@ -1,0 +1,99 @@
+#!/usr/bin/env python3
+"""Runs files of rows through the built program: each row says what is asked, and what the answer must be.
+
+    tests/rows.py PROGRAM [FILE..]
+
+Without FILE it runs all below `tests/rows` and in the data of the crates of rows, and then tries that wrong rows are seen: those in
+`tests/rows/planted`. `tests/row_files.py` says how a file is written. The kind of its rows is the name of its folder: `content`
+(`tests/row_content.py`) or `desk` (`tests/row_desk.py`), with `_rows` after it for a crate's data. A row of a crate's data that the
+program can't show is passed over, and counted. The last line counts the answers.
+"""
+import glob
+import os
+import sys
+
+import row_content
+import row_desk
+from row_files import Unreadable, read
+
+HERE = os.path.dirname(os.path.abspath(__file__))
+TOP = os.path.dirname(HERE)
+KINDS = {"content": row_content, "desk": row_desk}
+
+
+def kind_of(name):
+    """The kind of a file's rows, by the folder that it stands in."""
+    for folder in reversed(os.path.abspath(name).split(os.sep)[:-1]):
+        if folder.removesuffix("_rows") in KINDS:
+            return KINDS[folder.removesuffix("_rows")]
+    raise Unreadable(f"{name}: its folder names no kind of rows ({', '.join(KINDS)})")
+
+
+class Tally:
+    """How many answers were right and wrong, and how many rows were passed over."""
+
+    def __init__(self):
+        self.right = self.wrong = self.passed_over = 0
+        self.said = []
+
+    def compare(self, row, told, way):
+        """Compares what a row was told; `told` is None where the program can't show it."""
+        if told is None:
+            self.passed_over += 1
+        elif told == row.wanted:
+            self.right += 1
+        else:
+            self.wrong += 1
+            self.said.append(f"{row.place}: {row.text}{way and f' ({way})'}:\n  told   {told}\n  wanted {row.wanted}")
+
+
+def run(program, name):
+    """Runs a file of rows. A file that can't be read is one wrong answer."""
+    tally = Tally()
+    try:
+        for case in read(name):
+            for row, told, way in kind_of(name).answers(program, case):
+                tally.compare(row, told, way)
+    except Unreadable as why:
+        tally.wrong += 1
+        tally.said.append(str(why))
+    return tally
+
+
+def planted(program):
+    """Tries that each file of wrong rows has as many wrong answers as its name says: `NAME.2.txt` has two."""
+    tally = Tally()
+    for name in sorted(glob.glob(f"{HERE}/rows/planted/*/*.txt")):
+        wanted = int(name.split(".")[-2])
+        seen = run(program, name).wrong
+        if seen == wanted:
+            tally.right += 1
+        else:
+            tally.wrong += 1
+            tally.said.append(f"{name}: {seen} wrong answers were seen, and not {wanted}")
+    return tally
+
+
+def all_files():
+    return sorted(glob.glob(f"{HERE}/rows/content/*.txt") + glob.glob(f"{HERE}/rows/desk/*.txt")
+                  + [it for kind in KINDS for it in glob.glob(f"{TOP}/crates/{kind}_rows/data/*.txt")])
+
+
+def main(words):
+    if not words:
+        print(__doc__)
+        return 2
+    program = os.path.realpath(words[0])
+    tallies = [run(program, name) for name in words[1:] or all_files()]
+    if not words[1:]:
+        tallies.append(planted(program))
+    for line in (line for tally in tallies for line in tally.said):
+        print(line)
+    print(f"rows: {sum(tally.passed_over for tally in tallies)} rows of crates are passed over, since the program can't show them")
+    wrong = sum(tally.wrong for tally in tallies)
+    print(f"rows: {sum(tally.right for tally in tallies)} passed, {wrong} failed")
+    return int(wrong > 0)
+
+
+if __name__ == "__main__":
+    sys.exit(main(sys.argv[1:]))
