@@ -1,17 +1,22 @@
-"""Rows of a desk: requests to `bureau replay`, with their replies.
+"""Rows of a desk: requests to `bureau replay` and to `bureau serve`, with their replies.
 
     CALLER METHOD PATH [NUMBER]    a request of a caller (CALLERS), with the lines before it as its body; a change has a number
+    numbered FIRST LAST REQUEST    the same request for each number, which stands for each # of it and of what is wanted
 
-What is wanted is the status, and then the lines of the reply's body. Each case is run with room for one frame and for 1,024, in one
-connection and in one for each request.
+What is wanted is the status, and then the lines of the reply's body. Each case is run in each of these ways (WAYS): by `replay` with
+room for one frame and for 1,024, in one connection and in one for each request, and by `serve` over a store in a file, which is begun
+once, or anew before each request. Words that only a crate of rows knows are in ELSEWHERE.
 """
 import os
+import socket
 import subprocess
 import tempfile
 
-from row_files import Unreadable
+from row_files import Row, Unreadable
 
 CALLERS = {"PUBLISH": "publisher-token", "ALPHA": "alpha-token", "BETA": "beta-token", "GAMMA": "gamma-token"}
+CALLERS_FILE = "".join(f"{name},{token}\n" for name, token in {"NAME": "TOKEN", **CALLERS}.items()).encode()
+ELSEWHERE = {"built", "kept", "room", "fails", "answers"}
 
 
 def request(row):
@@ -25,33 +30,132 @@ def request(row):
     return "\r\n".join(head).encode() + body
 
 
+def of_number(row, number):
+    """A row whose # are a number."""
+    made = Row(row.place, row.rest.split(" ", 2)[2].replace("#", str(number)), row.given)
+    made.wanted = [line.replace("#", str(number)) for line in row.wanted]
+    return made
+
+
+def each_row(row):
+    """The rows for which one row stands."""
+    if row.word != "numbered":
+        return [row]
+    first, last, *rest = row.rest.split(" ", 2)
+    if not (first.isdigit() and last.isdigit() and rest):
+        raise Unreadable(f"{row.place}: numbered FIRST LAST REQUEST is wanted")
+    return [of_number(row, number) for number in range(int(first), int(last) + 1)]
+
+
 def replies(text):
     """Of each reply the status, and the lines of the body."""
     while text:
         head, _, text = text.partition(b"\r\n\r\n")
         lines = head.decode().split("\r\n")
         length = next(int(line.split(":")[1]) for line in lines if line.startswith("content-length:"))
-        yield [lines[0].split()[1], *text[:length].decode().rstrip("\n").split("\n")]
+        yield [lines[0].split()[1], *body_lines(lines, text[:length].decode())]
         text = text[length:]
+
+
+def body_lines(head, body):
+    """The lines of a body. JSON is told to be so, and has no end of a line; all else has one."""
+    is_json = "content-type: application/json" in head
+    if body and is_json != body.startswith("{") or body and is_json == body.endswith("\n"):
+        return [*head, body]
+    return body.removesuffix("\n").split("\n")
 
 
 def write(room, name, data):
     with open(os.path.join(room, name), "wb") as file:
         file.write(data)
+    return name
+
+
+def replayed(frames, is_one):
+    """A way: by `replay`, with room for so many frames, in one connection or in one for each request."""
+    def way(program, room, requests):
+        sent = [b"".join(requests)] if is_one else requests
+        names = [write(room, str(at), data) for at, data in enumerate(sent)]
+        done = subprocess.run([program, "replay", "--cache", str(frames), "callers", *names], cwd=room, capture_output=True)
+        return replies(done.stdout)
+    return way
+
+
+class Served:
+    """`bureau serve` over the file `store` of a folder, until its end. `port` is None where it refuses to serve, and `line` says why."""
+
+    def __init__(self, program, room, *words):
+        self.process = subprocess.Popen([program, "serve", *words, "--port", str(free_port()), "store"], cwd=room,
+                                        stdout=subprocess.PIPE, stderr=subprocess.STDOUT, text=True)
+        self.line = self.process.stdout.readline().removesuffix("\n")
+        self.port = int(self.line.rpartition(":")[2]) if self.line.startswith("LISTENING 127.0.0.1:") else None
+
+    def __enter__(self):
+        return self
+
+    def __exit__(self, *_):
+        self.process.terminate()
+        self.process.communicate()
+
+    def reply(self, sent):
+        """The reply to a request, on a connection of its own."""
+        with socket.create_connection(("127.0.0.1", self.port), timeout=60) as connection:
+            connection.sendall(sent)
+            connection.shutdown(socket.SHUT_WR)
+            return next(replies(b"".join(iter(lambda: connection.recv(65536), b""))), ["no reply"])
+
+
+def free_port():
+    with socket.socket() as probe:
+        probe.bind(("127.0.0.1", 0))
+        return probe.getsockname()[1]
+
+
+def new_store(program, room):
+    """Makes a store there in which nothing is published."""
+    for name in ("store", "store-wal"):
+        if os.path.exists(os.path.join(room, name)):
+            os.remove(os.path.join(room, name))
+    subprocess.run([program, "init", "store", "callers"], cwd=room, check=True, capture_output=True)
+
+
+def served(program, room, requests):
+    """A way: over a store in a file, by one run of `serve` with room for two frames."""
+    new_store(program, room)
+    with Served(program, room, "--cache", "2") as desk:
+        return [desk.reply(sent) for sent in requests]
+
+
+def served_anew(program, room, requests):
+    """A way: over a store in a file, by a run of `serve` for each request."""
+    new_store(program, room)
+    told = []
+    for sent in requests:
+        with Served(program, room) as desk:
+            told.append(desk.reply(sent))
+    return told
+
+
+WAYS = {
+    "1 frame, one connection": replayed(1, True),
+    "1 frame, a connection for each request": replayed(1, False),
+    "1024 frames, one connection": replayed(1024, True),
+    "1024 frames, a connection for each request": replayed(1024, False),
+    "over a file": served,
+    "over a file that is opened again": served_anew,
+}
 
 
 def answers(program, case):
     """Of each row of a case what the desk replies, in each way."""
-    requests = [request(row) for row in case.rows]
+    for row in case.rows:
+        if row.word in ELSEWHERE:
+            yield row, None, ""
+    rows = [one for row in case.rows if row.word not in ELSEWHERE for one in each_row(row)]
+    requests = [request(row) for row in rows]
     with tempfile.TemporaryDirectory() as room:
-        write(room, "callers", "".join(f"{name},{token}\n" for name, token in {"NAME": "TOKEN", **CALLERS}.items()).encode())
-        write(room, "all", b"".join(requests))
-        names = [str(at) for at in range(len(requests))]
-        for name, data in zip(names, requests):
-            write(room, name, data)
-        for frames in ("1", "1024"):
-            for connections, files in (("one connection", ["all"]), ("a connection for each request", names)):
-                done = subprocess.run([program, "replay", "--cache", frames, "callers", *files], cwd=room, capture_output=True)
-                told = list(replies(done.stdout))
-                for at, row in enumerate(case.rows):
-                    yield row, told[at] if at < len(told) else ["no reply"], f"{frames} frames, {connections}"
+        write(room, "callers", CALLERS_FILE)
+        for name, way in WAYS.items():
+            told = list(way(program, room, requests))
+            for at, row in enumerate(rows):
+                yield row, told[at] if at < len(told) else ["no reply"], name
