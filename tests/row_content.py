@@ -4,11 +4,12 @@
     zone ROW..                 the zone has these rows, as UA10001,APPLIED, and the lines before it
     received ID..              these SYSMODs are received
     categories                 the zone's patterns of categories are the lines before it
-    verdict ID..               of each id, on a line: GOOD and its plan, HELD and the need that blocks it, or LACK
-    chain ID..                 of each id, on a line: its chain as JSON
+    fault                      the first fault of the lines before it, which are not published
+    verdict ID..               of each id, and of those on the lines before it, a line: GOOD and its plan, HELD and the need that
+                               blocks it, or LACK
+    chain ID..                 the same with chains, as JSON
     errors                     the report of exception SYSMODs
     missing                    the report of missing fixes
-    brief COMMAND              the same as COMMAND, cut down to the first three words, the last one, and how many they are
 
 Words that only a crate of rows knows are in ELSEWHERE.
 """
@@ -31,17 +32,17 @@ class Content:
         self.write("zone", ["SYSMOD,STATE"])
         self.write("received", ["SYSMOD"])
         self.write("categories", ["CATEGORY"])
+        self.write("nothing", [])
 
     def write(self, name, lines):
         with open(os.path.join(self.room, name), "w", encoding="utf-8") as file:
             file.writelines(f"{line}\n" for line in lines)
         return name
 
-    def run(self, command, *words):
+    def run(self, command, *words, files=None):
         """What the program prints, or tells."""
-        files = self.publications or [self.write("nothing", [])]
-        done = subprocess.run([self.program, command, "--zone", "zone", "--name", "TGT1", *words, *files], cwd=self.room,
-                              capture_output=True, text=True)
+        words = [self.program, command, "--zone", "zone", "--name", "TGT1", *words, *(files or self.publications or ["nothing"])]
+        done = subprocess.run(words, cwd=self.room, capture_output=True, text=True)
         return (done.stdout or done.stderr).splitlines()
 
     def publish(self, row):
@@ -60,21 +61,23 @@ class Content:
         self.write("categories", ["CATEGORY", *row.given])
         return []
 
+    def fault(self, row):
+        return [line.removesuffix(" suspect") for line in self.run("chain", "UA1", files=[self.write("suspect", row.given)])]
+
+    def chain_of(self, sysmod):
+        return self.run("chain", sysmod)
+
     def chain(self, row):
-        return [line for sysmod in row.rest.split() for line in self.run("chain", sysmod)]
+        return [line for sysmod in ids_of(row) for line in self.chain_of(sysmod)]
 
     def verdict(self, row):
-        return [verdict_of(json.loads(line)) for line in self.chain(row)]
+        return [verdict_of(sysmod, self.chain_of(sysmod)) for sysmod in ids_of(row)]
 
     def errors(self, _):
         return self.run("errsysmods", "--received", "received")
 
     def missing(self, _):
         return self.run("missingfix", "--received", "received", "--categories", "categories")
-
-    def brief(self, row):
-        row.word, _, row.rest = row.rest.partition(" ")
-        return [brief(line) for line in self.answer(row)]
 
     def answer(self, row):
         if row.word in ELSEWHERE:
@@ -84,17 +87,27 @@ class Content:
         return getattr(self, row.word)(row)
 
 
-WORDS = {"publish", "zone", "received", "categories", "chain", "verdict", "errors", "missing", "brief"}
+WORDS = {"publish", "zone", "received", "categories", "fault", "chain", "verdict", "errors", "missing"}
 
 
-def verdict_of(chain):
-    """A verdict in words, of its chain."""
-    return " ".join([chain["status"], *(member["id"] for member in chain.get("plan", [])), *filter(None, [chain.get("blocked")])])
+def ids_of(row):
+    """The ids that a row asks for: those on its own line, and on the lines before it."""
+    return [*row.rest.split(), *row.given]
 
 
-def brief(line):
-    words = line.split()
-    return f"{' '.join(words[:3])} .. {words[-1]}, {len(words)} words"
+def verdict_of(sysmod, chain):
+    """A verdict in words, of its chain, which must be written as each chain is. Of another chain all that was printed."""
+    try:
+        told = json.loads(chain[0])
+    except ValueError:
+        return " ".join(chain)
+    plan = [member["id"] for member in told.get("plan", [])]
+    blocked = [told["blocked"]] if "blocked" in told else []
+    wanted = {"GOOD": ["plan"], "HELD": ["blocked"], "LACK": []}.get(told.get("status"), [])
+    is_plain = json.dumps(told, separators=(",", ":"), sort_keys=True) == chain[0] and len(chain) == 1
+    if sorted(told) != sorted([*wanted, "status", "sysmod", "zone"]) or told["sysmod"] != sysmod or not is_plain:
+        return " ".join(chain)
+    return " ".join([told["status"], *plan, *blocked])
 
 
 def answers(program, case):

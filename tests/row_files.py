@@ -9,7 +9,10 @@ An empty line ends a case. The first letter of a line, or its first word, says w
     each FIRST LAST TEXT       the same: TEXT for each number, with % for the number in five digits and & for the next one;
                                a | in TEXT ends a line
     = TEXT                     a line of what is wanted of the command before; = alone is an empty line
+    =each FIRST LAST TEXT      such lines, made as those of `each`
     WORD ..                    a command. Which words there are, and what they answer, says the module of the kind of rows
+    brief WORD ..              the same command; of each line of its answer only the first three words are compared, the last one,
+                               and how many words there are
 """
 
 BASE = """++FUNCTION(HBB7790).
@@ -33,9 +36,19 @@ class Row:
     def __init__(self, place, text, given):
         self.place = place
         self.text = text
-        self.word, _, self.rest = text.partition(" ")
+        self.is_brief = text.startswith("brief ")
+        self.word, _, self.rest = text.removeprefix("brief ").partition(" ")
         self.given = given
         self.wanted = []
+
+    def as_compared(self, told):
+        """The lines of an answer, as they are compared with what is wanted."""
+        return [brief(line) for line in told] if self.is_brief else told
+
+
+def brief(line):
+    words = line.split()
+    return f"{' '.join(words[:3])} .. {words[-1]}, {len(words)} words" if words else ""
 
 
 class Case:
@@ -95,11 +108,14 @@ class Reader:
             self.given = []
 
     def want(self, line, place):
-        if line[1:2] not in ("", " "):
-            raise Unreadable(f"{place}: a blank stands after =")
         if not self.case.rows or self.given:
             raise Unreadable(f"{place}: no command stands before what is wanted")
-        self.case.rows[-1].wanted.append(line[2:])
+        if line.startswith("=each "):
+            self.case.rows[-1].wanted += lines_of_each(line[6:], place)
+        elif line[1:2] in ("", " "):
+            self.case.rows[-1].wanted.append(line[2:])
+        else:
+            raise Unreadable(f"{place}: a blank stands after =")
 
 
 def read(name):

@@ -6,7 +6,7 @@
 Without FILE it runs all below `tests/rows` and in the data of the crates of rows, and then tries that wrong rows are seen: those in
 `tests/rows/planted`. `tests/row_files.py` says how a file is written. The kind of its rows is the name of its folder: `content`
 (`tests/row_content.py`) or `desk` (`tests/row_desk.py`), with `_rows` after it for a crate's data. A row of a crate's data that the
-program can't show is passed over, and counted. The last line counts the answers.
+program can't show is passed over, and counted. The last line counts the answers; a row that asks nothing, as `publish`, has none.
 """
 import glob
 import os
@@ -40,11 +40,11 @@ class Tally:
         """Compares what a row was told; `told` is None where the program can't show it."""
         if told is None:
             self.passed_over += 1
-        elif told == row.wanted:
-            self.right += 1
+        elif row.as_compared(told) == row.wanted:
+            self.right += bool(row.wanted)
         else:
             self.wrong += 1
-            self.said.append(f"{row.place}: {row.text}{way and f' ({way})'}:\n  told   {told}\n  wanted {row.wanted}")
+            self.said.append(f"{row.place}: {row.text}{way and f' ({way})'}:\n  told   {row.as_compared(told)}\n  wanted {row.wanted}")
 
 
 def run(program, name):
