@@ -5,8 +5,9 @@
 
 Without FILE it runs all below `tests/rows` and in the data of the crates of rows, and then tries that wrong rows are seen: those in
 `tests/rows/planted`. `tests/row_files.py` says how a file is written. The kind of its rows is the name of its folder: `content`
-(`tests/row_content.py`) or `desk` (`tests/row_desk.py`), with `_rows` after it for a crate's data. A row of a crate's data that the
-program can't show is passed over, and counted. The last line counts the answers; a row that asks nothing, as `publish`, has none.
+(`tests/row_content.py`), `desk` (`tests/row_desk.py`) or `runs` (`tests/row_runs.py`), with `_rows` after it for a crate's data. A row
+of a crate's data that the program can't show is passed over, and counted. The last line counts the answers; a row that asks nothing, as
+`publish`, has none.
 """
 import glob
 import os
@@ -14,11 +15,12 @@ import sys
 
 import row_content
 import row_desk
+import row_runs
 from row_files import Unreadable, read
 
 HERE = os.path.dirname(os.path.abspath(__file__))
 TOP = os.path.dirname(HERE)
-KINDS = {"content": row_content, "desk": row_desk}
+KINDS = {"content": row_content, "desk": row_desk, "runs": row_runs}
 
 
 def kind_of(name):
@@ -75,8 +77,8 @@ def planted(program):
 
 
 def all_files():
-    return sorted(glob.glob(f"{HERE}/rows/content/*.txt") + glob.glob(f"{HERE}/rows/desk/*.txt")
-                  + [it for kind in KINDS for it in glob.glob(f"{TOP}/crates/{kind}_rows/data/*.txt")])
+    return sorted(it for kind in KINDS for folder in (f"{HERE}/rows/{kind}", f"{TOP}/crates/{kind}_rows/data")
+                  for it in glob.glob(f"{folder}/*.txt"))
 
 
 def main(words):
