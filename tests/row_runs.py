@@ -6,7 +6,7 @@
     sql NAME                   the lines before it are written into a store by something else, each a command of SQL
     run WORD..                 runs the program, with the lines and bytes before it on standard input: the lines that it prints,
                                `error` and each line of standard error, and `status` and its status unless that is 0. A CR is \\r
-    last COUNT run WORD..      the same, and of what is printed the last lines alone
+    last COUNT WORD ..         another of these commands; of its answer the last lines alone
     find TEXT                  of what the last run printed each line that has this text
     refused WORD..             runs the program, which must print nothing, and end with status 2: texts that standard error has
     as CALLER                  the requests after it are this caller's (CALLERS), or nobody's
@@ -49,7 +49,8 @@ def replies(data, has_bodies=True):
         count = int(length.split()[1]) if has_bodies else 0
         body, data = data[:count], data[count:]
         plain = ["content-type: text/plain", f"content-length: {count}"]
-        lines += [status.removeprefix("HTTP/1.1 ") if end else f"{status} and no end", *(line for line in head if line not in plain)]
+        cut = "" if end and len(body) == count else f" and {len(body)} of {count} bytes"
+        lines += [status.removeprefix("HTTP/1.1 ") + cut, *(line for line in head if line not in plain)]
         lines += body.decode().removesuffix("\n").split("\n") if body else []
     return lines
 
@@ -105,8 +106,9 @@ class Room:
         return [*self.printed, *errors, *([f"status {done.returncode}"] if done.returncode else [])]
 
     def last(self, row):
-        count, _, row.rest = row.rest.partition(" run ")
-        return self.run(row)[-int(count):]
+        count, word, row.rest = f"{row.rest} ".split(" ", 2)
+        row.rest = row.rest.rstrip()
+        return WORDS[word](self, row)[-int(count):]
 
     def find(self, row):
         return [line for line in self.printed if row.rest in line]
@@ -128,11 +130,11 @@ class Room:
 
     def request(self, row):
         """The bytes of a request, of the lines before it."""
-        head, _, body = self.taken().partition(b"\n\n") if not row.given[:1] == [""] else (b"", b"", self.taken()[1:])
-        lines = [f"{row.rest} HTTP/1.1", *head.decode().split("\n")]
-        lines += [f"bureau-token: {self.token}"] if self.token else []
-        lines += [f"content-length: {len(body)}"] if "" in row.given else []
-        return "\r\n".join([*filter(None, lines), "", ""]).encode() + body
+        at = row.given.index("") if "" in row.given else len(row.given)
+        body = "".join(f"{line}\n" for line in row.given[at + 1:]).encode()
+        token = [f"bureau-token: {self.token}"] if self.token else []
+        length = [f"content-length: {len(body)}"] if "" in row.given else []
+        return "\r\n".join([f"{row.rest} HTTP/1.1", *token, *row.given[:at], *length, "", ""]).encode() + body
 
     def replay(self, connections):
         """What replay writes to connections, or tells."""
@@ -158,9 +160,10 @@ class Room:
         return replies(self.replay([self.taken()]))
 
     def take(self, row):
-        """Takes the lines before a row."""
+        """Takes the lines before a row, unless they are those of a request."""
         end = "\r\n" if row.word == "connection" else "\n"
-        self.data += "".join(f"{line}{end}" for line in row.given).encode()
+        if row.word != "ask":
+            self.data += "".join(f"{line}{end}" for line in row.given).encode()
 
     def answers(self, row):
         """What a row is told, by its way."""
