@@ -1,3 +1,0 @@
-//! The parts of the tests.
-mod file_reports_tests;
-mod ram_disk_tests;
