@@ -5,9 +5,9 @@
 
 Without FILE it runs all below `tests/rows` and in the data of the crates of rows, and then tries that wrong rows are seen: those in
 `tests/rows/planted`. `tests/row_files.py` says how a file is written. The kind of its rows is the name of its folder: `content`
-(`tests/row_content.py`), `desk` (`tests/row_desk.py`) or `runs` (`tests/row_runs.py`), with `_rows` after it for a crate's data. A row
-of a crate's data that the program can't show is passed over, and counted. The last line counts the answers; a row that asks nothing, as
-`publish`, has none.
+(`tests/row_content.py`), `desk` (`tests/row_desk.py`) or `runs` (`tests/row_runs.py`), with `_rows` after it for a crate's data. There
+a row that the program can't show is passed over, and counted, and `planted.txt` is left to the crate, since its rows are wrong. The
+last line counts the answers; a row that asks nothing, as `publish`, has none.
 """
 import glob
 import os
@@ -78,7 +78,7 @@ def planted(program):
 
 def all_files():
     return sorted(it for kind in KINDS for folder in (f"{HERE}/rows/{kind}", f"{TOP}/crates/{kind}_rows/data")
-                  for it in glob.glob(f"{folder}/*.txt"))
+                  for it in glob.glob(f"{folder}/*.txt") if not it.endswith("/data/planted.txt"))
 
 
 def main(words):
