@@ -1,11 +1,15 @@
 """Rows of a desk: requests to `bureau replay` and to `bureau serve`, with their replies.
 
     CALLER METHOD PATH [NUMBER]    a request of a caller (CALLERS), with the lines before it as its body; a change has a number
-    numbered FIRST LAST REQUEST    the same request for each number, which stands for each # of it and of what is wanted
+    numbered FIRST LAST REQUEST    the same request for each number, which stands for each # of it, of its lines and of what is wanted
+    fails REQUEST                  the same as the request: that the store fails at first is shown by the crate of rows alone
+    callers                        the lines before it are the callers file of the case. Whom it has besides CALLERS is named by
+                                   `token:TOKEN`
 
 What is wanted is the status, and then the lines of the reply's body. Each case is run in each of these ways (WAYS): by `replay` with
 room for one frame and for 1,024, in one connection and in one for each request, and by `serve` over a store in a file, which is begun
-once, or anew before each request. Words that only a crate of rows knows are in ELSEWHERE.
+once, or anew before each request; and then for each client of the case by `replay`, where the publisher and that client alone ask.
+Words that only the crate of rows knows are in ELSEWHERE.
 """
 import os
 import socket
@@ -16,24 +20,32 @@ from row_files import Row, Unreadable
 
 CALLERS = {"PUBLISH": "publisher-token", "ALPHA": "alpha-token", "BETA": "beta-token", "GAMMA": "gamma-token"}
 CALLERS_FILE = "".join(f"{name},{token}\n" for name, token in {"NAME": "TOKEN", **CALLERS}.items()).encode()
-ELSEWHERE = {"built", "kept", "room", "fails", "answers"}
+ELSEWHERE = {"built", "kept", "room"}
 
 
 def request(row):
     """The bytes of a request."""
-    words = row.text.split()
-    if not 3 <= len(words) <= 4 or words[0] not in CALLERS:
+    words = row.text.removeprefix("fails ").split()
+    token = CALLERS.get(words[0], words[0].removeprefix("token:"))
+    if not 3 <= len(words) <= 4 or token == words[0]:
         raise Unreadable(f"{row.place}: CALLER METHOD PATH [NUMBER] is wanted, with one of the callers {', '.join(CALLERS)}")
     body = "".join(f"{line}\n" for line in row.given).encode()
     number = [f"bureau-number: {words[3]}"] if words[3:] else []
-    head = [f"{words[1]} {words[2]} HTTP/1.1", f"bureau-token: {CALLERS[words[0]]}", *number, f"content-length: {len(body)}", "", ""]
+    head = [f"{words[1]} {words[2]} HTTP/1.1", f"bureau-token: {token}", *number, f"content-length: {len(body)}", "", ""]
     return "\r\n".join(head).encode() + body
+
+
+def caller_of(row):
+    return row.text.removeprefix("fails ").split()[0]
 
 
 def of_number(row, number):
     """A row whose # are a number."""
-    made = Row(row.place, row.rest.split(" ", 2)[2].replace("#", str(number)), row.given)
-    made.wanted = [line.replace("#", str(number)) for line in row.wanted]
+    def of(line):
+        return line.replace("#", str(number))
+
+    made = Row(row.place, of(row.rest.split(" ", 2)[2]), [of(line) for line in row.given])
+    made.wanted = [of(line) for line in row.wanted]
     return made
 
 
@@ -127,12 +139,12 @@ def served(program, room, requests):
 
 
 def served_anew(program, room, requests):
-    """A way: over a store in a file, by a run of `serve` for each request."""
+    """A way: over a store in a file, by a run of `serve` for each request; for every fourth one or so where they are very many."""
     new_store(program, room)
-    told = []
-    for sent in requests:
+    told, at_once = [], 1 + len(requests) // 40
+    for at in range(0, len(requests), at_once):
         with Served(program, room) as desk:
-            told.append(desk.reply(sent))
+            told += [desk.reply(sent) for sent in requests[at:at + at_once]]
     return told
 
 
@@ -146,16 +158,30 @@ WAYS = {
 }
 
 
+def callers_of(case):
+    """The callers file of a case."""
+    given = [row.given for row in case.rows if row.word == "callers"]
+    return "".join(f"{line}\n" for line in given[0]).encode() if given else CALLERS_FILE
+
+
+def ways_of(rows):
+    """Each way by name, with the rows that are asked in it."""
+    for name, way in WAYS.items():
+        yield name, way, rows
+    for client in sorted({caller_of(row) for row in rows} & set(CALLERS) - {"PUBLISH"}):
+        yield f"{client} and the publisher alone", replayed(2, True), [row for row in rows if caller_of(row) in (client, "PUBLISH")]
+
+
 def answers(program, case):
     """Of each row of a case what the desk replies, in each way."""
     for row in case.rows:
         if row.word in ELSEWHERE:
             yield row, None, ""
-    rows = [one for row in case.rows if row.word not in ELSEWHERE for one in each_row(row)]
-    requests = [request(row) for row in rows]
+    asked = [one for row in case.rows if row.word not in {*ELSEWHERE, "callers"} for one in each_row(row)]
+    sent = {row: request(row) for row in asked}
     with tempfile.TemporaryDirectory() as room:
-        write(room, "callers", CALLERS_FILE)
-        for name, way in WAYS.items():
-            told = list(way(program, room, requests))
+        write(room, "callers", callers_of(case))
+        for name, way, rows in ways_of(asked):
+            told = list(way(program, room, [sent[row] for row in rows]))
             for at, row in enumerate(rows):
                 yield row, told[at] if at < len(told) else ["no reply"], name

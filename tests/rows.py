@@ -5,9 +5,9 @@
 
 Without FILE it runs all below `tests/rows` and in the data of the crates of rows, and then tries that wrong rows are seen: those in
 `tests/rows/planted`. `tests/row_files.py` says how a file is written. The kind of its rows is the name of its folder: `content`
-(`tests/row_content.py`), `desk` (`tests/row_desk.py`) or `runs` (`tests/row_runs.py`), with `_rows` after it for a crate's data. There
-a row that the program can't show is passed over, and counted, and `planted.txt` is left to the crate, since its rows are wrong. The
-last line counts the answers; a row that asks nothing, as `publish`, has none.
+(`tests/row_content.py`), `desk` (`tests/row_desk.py`), `runs` (`tests/row_runs.py`) or `store` (`tests/row_store.py`), with `_rows`
+after it for a crate's data. There a row that the program can't show is passed over, and counted, and `planted.txt` is left to the crate,
+since its rows are wrong. The last line counts the answers; a row that asks nothing, as `publish`, has none.
 """
 import glob
 import os
@@ -16,11 +16,12 @@ import sys
 import row_content
 import row_desk
 import row_runs
+import row_store
 from row_files import Unreadable, read
 
 HERE = os.path.dirname(os.path.abspath(__file__))
 TOP = os.path.dirname(HERE)
-KINDS = {"content": row_content, "desk": row_desk, "runs": row_runs}
+KINDS = {"content": row_content, "desk": row_desk, "runs": row_runs, "store": row_store}
 
 
 def kind_of(name):
