@@ -25,7 +25,7 @@ ELSEWHERE = {"built", "kept", "room"}
 
 def request(row):
     """The bytes of a request."""
-    words = row.text.removeprefix("fails ").split()
+    words = asked_in(row)
     token = CALLERS.get(words[0], words[0].removeprefix("token:"))
     if not 3 <= len(words) <= 4 or token == words[0]:
         raise Unreadable(f"{row.place}: CALLER METHOD PATH [NUMBER] is wanted, with one of the callers {', '.join(CALLERS)}")
@@ -35,8 +35,13 @@ def request(row):
     return "\r\n".join(head).encode() + body
 
 
+def asked_in(row):
+    """The words of a request."""
+    return f"{row.word} {row.rest}".removeprefix("fails ").split(" ")
+
+
 def caller_of(row):
-    return row.text.removeprefix("fails ").split()[0]
+    return asked_in(row)[0]
 
 
 def of_number(row, number):
