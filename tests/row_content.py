@@ -11,7 +11,7 @@
     errors                     the report of exception SYSMODs
     missing                    the report of missing fixes
 
-Words that only a crate of rows knows are in ELSEWHERE.
+Words that only the crate `content_rows` knows are in ELSEWHERE.
 """
 import json
 import os
@@ -20,7 +20,8 @@ import tempfile
 
 from row_files import Unreadable
 
-ELSEWHERE = set()
+ELSEWHERE = {"room", "answers", "changes", "touched", "catalogued", "record", "givers", "frame", "nodes", "in-frame", "statuses", "together",
+             "candidates", "unkept", "kept", "kept-nodes", "built", "same", "reads", "fails"}
 
 
 class Content:

@@ -3,16 +3,18 @@
 
     tests/rows.py PROGRAM [FILE..]
 
-Without FILE it runs all below `tests/rows` and in the data of the crates of rows, and then tries that wrong rows are seen: those in
-`tests/rows/planted`. `tests/row_files.py` says how a file is written. The kind of its rows is the name of its folder: `content`
-(`tests/row_content.py`), `desk` (`tests/row_desk.py`), `runs` (`tests/row_runs.py`) or `store` (`tests/row_store.py`), with `_rows`
-after it for a crate's data. There a row that the program can't show is passed over, and counted, and `planted.txt` is left to the crate,
-since its rows are wrong. The last line counts the answers; a row that asks nothing, as `publish`, has none.
+Without FILE it runs all below `tests/rows` and in the data of the crates of rows, those that `tests/drawn_content.py` draws, and then
+tries that wrong rows are seen: those in `tests/rows/planted`. `tests/row_files.py` says how a file is written. The kind of its rows is
+the name of its folder: `content` (`tests/row_content.py`), `desk` (`tests/row_desk.py`), `runs` (`tests/row_runs.py`) or `store`
+(`tests/row_store.py`), with `_rows` after it for a crate's data. There a row that the program can't show is passed over, and counted,
+and `planted.txt` is left to the crate, since its rows are wrong. The last line counts the answers; a row that asks nothing, as
+`publish`, has none.
 """
 import glob
 import os
 import sys
 
+import drawn_content
 import row_content
 import row_desk
 import row_runs
@@ -63,6 +65,14 @@ def run(program, name):
     return tally
 
 
+def drawn(program):
+    """Runs the rows that are drawn."""
+    tally = Tally()
+    for row, told, way in drawn_content.answers(program):
+        tally.compare(row, told, way)
+    return tally
+
+
 def planted(program):
     """Tries that each file of wrong rows has as many wrong answers as its name says: `NAME.2.txt` has two."""
     tally = Tally()
@@ -89,7 +99,7 @@ def main(words):
     program = os.path.realpath(words[0])
     tallies = [run(program, name) for name in words[1:] or all_files()]
     if not words[1:]:
-        tallies.append(planted(program))
+        tallies += [drawn(program), planted(program)]
     for line in (line for tally in tallies for line in tally.said):
         print(line)
     print(f"rows: {sum(tally.passed_over for tally in tallies)} rows of crates are passed over, since the program can't show them")

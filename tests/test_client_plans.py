@@ -20,7 +20,7 @@ SHELL = sys.argv[1] if len(sys.argv) > 1 else None
 NORTH = "north-token"
 LEVEL = "PUBLISHED SYSMODS 9 HOLDS 7\n"
 
-# The worked plans of crates/plan_tests: a received resolver that needs two others, a resolver that is held, and a fix.
+# The worked plans of tests/rows/desk/plans.txt: a received resolver that needs two others, a resolver that is held, and a fix.
 TEXT = """\
 EXCEPTION SYSMOD PLAN FOR ZONE TGT1
 STEP     SYSMOD   RECEIVED FMID

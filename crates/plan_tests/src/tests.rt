@@ -1,3 +1,0 @@
-//! Tests of plans for a zone and of their texts.
-
-mod worked;
