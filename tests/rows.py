@@ -3,18 +3,19 @@
 
     tests/rows.py PROGRAM [FILE..]
 
-Without FILE it runs all below `tests/rows` and in the data of the crates of rows, those that `tests/drawn_content.py` draws, and then
-tries that wrong rows are seen: those in `tests/rows/planted`. `tests/row_files.py` says how a file is written. The kind of its rows is
-the name of its folder: `content` (`tests/row_content.py`), `desk` (`tests/row_desk.py`), `runs` (`tests/row_runs.py`) or `store`
-(`tests/row_store.py`), with `_rows` after it for a crate's data. There a row that the program can't show is passed over, and counted,
-and `planted.txt` is left to the crate, since its rows are wrong. The last line counts the answers; a row that asks nothing, as
-`publish`, has none.
+Without FILE it runs all below `tests/rows` and in the data of the crates of rows, those that `tests/drawn_content.py` and
+`tests/drawn_requests.py` draw, and then tries that wrong rows are seen: those in `tests/rows/planted`. `tests/row_files.py` says how a
+file is written. The kind of its rows is the name of its folder: `content` (`tests/row_content.py`), `desk` (`tests/row_desk.py`), `runs`
+(`tests/row_runs.py`) or `store` (`tests/row_store.py`), with `_rows` after it for a crate's data. There a row that the program can't show
+is passed over, and counted, and `planted.txt` is left to the crate, since its rows are wrong. The last line counts the answers; a row
+that asks nothing, as `publish`, has none.
 """
 import glob
 import os
 import sys
 
 import drawn_content
+import drawn_requests
 import row_content
 import row_desk
 import row_runs
@@ -68,8 +69,9 @@ def run(program, name):
 def drawn(program):
     """Runs the rows that are drawn."""
     tally = Tally()
-    for row, told, way in drawn_content.answers(program):
-        tally.compare(row, told, way)
+    for made in (drawn_content, drawn_requests):
+        for row, told, way in made.answers(program):
+            tally.compare(row, told, way)
     return tally
 
 
