@@ -8,6 +8,7 @@ import socket
 import subprocess
 import sys
 import tempfile
+import threading
 import urllib.request
 
 HERE = os.path.dirname(os.path.abspath(__file__))
@@ -127,31 +128,42 @@ def without_time(job):
     return re.sub(r"ASKED( \*/\n /\*)? [0-9-]{10}( \*/\n /\*)? [0-9:]{8}", "ASKED", job)
 
 
-def curl_that_loses_replies(place):
-    """A `curl` in front of the real one: while FOLDER/lost is there, it loses the replies to changes, which the
-    desk has made. Questions for the last number pass."""
-    write(
-        place + "/curl",
-        """#!/bin/sh
-config=$(mktemp) && cat >$config
-%s -q --config $config
-status=$?
-[ -e %s/lost ] && grep -q bureau-number $config && ! grep -q 9223372036854775807 $config && status=56
-rm -f $config
-exit $status
-"""
-        % (shutil.which("curl"), place),
-    )
-    os.chmod(place + "/curl", 0o755)
-    return place + ":" + os.environ["PATH"]
+class LosesReplies:
+    """A way to a desk: while FOLDER/lost is there, it loses the replies to changes, which the desk has made. Questions for the last
+    number pass."""
+
+    def __init__(self, desk, place):
+        self.desk, self.place = desk, place
+        self.listener = socket.create_server(("127.0.0.1", 0), backlog=64)
+        self.url = "http://127.0.0.1:%d" % self.listener.getsockname()[1]
+        threading.Thread(target=self.serve, daemon=True).start()
+
+    def serve(self):
+        while True:
+            threading.Thread(target=self.pass_on, args=(self.listener.accept()[0],), daemon=True).start()
+
+    def pass_on(self, client):
+        with client, socket.create_connection(("127.0.0.1", self.desk.port)) as desk:
+            request = b""
+            while b"\r\n\r\n" not in request:
+                request += client.recv(65536)
+            head, _, body = request.partition(b"\r\n\r\n")
+            length = int((re.search(rb"content-length: (\d+)", head, re.I) or (0, 0))[1])
+            while len(body) < length:
+                body += client.recv(65536)
+            desk.sendall(head + b"\r\n\r\n" + body)
+            reply = b"".join(iter(lambda: desk.recv(65536), b""))
+            number = re.search(rb"bureau-number: (\d+)", head, re.I)
+            if not (number and int(number[1]) < 9223372036854775807 and os.path.exists(self.place + "/lost")):
+                client.sendall(reply)
 
 
 class Client:
     """bureau-client with a folder of its own, for one caller."""
 
-    def __init__(self, url, token, shell=None, **settings):
+    def __init__(self, url, token, python=None, **settings):
         self.home = folder()
-        self.shell = shell.split() if shell else []
+        self.python = python.split() if python else []
         self.environment = {
             "PATH": os.environ["PATH"],
             "HOME": self.home,
@@ -167,7 +179,7 @@ class Client:
     def run(self, *words, **settings):
         """Its status, standard output and standard error."""
         done = subprocess.run(
-            [*self.shell, CLIENT, *words],
+            [*self.python, CLIENT, *words],
             env={**self.environment, **settings},
             capture_output=True,
             text=True,

@@ -16,23 +16,24 @@ from service import (
     TOP,
     Client,
     Desk,
+    LosesReplies,
     check,
-    curl_that_loses_replies,
     exchange,
     finish,
     folder,
     same,
     write,
 )
+from stand_in import StandIn, until
 
-SHELL = sys.argv[1] if len(sys.argv) > 1 else None
+PYTHON = sys.argv[1] if len(sys.argv) > 1 else None
 NORTH, SOUTH, PUBLISHER = "north-token", "south-token", "publisher-token"
 CALLERS = os.path.join(SAMPLE, "callers.csv")
 SITE = os.path.join(TOP, "examples", "site")
 
 
 def client(desk, token, **settings):
-    return Client(desk.url, token, SHELL, **settings)
+    return Client(desk.url, token, PYTHON, **settings)
 
 
 def replies():
@@ -253,7 +254,7 @@ def refusals():
 
 def before_any_desk():
     """The command line and the settings, and what a FAULT means: no desk is there."""
-    north = Client("http://127.0.0.1:9", NORTH, SHELL)
+    north = Client("http://127.0.0.1:9", NORTH, PYTHON)
     status, out, _ = north.run("fault", "13")
     check("the meaning of a FAULT", status == 0 and "REASON" in out, out)
     same("of a store too", "version" in north.run("fault", "45")[1], True)
@@ -279,7 +280,7 @@ def before_any_desk():
 def pages():
     """The help, the page and the man page have the same commands and options."""
     read = lambda path: open(os.path.join(TOP, path)).read()
-    text = Client("http://127.0.0.1:9", NORTH, SHELL).run("help")[1]
+    text = Client("http://127.0.0.1:9", NORTH, PYTHON).run("help")[1]
     table = read("docs/CLIENT.md").split("## Commands")[1].split("Options may stand")[0]
     man = read("package/man/bureau-client.1").replace("\\-", "-")
     named = set(re.findall(r"^  bureau-client ([a-z-]+)", text, re.M)) | {"help"}
@@ -292,23 +293,29 @@ def pages():
     check("there are some", len(named) > 15 and len(options) > 5, (named, options))
 
 
+def command_lines():
+    """The command lines of all processes of this machine."""
+    for name in os.listdir("/proc"):
+        try:
+            with open("/proc/%s/cmdline" % name, "rb") as file:
+                yield file.read()
+        except OSError:
+            pass
+
+
 def hidden_token():
-    """No command line has the token: a `curl` in front of the real one looks at its words."""
-    desk, tools = Desk(CALLERS), folder()
-    write(
-        tools + "/curl",
-        '#!/bin/sh\nprintf "%%s\\n" "$@" >>%s/words\nexec %s "$@"\n' % (tools, shutil.which("curl")),
-    )
-    os.chmod(tools + "/curl", 0o755)
-    north = client(desk, NORTH)
-    north.environment["PATH"] = tools + ":" + north.environment["PATH"]
-    same("through the other curl", north.run("sync", SITE + "/north")[0], 0)
-    with open(tools + "/words") as words:
-        check(
-            "the token is on no command line",
-            "--config" in words.read() and NORTH not in open(tools + "/words").read(),
-        )
-    desk.end()
+    """No command line has the token, while the client waits for an answer."""
+    desk = StandIn()
+    desk.reply = b"ZONE     SYSMODS\nROWS 0\n"
+    desk.may_answer.clear()
+    north = Client("http://127.0.0.1:%d" % desk.port, "a-hidden-token", PYTHON)
+    run = subprocess.Popen([*north.python, CLIENT, "zones"], env=north.environment, stdout=subprocess.DEVNULL)
+    check("it has sent the token", until(lambda: desk.requests) and ("bureau-token", "a-hidden-token") in desk.requests[0][1], desk.requests)
+    lines = list(command_lines())
+    check("the run is one of them", any(CLIENT.encode() in line for line in lines), lines)
+    check("the token is on no command line", not any(b"a-hidden-token" in line for line in lines), lines)
+    desk.may_answer.set()
+    same("and it ends well", run.wait(), 0)
 
 
 def waiting():
@@ -383,7 +390,7 @@ def waiting():
 def lost_replies():
     """The desk makes a change, and each reply is lost: the change waits, keeps its number, and is made once."""
     desk, site = Desk(CALLERS), folder()
-    north = client(desk, NORTH, PATH=curl_that_loses_replies(site))
+    north = Client(LosesReplies(desk, site).url, NORTH, PYTHON)
     one, two = (
         write("%s/%d.csv" % (site, n), "SYSMOD,STATE\n" + "UJ1,APPLIED\nUJ2,APPLIED\n"[: 12 * n])
         for n in (1, 2)
@@ -412,7 +419,7 @@ def together():
     lists = [write("%s/%d" % (site, i), "SYSMOD,STATE\nUJ%d,APPLIED\n" % i) for i in range(8)]
     runs = [
         subprocess.Popen(
-            [*north.shell, CLIENT, "zone", "Z%d" % i, lists[i]],
+            [*north.python, CLIENT, "zone", "Z%d" % i, lists[i]],
             env=north.environment,
             stdout=subprocess.PIPE,
             stderr=subprocess.PIPE,
@@ -429,9 +436,9 @@ def together():
 
 def onlooker():
     """Whoever looks on is told at once that a desk gives no answer; a job at night is told once, at the end."""
-    north = Client("http://127.0.0.1:9", NORTH, SHELL)
+    north = Client("http://127.0.0.1:9", NORTH, PYTHON)
     terminal, side = os.openpty()
-    run = subprocess.run([*north.shell, CLIENT, "zones"], env=north.environment, stderr=side)
+    run = subprocess.run([*north.python, CLIENT, "zones"], env=north.environment, stderr=side)
     os.close(side)
     told = b""
     try:
@@ -465,7 +472,7 @@ def no_desk():
 
     server = http.server.HTTPServer(("127.0.0.1", 0), Page)
     threading.Thread(target=server.serve_forever, daemon=True).start()
-    north = Client("http://127.0.0.1:%d" % server.server_port, NORTH, SHELL)
+    north = Client("http://127.0.0.1:%d" % server.server_port, NORTH, PYTHON)
     for words in (("zones",), ("errsysmods", "A"), ("last",), ("drop-zone", "A")):
         status, out, _ = north.run(*words)
         same("no desk: %s" % (words,), (status, out), (3, ""))
@@ -475,4 +482,4 @@ def no_desk():
 PARTS = (sample, rows_without_resolver, refusals, before_any_desk, pages, hidden_token, waiting, lost_replies, together, onlooker, no_desk)
 for part in PARTS:
     part()
-finish("client" + (", " + SHELL if SHELL else ""))
+finish("client" + (", " + PYTHON if PYTHON else ""))

@@ -1,9 +1,9 @@
 #!/usr/bin/env python3
 """`plan` and `job` of bureau-client for a whole report, against a stand-in that answers as a desk with plans does.
 
-    test_client_plans.py [SHELL]
+    test_client_plans.py [PYTHON]
 
-SHELL runs the client, such as `ksh93` or `bash --posix`.
+PYTHON runs the client, such as `python3.9`.
 """
 import json
 import os
@@ -16,7 +16,7 @@ import sys
 from service import TOP, Client, check, finish, folder, same, without_time, write
 from stand_in import StandIn
 
-SHELL = sys.argv[1] if len(sys.argv) > 1 else None
+PYTHON = sys.argv[1] if len(sys.argv) > 1 else None
 NORTH = "north-token"
 LEVEL = "PUBLISHED SYSMODS 9 HOLDS 7\n"
 
@@ -79,9 +79,10 @@ class Stand:
     def __init__(self, zone="TGT1", **answers):
         self.desk = StandIn()
         zones = "ZONE     SYSMODS\n%-9s4\nROWS 1\n" % zone
-        self.answers = {"/published": LEVEL, "/zones": zones, **answers}
+        as_json = '{"zones":[{"sysmods":4,"zone":"%s"}]}' % zone
+        self.answers = {"/published": LEVEL, "/zones": zones, "/zones.json": as_json, **answers}
         self.desk.reply = lambda first: self.answers.get(first.split()[1], "").encode() or (404, b"NOT FOUND\n")
-        self.north = Client("http://127.0.0.1:%d" % self.desk.port, NORTH, SHELL)
+        self.north = Client("http://127.0.0.1:%d" % self.desk.port, NORTH, PYTHON)
 
     def asked(self):
         return [first.split()[1] for first, _, _ in self.desk.requests]
@@ -92,7 +93,7 @@ def of(report, form, text, zone="TGT1"):
 
 
 def words_that_are_wrong():
-    north = Client("http://127.0.0.1:9", NORTH, SHELL)
+    north = Client("http://127.0.0.1:9", NORTH, PYTHON)
     for words in (
         ("plan",),
         ("plan", "tgt1"),
@@ -217,18 +218,6 @@ def jobs_that_are_none():
     same("no level", stand.north.run("job", "TGT1")[:2], (3, ""))
 
 
-def without_python():
-    """A plan is printed without Python. A job needs it, and says so."""
-    tools = folder()
-    words = "awk cat cksum cp curl cut dirname ls mkdir printf rm sed tail tr wc".split()
-    for name in {"sh", *words, *(SHELL or "sh").split()[:1]}:
-        os.symlink(shutil.which(name), tools + "/" + name)
-    north = of("errsysmods", "plan", TEXT).north
-    same("a plan", north.run("plan", "TGT1", PATH=tools), (0, TEXT, ""))
-    status, out, err = north.run("job", "TGT1", PATH=tools)
-    check("a job", (status, out) == (2, "") and "python3 is not there" in err, (status, out, err))
-
-
 def drawn(dice, count):
     """A plan of so many members in steps, with what is left over."""
     ids = dice.sample(["U%s%05d" % (letter, at) for letter in "A@#$" for at in range(count)], count)
@@ -284,6 +273,6 @@ def jobs_of_many():
             same("as the page makes it", page_job(plan, title), out)
 
 
-for part in (words_that_are_wrong, plans, no_plans, why_empty, jobs, jobs_that_are_none, without_python, jobs_of_many):
+for part in (words_that_are_wrong, plans, no_plans, why_empty, jobs, jobs_that_are_none, jobs_of_many):
     part()
-finish("client's plans" + (", " + SHELL if SHELL else ""))
+finish("client's plans" + (", " + PYTHON if PYTHON else ""))

@@ -1,9 +1,9 @@
 #!/usr/bin/env python3
 """What bureau-client makes of reports, against a desk: alerts, why a report is empty, the overview, news, and jobs.
 
-    test_client_reports.py [SYSMODS [SHELL]]
+    test_client_reports.py [SYSMODS [PYTHON]]
 
-SYSMODS is how many are drawn for the large zones. SHELL runs the client, such as `ksh93` or `bash --posix`.
+SYSMODS is how many are drawn for the large zones. PYTHON runs the client, such as `python3.9`.
 """
 import collections
 import csv
@@ -19,7 +19,7 @@ import sys
 from service import CLIENT, PROGRAM, SAMPLE, TOP, Client, Desk, check, finish, folder, same, without_time, write
 from stand_in import StandIn
 
-SHELL = sys.argv[2] if len(sys.argv) > 2 else None
+PYTHON = sys.argv[2] if len(sys.argv) > 2 else None
 NORTH, PUBLISHER = "north-token", "publisher-token"
 CALLERS = os.path.join(SAMPLE, "callers.csv")
 SITE = os.path.join(TOP, "examples", "site")
@@ -29,7 +29,7 @@ WITHOUT = "bureau-client: no fix categories were sent from here, so that FIXES m
 
 
 def client(url, token):
-    return Client(url, token, SHELL)
+    return Client(url, token, PYTHON)
 
 
 class Bench:
@@ -341,6 +341,8 @@ def jobs_that_are_none():
     reports = {
         "errsysmods": "EXCEPTION SYSMOD REPORT FOR ZONE A\nFMID     SYSMOD   REASON   RESOLVER STATUS RECEIVED CLASS\nROWS 0\n",
         "missingfix": "MISSING FIX REPORT FOR ZONE A\nCATEGORY\nROWS 0\n",
+        "errsysmods.json": '{"report":"errsysmods","rows":[],"sysmods":[],"zone":"A"}',
+        "missingfix.json": '{"holds":[],"report":"missingfix","rows":[],"sysmods":[],"zone":"A"}',
         "published": "PUBLISHED SYSMODS 1 HOLDS 1\n",
     }
     member = {"id": "UJ1", "system": [], "user": []}
@@ -370,6 +372,8 @@ def jobs_that_are_none():
         same("which is none prints nothing", (bool(out), "no answer of a desk" in err), (got < 3, got == 3))
     desk.reply = lambda first: reports.get(first.split()[1].rsplit("/")[-1], json.dumps(good)).encode()
     reports["errsysmods"] = reports["errsysmods"].replace("ROWS 0", "-        UJ2      AJ2 */   UJ1      GOOD   NO       PE\nROWS 1")
+    row = {"class": "PE", "date": None, "fmid": None, "reason": "AJ2 */", "received": False, "resolver": "UJ1", "status": "GOOD", "sysmod": "UJ2"}
+    reports["errsysmods.json"] = json.dumps({"report": "errsysmods", "rows": [row], "sysmods": [], "zone": "A"})
     same("a report with a reason that is none", north.run("job", "A", "UJ1")[:2], (3, ""))
 
 
@@ -466,23 +470,22 @@ def symptoms():
 
 
 def alone():
-    """The client alone sends and asks. What follows from the reports needs Python, and the file beside it, also by a link."""
+    """One file is the whole client. A link to the client is the client too."""
     bench, place = sample(), folder()
-    shutil.copy(CLIENT, place + "/bureau-client")
-    run = lambda path, *words, **more: subprocess.run([path, *words], env={**bench.north.environment, **more}, capture_output=True, text=True)
-    same("by itself", run(place + "/bureau-client", "errsysmods", "MVSPROD", "--alert", "PE").returncode, 4)
-    for words in (("overview",), ("news", "MVSPROD"), ("job", "MVSPROD", "UJ92005")):
-        done = run(place + "/bureau-client", *words)
-        check("without the file: %s" % (words,), done.returncode == 2 and "reports.py is not in " + place in done.stderr, done)
+    made = subprocess.run([sys.executable, TOP + "/clients/make_client.py", "one-file", place], capture_output=True, text=True)
+    same("one file is made", (made.returncode, os.listdir(place)), (0, [os.path.basename(made.stdout.split()[-1])]))
+    one = made.stdout.split()[-1]
+    run = lambda path, *words: subprocess.run([path, *words], cwd=place, env=bench.north.environment, capture_output=True, text=True)
+    for words in (("errsysmods", "MVSPROD", "--alert", "PE"), ("overview",), ("missingfix", "--csv", "MVSPROD"), ("fault", "13"), ("help",)):
+        done = run(one, *words)
+        same("by itself: %s" % (words,), (done.returncode, done.stdout, done.stderr), bench.north.run(*words))
+    listing = TOP + "/examples/lists/tgt1.smplist.txt"
+    os.symlink(one, place + "/zone-csv")
+    for words in ((one, "zone-csv"), (place + "/zone-csv",)):
+        same("zone-csv too", run(*words, "zone", "TGT1", listing).stdout, open(TOP + "/examples/lists/tgt1.csv").read())
     os.symlink(CLIENT, place + "/link")
     os.symlink("link", place + "/another")
     same("by a link", run(place + "/another", "overview").returncode, 0)
-    tools = folder()
-    for name in ("sh", "awk", "cat", "cksum", "cp", "curl", "cut", "dirname", "ls", "mkdir", "rm", "sed", "tail", "tr", "wc"):
-        os.symlink(shutil.which(name), tools + "/" + name)
-    done = run(CLIENT, "overview", PATH=tools)
-    check("without Python", done.returncode == 2 and "python3 is not there" in done.stderr, done)
-    same("a report needs none", run(CLIENT, "errsysmods", "MVSPROD", PATH=tools).returncode, 0)
     bench.desk.end()
 
 
@@ -499,4 +502,4 @@ def many(count):
 for part in (words_that_are_wrong, alerts, why_empty, overviews, news, symptoms, jobs, jobs_that_are_none, alone):
     part()
 many(int(sys.argv[1]) if len(sys.argv) > 1 else 1000)
-finish("client's reports" + (", " + SHELL if SHELL else ""))
+finish("client's reports" + (", " + PYTHON if PYTHON else ""))

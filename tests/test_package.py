@@ -1,11 +1,14 @@
 #!/usr/bin/env python3
 """The package, unpacked in an empty folder, with nothing else of the repository in reach: the sample
 runs there."""
+import importlib.util
 import os
 import re
 import shutil
 import subprocess
+import sys
 import tarfile
+import zipfile
 
 from service import PROGRAM, SAMPLE, TOP, Client, Desk, check, finish, folder, same
 import service
@@ -178,6 +181,26 @@ def named_in_vain(root):
 if FILES:
     same("no page names what isn't there", named_in_vain(place), [])
 check("README says that no toolchain is needed", b"no toolchain" in read(place + "/README.md")[:1500])
+
+# the clients alone, as one file and as a wheel
+alone = folder()
+one, wheel = ([os.path.join(made, name) for name in os.listdir(made) if name.endswith(end)][0] for end in (".pyz", ".whl"))
+shutil.copy(one, alone + "/zone-csv")
+shutil.copy(place + "/examples/lists/tgt1.smplist.txt", alone)
+same("one file", hidden(alone, "./zone-csv zone TGT1 tgt1.smplist.txt 2>/dev/null"), (0, read(TOP + "/examples/lists/tgt1.csv")))
+has_pip = importlib.util.find_spec("pip") is not None
+install = ["pip", "install", "--quiet", "--no-index", "--no-deps", "--root-user-action=ignore", "--target", alone + "/at"]
+if has_pip:
+    same("the wheel is one for pip", subprocess.run([sys.executable, "-m", *install, wheel], capture_output=True).returncode, 0)
+else:
+    zipfile.ZipFile(wheel).extractall(alone + "/at")
+line = "PYTHONPATH=at at/bin/%s 2>/dev/null" if has_pip else "PYTHONPATH=at python3 -m bureau_client %s 2>/dev/null"
+same("with the client", hidden(alone, line % "bureau-client fault 13"), (0, b"the hold or release has no REASON with a value\n"))
+same("and zone-csv", hidden(alone, line % "zone-csv zone TGT1 tgt1.smplist.txt"), (0, read(TOP + "/examples/lists/tgt1.csv")))
+if has_pip:
+    words = ["pip", "wheel", "--quiet", "--no-index", "--no-deps", "--wheel-dir", alone + "/made", place + "/clients"]
+    same("pip makes it too", subprocess.run([sys.executable, "-m", *words], capture_output=True).returncode, 0)
+    same("the same", read(os.path.join(alone, "made", os.path.basename(wheel))), read(wheel))
 
 # the client of the package, against a desk of the program of the package
 service.PROGRAM, service.CLIENT = place + "/bureau", place + "/clients/bureau-client"

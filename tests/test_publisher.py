@@ -6,8 +6,8 @@ from service import (
     SAMPLE,
     Client,
     Desk,
+    LosesReplies,
     check,
-    curl_that_loses_replies,
     exchange,
     finish,
     folder,
@@ -81,7 +81,7 @@ def several_desks():
 def lost_reply():
     """A publication is accepted, and the reply is lost: it keeps its number, and is published once."""
     desk, site = Desk(CALLERS), folder()
-    publisher = Client(desk.url, PUBLISHER, PATH=curl_that_loses_replies(site))
+    publisher = Client(LosesReplies(desk, site).url, PUBLISHER)
     one, two = (write(site + "/%d" % i, "++HOLD(UJ%d) ERROR REASON(A).\n" % i) for i in range(2))
     write(site + "/lost", "")
     status, _, err = publisher.run("publish", one)

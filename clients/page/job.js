@@ -1,5 +1,5 @@
 // A plan as SMP/E control statements, as SMP/E writes them into SMPPUNCH. They stand in columns 1 to 71. Column 1 is
-// blank, since `/*` there would end the data of a DD * statement. clients/reports.py makes the same bytes of a chain.
+// blank, since `/*` there would end the data of a DD * statement. clients/bureau_client/jobs.py makes the same bytes.
 
 const COLUMNS = 71;
 

@@ -1,0 +1,162 @@
+"""The statements of HOLDDATA and SMPPTFIN, as the files come: each to its period, in columns 1 to 72."""
+import itertools
+import re
+
+from .run import say
+
+HEADERS = (b"FUNCTION", b"PTF", b"APAR", b"USERMOD")
+KEPT = HEADERS + (b"VER", b"IF", b"HOLD", b"RELEASE")
+VERB = re.compile(rb"\+\+[ \t]*([A-Za-z0-9@#$]*)")
+MARK = re.compile(rb"/\*|[().]|[A-Za-z0-9@#$]+")  # what may begin or end something in a statement
+LOST = re.compile(rb"\+\+[ \t]*(HOLD|RELEASE|PTF|APAR|USERMOD|FUNCTION|VER|IF)[ \t]*[( \t]", re.I)
+COMMENT = re.compile(rb"/\*.*?(\*/|$)")
+ID = re.compile(rb"[A-Z0-9@#$]+")
+LIST = re.compile(rb"([A-Za-z0-9@#$]*)[ \t,]*\(([^()]*)\)")
+FRONT = 64000  # bytes that tell what a file is: a whole number of 80-byte records
+
+
+class Statement:
+    """One statement: where it stands, and its lines, cut at column 72 and after its period."""
+
+    def __init__(self, place, verb, lines, is_open):
+        self.place, self.verb, self.lines, self.is_open = place, verb, lines, is_open
+        self.fault = self.header = None
+
+    def is_header(self):
+        return self.verb in HEADERS
+
+    def bytes(self):
+        return b"\n".join(self.lines) + b"\n"
+
+
+def opened(path):
+    return open(0, "rb", closefd=False) if path == "-" else open(path, "rb")
+
+
+def lines_of(path):
+    """The lines of a file, without their ends; a file without line ends has records of 80 bytes. It is read
+    from front to end, so that it may be a pipe."""
+    with opened(path) as source:
+        front = source.read(FRONT)
+        if b"++" not in front and front.count(b"\x4e\x4e") > 0:
+            say("%s seems to be EBCDIC: convert it with iconv -f IBM-1047 -t UTF-8" % path)
+        if front.startswith(b"\xef\xbb\xbf"):
+            say("%s begins with a UTF-8 mark, which is left out" % path)
+            front = front[3:] + source.read(3)
+        if b"\n" not in front and len(front) >= 160:
+            say("%s has no line ends: it is cut into records of 80 bytes" % path)
+            rest = iter(lambda: source.read(80), b"")
+            for record in itertools.chain((front[at : at + 80] for at in range(0, len(front), 80)), rest):
+                yield record.rstrip(b"\r\n")
+        else:
+            *whole, last = front.split(b"\n")
+            for line in itertools.chain(whole, [last + source.readline()], source):
+                yield line.rstrip(b"\n").removesuffix(b"\r")
+
+
+def end_of(lines):
+    """Where the statement's period is: the number of its line and the column after it, or None."""
+    depth, in_comment, word, in_text = 0, False, b"", False
+    for number, line in enumerate(lines):
+        at = VERB.match(line).end() if number == 0 else 0
+        while True:
+            if in_comment:
+                if (end := line.find(b"*/", at)) < 0:
+                    break
+                in_comment, at = False, end + 2
+            if not (found := MARK.search(line, at)):
+                break
+            mark, at = found[0], found.end()
+            if mark == b"/*":
+                in_comment = not in_text
+            elif mark == b"(":
+                depth += 1
+                in_text = in_text or depth == 1 and word == b"COMMENT"
+            elif mark == b")":
+                depth, word = depth - 1, b""
+                in_text = in_text and depth > 0
+                if depth < 0:
+                    return None
+            elif depth == 0 and mark == b".":
+                return number, at
+            elif depth == 0:
+                word = mark.upper()
+    return None
+
+
+def statement_of(path, first, verb, lines, lost):
+    """A statement with its lines to the period; where no period is found, all lines to the next statement. What
+    looks like a statement after the period goes to `lost`."""
+    end = end_of(lines)
+    if end is not None:
+        number, column = end
+        name_lost(path, first + number, lines[number][column:], lost)
+        for more, line in enumerate(lines[number + 1 :], first + number + 1):
+            name_lost(path, more, line, lost)
+        lines = lines[:number] + [lines[number][:column]]
+    return Statement((path, first), verb, [line.rstrip() for line in lines], end is None)
+
+
+def name_lost(path, number, text, lost):
+    """Names what looks like a statement, and is none, since it does not begin in column 1."""
+    if found := LOST.search(COMMENT.sub(b"", text)):
+        lost.append((path, number))
+        text = COMMENT.sub(b"", text)[found.start() :]
+        say("%s, line %d: left out, since its ++ is not in column 1: %s" % (path, number, shown(text)))
+
+
+def shown(line):
+    return line[:72].decode("ascii", "backslashreplace")
+
+
+def statements_of(path, lost):
+    """The statements of a file that a desk reads. `lost` gets what is no statement and looks like one, and the
+    file where it has no statement at all."""
+    first, verb, lines, found = 0, None, [], 0
+    for number, line in enumerate(lines_of(path), 1):
+        line = line[:72]
+        if line.startswith(b"++"):
+            found += 1
+            if verb in KEPT:
+                yield statement_of(path, first, verb, lines, lost)
+            first, verb, lines = number, VERB.match(line)[1].upper(), [line]
+        elif verb in KEPT:
+            lines.append(line)
+        else:
+            name_lost(path, number, line, lost)
+    if verb in KEPT:
+        yield statement_of(path, first, verb, lines, lost)
+    if not found:
+        say("%s has no statement" % path)
+        lost.append((path, 0))
+
+
+def operands_of(one):
+    """The operands of a statement without a fault: each name in capitals, with the text in its list. The list right
+    after the verb has no name."""
+    text = b" ".join(one.lines)
+    at, begin, depth, word, found = VERB.match(text).end(), 0, 0, b"", []
+    if b"/*" not in text and not re.search(rb"[()]", LIST.sub(b"", text)):  # no list has another in it
+        return [(name.upper(), list) for name, list in LIST.findall(text, at)]
+    while mark := MARK.search(text, at):
+        at = mark.end()
+        if mark[0] == b"/*" and not (depth and word == b"COMMENT"):
+            at = text.find(b"*/", at) + 2
+            if at == 1:
+                break
+        elif mark[0] == b"(":
+            depth += 1
+            begin = at if depth == 1 else begin
+        elif mark[0] == b")":
+            depth -= 1
+            if depth == 0:
+                found.append((word, text[begin : at - 1]))
+                word = b""
+        elif depth == 0:
+            word = mark[0].upper()
+    return found
+
+
+def ids_in(operands, *names):
+    texts = [text for name, text in operands if name in names]
+    return frozenset(each for text in texts for each in ID.findall(COMMENT.sub(b" ", text)))
