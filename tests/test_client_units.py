@@ -1,0 +1,211 @@
+#!/usr/bin/env python3
+"""The parts of the package bureau_client, each by itself, by unittest. No desk is needed.
+
+    test_client_units.py [-v] [NAME..]
+"""
+import os
+import socket
+import subprocess
+import sys
+import tempfile
+import threading
+import time
+import unittest
+
+TOP = os.path.dirname(os.path.dirname(os.path.abspath(__file__)))
+sys.path.insert(0, os.path.join(TOP, "clients"))
+sys.dont_write_bytecode = True
+
+from bureau_client import changes, desk, faults, jobs, lists, reports, run, statements, zone_csv
+
+
+class Checksums(unittest.TestCase):
+    def test_of_posix(self):
+        """The values of POSIX cksum, by which an earlier client named its folders."""
+        for data, wanted in ((b"", 4294967295), (b"123456789", 930766865), (b"http://127.0.0.1:8080", None)):
+            if wanted is None:
+                wanted = int(subprocess.run(["cksum"], input=data, capture_output=True).stdout.split()[0])
+            self.assertEqual(changes.checksum(data), wanted)
+
+
+class Lists(unittest.TestCase):
+    def test_rows(self):
+        """Each SYSMOD or pattern counts once, and neither the header nor an empty line does."""
+        for data, wanted in (
+            (b"", 0),
+            (b"SYSMOD\n", 0),
+            (b"\n\nSYSMOD\nUJ1\n\nUJ1\nUJ2", 2),
+            (b"\xef\xbb\xbfSYSMOD,STATE\r\n\r\n UJ1 ,APPLIED\r\n\"UJ1\",ACCEPTED\r\n", 1),
+        ):
+            self.assertEqual(lists.rows(data), wanted, data)
+
+
+class Faults(unittest.TestCase):
+    def test_table(self):
+        """Each number once, in order, with a meaning."""
+        numbers = [int(number) for number in faults.table()]
+        self.assertEqual(numbers, sorted(set(numbers)))
+        self.assertTrue(all(row["MEANING"] and None not in row.values() for row in faults.table().values()))
+
+    def test_meaning(self):
+        self.assertEqual(faults.meaning("33"), "the SYSMOD is no id: 1 to 7 characters of A-Z 0-9 @ # $, in upper case")
+        self.assertEqual(faults.meaning("13"), "the hold or release has no REASON with a value")
+        self.assertEqual(faults.brief(13), "no REASON with a value")
+        self.assertEqual((faults.meaning("99"), faults.brief(99)), ("docs/API.md has the faults", "see docs/API.md"))
+
+    def test_place(self):
+        """From 31 on the place is a record: the header and empty lines are none."""
+        data = b"SYSMOD,STATE\r\n\r\nUJ1,APPLIED\r\nUJ2,LOST\r\n"
+        self.assertEqual(faults.place_of(["FAULT", "34", "2"], data), 4)
+        self.assertEqual(faults.place_of(["FAULT", "13", "2"], data), 2)
+        for words in (["FAULT"], ["FAULT", "37"], ["FAULT", "x", "1"], ["FAULT", "34", "9"]):
+            self.assertIsNone(faults.place_of(words, data))
+        self.assertEqual((faults.shown(b"a\nb" + b"c" * 200, 2), faults.shown(b"a", 5)), ("b" + "c" * 99, ""))
+
+
+class Fields(unittest.TestCase):
+    def test_csv(self):
+        self.assertEqual(run.csv_line(["=A", "b,c", 'd"e', "", "-"]), "'=A,\"b,c\",\"d\"\"e\",,'-\n")
+
+
+class Replies(unittest.TestCase):
+    def read(self, *pieces):
+        """What is read of a reply that comes in these pieces, and then ends."""
+        here, there = socket.socketpair()
+        with here, there:
+            sender = threading.Thread(target=lambda: [there.sendall(piece) for piece in pieces] + [there.shutdown(socket.SHUT_WR)])
+            sender.start()
+            try:
+                return desk.read_reply(here, b"", time.monotonic() + 5)
+            finally:
+                sender.join()
+
+    def test_whole(self):
+        reply = b"HTTP/1.1 200 OK\r\nContent-Length: 5\r\n\r\nabc\r\n"
+        self.assertEqual(self.read(reply), (200, b"abc\r\n"))
+        self.assertEqual(self.read(*(reply[at : at + 1] for at in range(len(reply)))), (200, b"abc\r\n"))
+        self.assertEqual(self.read(b"HTTP/1.1 100 Continue\r\n\r\n" + reply), (200, b"abc\r\n"))
+
+    def test_cut(self):
+        """A reply that is cut anywhere is none: also inside its head, and inside the number of its length."""
+        reply = b"HTTP/1.1 200 OK\r\ncontent-length: 10\r\nx: y\r\n\r\n0123456789"
+        for length in range(len(reply)):
+            with self.assertRaises(OSError, msg=reply[:length]):
+                self.read(reply[:length])
+
+    def test_no_length(self):
+        for reply in (b"HTTP/1.1 200 OK\r\n\r\nabc", b"HTTP/1.1 200 OK\r\ntransfer-encoding: chunked\r\n\r\n0\r\n\r\n", b"SSH-2.0\r\n\r\n"):
+            with self.assertRaises(OSError):
+                self.read(reply)
+
+    def test_too_late(self):
+        here, there = socket.socketpair()
+        with here, there, self.assertRaises(OSError):
+            desk.read_reply(here, b"", time.monotonic() + 0.1)
+
+    def test_refused_before_its_end(self):
+        """A front refuses a body before it has read it, and goes: its reply is read all the same."""
+        listener = socket.create_server(("127.0.0.1", 0))
+
+        def refuse():
+            line = listener.accept()[0]
+            line.recv(4096)
+            line.sendall(b"HTTP/1.1 413 Too Large\r\ncontent-length: 2\r\n\r\nno")
+            line.shutdown(socket.SHUT_WR)
+            line.recv(4096)
+            time.sleep(0.5)
+            line.close()
+
+        front = threading.Thread(target=refuse)
+        front.start()
+        with listener, socket.create_connection(listener.getsockname()) as line:
+            end = time.monotonic() + 20
+            received, _ = desk.send_body(line, b"x" * (1 << 26), end)
+            self.assertEqual(desk.read_reply(line, received, end), (413, b"no"))
+        front.join()
+
+
+class Locks(unittest.TestCase):
+    def test_owner(self):
+        """Only the lock of a process of this machine that has ended is one to be taken over."""
+        here, ended = os.uname().nodename, subprocess.Popen(["true"])
+        ended.wait()
+        for owner, is_dead in (
+            ([here, str(ended.pid)], True),
+            ([here, "9" * 30], True),
+            ([here, str(os.getpid())], False),
+            (["elsewhere." + here, str(ended.pid)], False),
+            ([here, "x"], False),
+            ([], False),
+        ):
+            self.assertEqual(changes.is_dead(owner), is_dead, owner)
+
+    def test_taken_and_given_back(self):
+        class Settings:
+            turns = 1
+
+        with tempfile.TemporaryDirectory() as Settings.home:
+            with changes.Lock(Settings):
+                self.assertEqual(os.listdir(Settings.home), ["lock"])
+                with self.assertRaises(run.Stop):
+                    changes.Lock(Settings).__enter__()
+            self.assertEqual(os.listdir(Settings.home), [])
+
+
+class Texts(unittest.TestCase):
+    HEAD = "MISSING FIX REPORT FOR ZONE A\nCATEGORY   FMID     REASON   RESOLVER STATUS RECEIVED\n"
+
+    def test_columns_by_heading(self):
+        text = self.HEAD + "IBM.X      HBB77E0  AJ1      - NONE - -      -\nROWS 1\n"
+        report = reports.texts_in(text.encode())["missingfix"]
+        self.assertEqual(list(report.by_key()), [("IBM.X", "HBB77E0", "AJ1", "- NONE -")])
+
+    def test_no_report(self):
+        for text in ("x\n", self.HEAD, self.HEAD + "ROWS 1\n", self.HEAD + "ROWS 0\nmore\n"):
+            with self.assertRaises(run.NoAnswer):
+                reports.texts_in(text.encode())
+
+
+class Jobs(unittest.TestCase):
+    def test_comment(self):
+        self.assertEqual(jobs.comment("a b"), [" /* A B */"])
+        for line in jobs.comment("word " * 40):
+            self.assertLessEqual(len(line), 71)
+
+    def test_list(self):
+        ids = ["UJ%05d" % at for at in range(17)]
+        self.assertEqual([line.count("UJ") for line in jobs.list_of(ids)], [8, 8, 1])
+        self.assertEqual([line.endswith(",") for line in jobs.list_of(ids)], [True, True, False])
+        self.assertLessEqual(max(map(len, jobs.list_of(ids))), 71)
+
+    def test_no_id(self):
+        for value in (["a"], ["UJ1 */"], [7], [None], "UJ1", None):
+            with self.assertRaises(run.NoAnswer):
+                jobs.ids_of(value)
+
+
+class Statements(unittest.TestCase):
+    def test_end(self):
+        for text, wanted in ((b"++PTF(A). more", (0, 9)), (b"++PTF(A) /* . */.", (0, 17)), (b"++HOLD(A) COMMENT(/* .).", (0, 24)), (b"++PTF(A", None), (b"++PTF(A)).", None)):
+            self.assertEqual(statements.end_of([text]), wanted, text)
+
+
+class ZoneLists(unittest.TestCase):
+    def test_states(self):
+        for words, wanted in (
+            (["DELBY", "SUPBY"], (None, "deleted by a function")),
+            (["SUPBY", "ERROR"], ("SUPERSEDED", "not installed")),
+            (["ERROR", "RESTORE"], (None, "in error")),
+            (["RESTORE", "APP"], (None, "whose RESTORE did not end")),
+            (["ACC", "APP"], ("APPLIED", "not installed")),
+            (["ACC"], ("ACCEPTED", "not installed")),
+            (["REC"], (None, "not installed")),
+        ):
+            self.assertEqual(zone_csv.state_of(words, "zone"), wanted)
+
+
+if __name__ == "__main__":
+    result = unittest.main(exit=False).result
+    failed = len(result.failures) + len(result.errors)
+    print("client's parts: %d passed, %d failed" % (result.testsRun - failed, failed))
+    sys.exit(1 if failed else 0)
