@@ -259,6 +259,9 @@ def before_any_desk():
     check("the meaning of a FAULT", status == 0 and "REASON" in out, out)
     same("of a store too", "version" in north.run("fault", "45")[1], True)
     same("no number", north.run("fault")[0], 2)
+    for number in ("999", "0", "013", "x"):
+        status, out, err = north.run("fault", number)
+        check("no FAULT " + number, (status, out) == (2, "") and "no FAULT " + number in err, (status, out, err))
     place = folder()
     good, bad = (write(place + name, "++HOLD(UJ1) ERROR REASON(A).\n" + more) for name, more in (("/good", ""), ("/bad", "++HOLD(UJ1) ERROR.\n")))
     status, out, err = north.run("holds", good, BUREAU_PROGRAM=PROGRAM)
@@ -456,6 +459,27 @@ def onlooker():
     same("told once", north.run("zones")[2].count("no answer from"), 1)
 
 
+def reader_that_goes():
+    """Whoever reads a long answer goes, as `head -1` does: a question ends there without a word, and a change says what was not told."""
+    desk, row = StandIn(), "-        UJ00001  AJ00001  UJ00002  GOOD   NO       PE\n"
+    report = "EXCEPTION SYSMOD REPORT FOR ZONE A\nFMID     SYSMOD   REASON   RESOLVER STATUS RECEIVED CLASS\n" + row * 40000 + "ROWS 40000\n"
+    desk.reply = lambda first: report.encode() if "errsysmods" in first else (409, b"GAP LAST 0\n") if "/zones/A " in first else b"ZONE B ROWS 0\n"
+    north = Client("http://127.0.0.1:%d" % desk.port, NORTH, PYTHON)
+
+    def closed(*words):
+        run = subprocess.Popen([*north.python, CLIENT, *words], env=north.environment, stdout=subprocess.PIPE, stderr=subprocess.PIPE)
+        first = b""
+        if words[0] != "zone":
+            first = run.stdout.readline()
+        run.stdout.close()
+        return run.wait(), first.decode(), run.stderr.read().decode()
+
+    same("a question", closed("errsysmods", "A"), (0, report.split("\n")[0] + "\n", ""))
+    same("one that ends with 4", closed("errsysmods", "--alert", "PE", "A")[::2], (4, ""))
+    status, _, err = closed("zone", "B", write(folder() + "/zone", "SYSMOD,STATE\n"))
+    check("a change", status == 3 and "can't be written" in err, (status, err))
+
+
 def no_desk():
     """What answers is a web page and no desk: it is never shown as a report."""
 
@@ -479,7 +503,7 @@ def no_desk():
     server.shutdown()
 
 
-PARTS = (sample, rows_without_resolver, refusals, before_any_desk, pages, hidden_token, waiting, lost_replies, together, onlooker, no_desk)
+PARTS = (sample, rows_without_resolver, refusals, before_any_desk, pages, hidden_token, waiting, lost_replies, together, onlooker, reader_that_goes, no_desk)
 for part in PARTS:
     part()
 finish("client" + (", " + PYTHON if PYTHON else ""))

@@ -85,6 +85,37 @@ def zone_lists():
     )
 
 
+def fields_and_words():
+    """A field is known by its beginning, and what is not known is named."""
+    listing = "T SYSMOD ENTRIES\n UJ1  TYPE = PTF\n      STATUS = REC APP%s\n      %s = UJ2\n UJ2  STATUS = APP\n      DATE/TIME APP = 25.1\n           ACC = 25.2\n"
+    for word, field, row, named in (
+        ("", "SUPBY  (IMM)", "UJ1,SUPERSEDED", None),
+        ("", "LASTSUP (IMM)", "UJ1,SUPERSEDED", None),
+        ("", "DELBY (001)", None, "deleted by a function: 1 (UJ1)"),
+        ("", "SUPING   VER(001)", "UJ1,APPLIED", None),
+        ("", "SUPPLY", "UJ1,APPLIED", "unknown fields: 1 (SUPPLY)"),
+        (" XYZ", "PRE", "UJ1,APPLIED", "unknown words of STATUS: 1 (XYZ)"),
+    ):
+        status, out, err = run(ZONE_CSV, "zone", "T", "-", given=(listing % (word, field)).encode())
+        rows = [row] * (row is not None) + ["UJ2,APPLIED"]
+        same("a field " + field + word, (status, out.splitlines()[1:]), (0, rows))
+        check("and what is named", named in err if named else "unknown" not in err, err)
+    for name in ("tgt1.smplist.txt", "global.smplist.txt"):
+        check("the samples have none that is unknown", "unknown" not in run(ZONE_CSV, "zone", "TGT1", name)[2])
+
+
+def values_of_a_fault():
+    """FAULT 14 names the operand and its values."""
+    for text, named in (
+        ("REASON(A) CLASS(HIPER PE)", "CLASS(HIPER PE)"),
+        ("REASON(a)", "REASON(a)"),
+        ("REASON(A)\n RESOLVER(UJ1)\n RESOLVER(UJ2)", "RESOLVER(UJ1) RESOLVER(UJ2)"),
+        ("REASON(A) FMID(HBB77E0,HDZ33E0)", "FMID(HBB77E0,HDZ33E0)"),
+    ):
+        status, _, err = run(PUBLICATION, "-", given=("++HOLD(UJ1) ERROR %s.\n" % text).encode())
+        check("FAULT 14 of " + text, status == 1 and "or there are two: %s: ++HOLD(UJ1)" % named in err, err)
+
+
 def listings_that_are_none():
     """What is no listing, or not yet, and what to do about it."""
     listing = kept("tgt1.smplist.txt").encode("cp037").replace(b"\x25", b"\x15")
@@ -289,6 +320,8 @@ def parts():
 
 
 zone_lists()
+fields_and_words()
+values_of_a_fault()
 listings_that_are_none()
 restores()
 publications()

@@ -14,6 +14,8 @@ def begin(command):
             signal.signal(getattr(signal, name), lambda *_: sys.exit(3))
     try:
         sys.exit(command(sys.argv[1:]))
+    except run.Closed:
+        sys.exit(run.worst)
     except run.Stop as end:
         if end.text:
             run.say(end.text)

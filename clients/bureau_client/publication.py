@@ -32,10 +32,11 @@ import re
 
 from . import faults, run
 from .run import Stop, csv_line, say
-from .statements import HEADERS, KEPT, ids_in, operands_of, shown, statements_of
+from .statements import HEADERS, KEPT, ids_in, operands_of, plain, shown, statements_of
 
 SMRTDATA = re.compile(rb"SMRTDATA\s*\(((?:[^()]|\([^()]*\))*)\)", re.I)
 PART = re.compile(rb"([A-Z0-9]+)\s*\(([^()]*)\)", re.I)  # of SMRTDATA
+ONE_ID = re.compile(rb"\s*[A-Z0-9@#$]{1,7}\s*")
 SYMPTOMS = ("SYSMOD", "REASON", "DATE", "CHGDT", "SYMP", "FIX")
 BLOCK = 2000  # statements that are judged in one run
 LIMIT = 67108864  # bytes that a desk takes at once
@@ -114,13 +115,24 @@ def kept(statements):
     return [one for one in statements if not one.fault and one.header not in bad]
 
 
+def which(one):
+    """The operands that FAULT 14 is about, with their values, as far as they are told apart."""
+    if one.fault != 14:
+        return []
+    operands = [(name, text) for name, text in operands_of(one) if name in (b"REASON", b"FMID", b"CLASS", b"RESOLVER")]
+    names = [name for name, _ in operands]
+    bad = [b"%s(%s)" % (name, text.strip()) for name, text in operands if names.count(name) > 1 or not ONE_ID.fullmatch(plain(text))]
+    return [shown(b" ".join(bad))] if bad else []
+
+
 def report(statements, left, lost):
     """Names each statement with a fault, and the SYSMODs that go with one."""
     is_left, count_of_faults = set(left), 0
     for one in statements:
         if one.fault:
             count_of_faults += 1
-            say("%s, line %d: FAULT %d: %s: %s" % (*one.place, one.fault, faults.brief(one.fault), shown(one.lines[0])))
+            told = ": ".join([faults.brief(one.fault), *which(one), shown(one.lines[0])])
+            say("%s, line %d: FAULT %d: %s" % (*one.place, one.fault, told))
         elif one not in is_left and one.is_header():
             say("%s, line %d: left out, since a statement of it has a fault: %s" % (*one.place, shown(one.lines[0])))
     verbs = [one.verb for one in left]
@@ -269,6 +281,7 @@ def main(words):
         judged(statements)
     left = kept(statements)
     count_of_faults = report(statements, left, sum(1 for _, line in lost if line))
+    run.worst = 1 if count_of_faults or lost else 0
     name_differences(left)
     if symptoms:
         write_symptoms(symptoms, left)

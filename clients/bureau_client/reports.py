@@ -115,23 +115,20 @@ def print_report(desk, kind, zone, as_csv=False, alerts=(), symptoms=None):
     if as_csv:
         rows = report_of(desk, kind, zone)
         classes = {row.get("CLASS") for row in rows}
-        if symptoms:
-            print_with_symptoms(rows, symptoms)
-        else:
-            run.out(csv_line(COLUMNS[kind]) + "".join(csv_line(row.values()) for row in rows))
+        answer = with_symptoms(rows, symptoms) if symptoms else csv_line(COLUMNS[kind]) + "".join(csv_line(row.values()) for row in rows)
     else:
-        data = report_text(desk, kind, zone)
-        report = texts_in(data)[kind] if alerts else None
-        rows = data.count(b"\n") > 3
+        answer = report_text(desk, kind, zone)
+        report = texts_in(answer)[kind] if alerts else None
+        rows = answer.count(b"\n") > 3
         classes = {report.column(line, "CLASS") for line in report.lines} if alerts else ()
-        run.out(data)
     if rows and ("ANY" in alerts or any(each in classes for each in alerts)):
         run.ends_with(4)
+    run.out(answer)
     if not rows:
         tell_why_empty(desk, kind, zone)
 
 
-def print_with_symptoms(rows, path):
+def with_symptoms(rows, path):
     """The exception SYSMODs with the symptoms of a file. A hold's are those of the last record for its SYSMOD and reason."""
     import csv
 
@@ -140,11 +137,12 @@ def print_with_symptoms(rows, path):
     records = list(csv.reader(lines))
     if not records or records[0] != heading:
         say("%s does not begin with %s: publication --symptoms makes such a file" % (path, ",".join(heading)))
-        return run.ends_with(1)
+        run.ends_with(1)
+        return ""
     plain = [[each.removeprefix("'") for each in record] for record in records[1:] if record]
     known = {tuple(record[:2]): record[2:] for record in plain}
     lines = [csv_line([*row.values(), *known.get((row["SYSMOD"], row["REASON"]), [""] * 4)]) for row in rows]
-    run.out(csv_line([*COLUMNS["errsysmods"], *heading[2:]]) + "".join(lines))
+    return csv_line([*COLUMNS["errsysmods"], *heading[2:]]) + "".join(lines)
 
 
 # --- A report without rows ----------------------------------------------------------------------------------------------

@@ -14,6 +14,13 @@ class Stop(Exception):
         self.status, self.text = status, text
 
 
+class Closed(Stop):
+    """Whoever reads what is printed has gone, as `head` does. A question ends there without a word."""
+
+    def __init__(self):
+        super().__init__(3, "the answer can't be written")
+
+
 class NoAnswer(Stop):
     """What came is no answer of a desk."""
 
@@ -51,6 +58,8 @@ def out(data):
     data = data.encode("utf-8", "surrogateescape") if isinstance(data, str) else data
     try:
         put(1, memoryview(converted(data, "UTF-8", code) if code else data))
+    except BrokenPipeError:
+        raise Closed() from None
     except OSError:
         raise Stop(3, "the answer can't be written") from None
 

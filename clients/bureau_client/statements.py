@@ -157,6 +157,11 @@ def operands_of(one):
     return found
 
 
+def plain(text):
+    """A text without its comments."""
+    return COMMENT.sub(b" ", text)
+
+
 def ids_in(operands, *names):
     texts = [text for name, text in operands if name in names]
-    return frozenset(each for text in texts for each in ID.findall(COMMENT.sub(b" ", text)))
+    return frozenset(each for text in texts for each in ID.findall(plain(text)))

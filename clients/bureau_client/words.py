@@ -255,6 +255,8 @@ def main(given):
     if words.command == "fault":
         from . import faults
 
+        if words.named[0] not in faults.table():
+            raise Stop(2, "there is no FAULT %s: docs/API.md has the faults" % words.named[0])
         run.out(faults.meaning(words.named[0]) + "\n")
         return 0
     if words.command == "holds":
@@ -270,7 +272,10 @@ def main(given):
     desks = [Desk(url, settings) for url in settings.desks(words.desks)]
     run.code = settings.code
     if words.command in CHANGES:
-        make(words, settings, desks)
+        try:
+            make(words, settings, desks)
+        except run.Closed as end:  # what is left to be sent is not sent, and that is told
+            raise Stop(end.status, end.text) from None
     else:
         ask(words, desks[0])
     return run.worst

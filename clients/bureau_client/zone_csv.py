@@ -41,6 +41,12 @@ SAID = {
     ("DELBY", None): "DELBY",
     **{("STATUS", word): word for word in ("REC", "APP", "ACC")},
 }
+# The fields of an entry as LIST writes them, and the words of STATUS: others are named, so that none is lost in silence.
+FIELDS = """TYPE STATUS FMID DATE/TIME REC INS APP ACC SREL DELETE DELBY SUPBY SUPING LASTSUP PRE REQ IFREQ CIFREQ NPRE VERSION FEATURE MOD MAC SRC
+  MACUPD SRCUPD SZAP XZAP MODDEL JCLIN REWORK RESDATE ERROR RESTORE LASTUPD ASSEM EMOVE RENLMOD DELLMOD RMAC RSRC RLMOD RMACUPD RSRCUPD
+  RSZAP RXZAP HOLDERROR HOLDSYSTEM HOLDUSER HOLDFIXCAT HOLDCLASS BYPASS REGEN ACCEPT APPLY SOURCEID DESCRIPTION UCLDATE HFS JAR PROGRAM
+  PROGRAMS RECDATE INSTALLDATE SMODTYPE RFMID FILE DATA ELEMENT XREF CATEGORY RESOLVER LEPARM SHELLSCR SYMLINK""".split()
+STATUS = ("REC", "APP", "ACC", "RES", "DEL", "SUP", "NOT", "IDR", "BYP", "CRQ", "REGEN", "JCLIN", "RESTORE")
 
 
 def words_of(text):
@@ -79,7 +85,7 @@ def lines_of(source, zone):
 
 def from_text(source, zone):
     """Each SYSMOD of a zone, with what a listing says of it."""
-    said, name, field = {}, None, ""
+    said, name, field, unknown = {}, None, "", {}
     for line in lines_of(source, zone):
         if line is None:
             name = None
@@ -98,10 +104,17 @@ def from_text(source, zone):
             continue
         if "=" in text:
             field, text = text.split("=", 1)
-            field = field.replace(" ", "")
-        for word in (said_of(field, word) for word in words_of(text)):
-            if word and word not in said[name]:
-                said[name].append(word)
+            field = re.split(r"[ (]", field.strip(" "), 1)[0]  # such as SUPBY of `SUPBY  (IMM)`
+            if field not in FIELDS:
+                unknown.setdefault("fields", []).append(field)
+        for word in words_of(text):
+            if field == "STATUS" and word not in STATUS and not word.startswith("ERR"):
+                unknown.setdefault("words of STATUS", []).append(word)
+            if (what := said_of(field, word)) and what not in said[name]:
+                said[name].append(what)
+    for kind, names in unknown.items():
+        few = list(dict.fromkeys(names))
+        tell("passed over, unknown %s: %d (%s%s)" % (kind, len(names), " ".join(few[:20]), " .." if len(few) > 20 else ""))
     return [(name, words) for name, words in said.items()]
 
 
