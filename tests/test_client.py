@@ -5,6 +5,7 @@ import http.server
 import os
 import re
 import shutil
+import signal
 import subprocess
 import sys
 import threading
@@ -480,6 +481,25 @@ def reader_that_goes():
     check("a change", status == 3 and "can't be written" in err, (status, err))
 
 
+def told_to_end():
+    """A run that is told to end does so with 3, and leaves no lock. One that nohup began goes on."""
+    desk = StandIn()
+    desk.reply = lambda first: (409, b"GAP LAST 0\n") if "/zones/A " in first else b"ZONE B ROWS 0\n"
+    north, path = Client("http://127.0.0.1:%d" % desk.port, NORTH, PYTHON), write(folder() + "/zone", "SYSMOD,STATE\n")
+    for name, before, status in (("SIGTERM", "SIG_DFL", 3), ("SIGHUP", "SIG_DFL", 3), ("SIGHUP", "SIG_IGN", 0)):
+        desk.requests.clear()
+        desk.may_answer.clear()
+        begin = lambda: signal.signal(getattr(signal, name), getattr(signal, before))
+        run = subprocess.Popen([*north.python, CLIENT, "zone", "B", path], env=north.environment, preexec_fn=begin, stdout=subprocess.DEVNULL)
+        check("it asks", until(lambda: desk.requests))
+        run.send_signal(getattr(signal, name))
+        if status:
+            run.wait()
+        desk.may_answer.set()
+        same("%s, %s" % (name, before), run.wait(), status)
+        same("no lock is left", os.path.exists(north.home + "/lock"), False)
+
+
 def no_desk():
     """What answers is a web page and no desk: it is never shown as a report."""
 
@@ -503,7 +523,7 @@ def no_desk():
     server.shutdown()
 
 
-PARTS = (sample, rows_without_resolver, refusals, before_any_desk, pages, hidden_token, waiting, lost_replies, together, onlooker, reader_that_goes, no_desk)
+PARTS = (sample, rows_without_resolver, refusals, before_any_desk, pages, hidden_token, waiting, lost_replies, together, onlooker, reader_that_goes, told_to_end, no_desk)
 for part in PARTS:
     part()
 finish("client" + (", " + PYTHON if PYTHON else ""))

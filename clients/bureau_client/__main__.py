@@ -5,15 +5,19 @@ import sys
 from . import run
 
 
-def begin(command):
-    """Runs a command with the words of the command line, and ends with its status."""
+def begin(module):
+    """Runs the command of a module with the words of the command line, and ends with its status."""
+    import importlib
     import signal
 
-    for name in ("SIGHUP", "SIGINT", "SIGTERM"):
-        if hasattr(signal, name):
-            signal.signal(getattr(signal, name), lambda *_: sys.exit(3))
+    if sys.version_info < (3, 9):
+        run.say("it needs Python 3.9 or later, and this is %d.%d" % sys.version_info[:2])
+        sys.exit(2)
+    for number in (getattr(signal, name, None) for name in ("SIGHUP", "SIGINT", "SIGTERM")):
+        if number and signal.getsignal(number) != signal.SIG_IGN:  # nohup has it ignored
+            signal.signal(number, lambda *_: sys.exit(3))
     try:
-        sys.exit(command(sys.argv[1:]))
+        sys.exit(importlib.import_module("." + module, __package__).main(sys.argv[1:]))
     except run.Closed:
         sys.exit(run.worst)
     except run.Stop as end:
@@ -26,23 +30,17 @@ def begin(command):
 
 
 def bureau_client():
-    from .words import main
-
-    begin(main)
+    begin("words")
 
 
 def zone_csv():
-    from .zone_csv import main
-
     run.name = "zone-csv"
-    begin(main)
+    begin("zone_csv")
 
 
 def publication():
-    from .publication import main
-
     run.name = "publication"
-    begin(main)
+    begin("publication")
 
 
 COMMANDS = {"bureau-client": bureau_client, "zone-csv": zone_csv, "publication": publication}

@@ -15,6 +15,7 @@ zone at the desk. (A received list may have no row.)
 """
 import os
 import re
+from collections import Counter
 
 from . import run
 from .run import Stop, say
@@ -27,6 +28,7 @@ zone-csv --accepted zone ZONE FILE    the same of a distribution zone, where FIL
 HEADING = re.compile(r"[01+-]? *[A-Z@#$][A-Z0-9@#$]* +[A-Z/ ]+ENTRIES *")
 PAGE = re.compile(r"1? *PAGE +[0-9]+ ")
 NAME = re.compile("[A-Z0-9@#$]+")
+ENTRY = re.compile(" ?([^ ]+)")
 ENTRIES = b"\xc5\xd5\xe3\xd9\xc9\xc5\xe2"  # in EBCDIC
 
 # What the words of a field say of a SYSMOD, where that isn't the word itself. None is any word.
@@ -41,6 +43,7 @@ SAID = {
     ("DELBY", None): "DELBY",
     **{("STATUS", word): word for word in ("REC", "APP", "ACC")},
 }
+SAYING = {field for field, _ in SAID}
 # The fields of an entry as LIST writes them, and the words of STATUS: others are named, so that none is lost in silence.
 FIELDS = """TYPE STATUS FMID DATE/TIME REC INS APP ACC SREL DELETE DELBY SUPBY SUPING LASTSUP PRE REQ IFREQ CIFREQ NPRE VERSION FEATURE MOD MAC SRC
   MACUPD SRCUPD SZAP XZAP MODDEL JCLIN REWORK RESDATE ERROR RESTORE LASTUPD ASSEM EMOVE RENLMOD DELLMOD RMAC RSRC RLMOD RMACUPD RSRCUPD
@@ -85,7 +88,7 @@ def lines_of(source, zone):
 
 def from_text(source, zone):
     """Each SYSMOD of a zone, with what a listing says of it."""
-    said, name, field, unknown = {}, None, "", {}
+    said, name, field, unknown = {}, None, "", {"fields": Counter(), "words of STATUS": Counter()}
     for line in lines_of(source, zone):
         if line is None:
             name = None
@@ -93,7 +96,7 @@ def from_text(source, zone):
         text = line
         # An entry begins with its name in the first columns; what is said of it stands further right. A name may have a character that
         # none has, such as one of another code page.
-        if found := re.match(" ?([^ ]+)", line):
+        if line[:2] != "  " and (found := ENTRY.match(line)):
             name, text, field = found[1], line[found.end() :], ""
             if not re.match(" +[A-Z]", text) or not NAME.fullmatch(name) and "=" not in text:
                 run.put(2, b"zone-csv: no entry begins with this line, and it is passed over: " + line.encode("latin-1") + b"\n")
@@ -104,17 +107,17 @@ def from_text(source, zone):
             continue
         if "=" in text:
             field, text = text.split("=", 1)
-            field = re.split(r"[ (]", field.strip(" "), 1)[0]  # such as SUPBY of `SUPBY  (IMM)`
+            field = field.strip(" ").partition(" ")[0].partition("(")[0]  # such as SUPBY of `SUPBY  (IMM)`
             if field not in FIELDS:
-                unknown.setdefault("fields", []).append(field)
-        for word in words_of(text):
+                unknown["fields"][field] += 1
+        for word in words_of(text) if field in SAYING else ():
             if field == "STATUS" and word not in STATUS and not word.startswith("ERR"):
-                unknown.setdefault("words of STATUS", []).append(word)
+                unknown["words of STATUS"][word] += 1
             if (what := said_of(field, word)) and what not in said[name]:
                 said[name].append(what)
-    for kind, names in unknown.items():
-        few = list(dict.fromkeys(names))
-        tell("passed over, unknown %s: %d (%s%s)" % (kind, len(names), " ".join(few[:20]), " .." if len(few) > 20 else ""))
+    for kind, count in unknown.items():
+        if count:
+            tell("passed over, unknown %s: %d (%s)" % (kind, sum(count.values()), some(list(count))))
     return [(name, words) for name, words in said.items()]
 
 
@@ -207,7 +210,7 @@ def as_list(said, zone, what):
     counts = [" %d %s" % (states.count(state), state) for state in TOLD if state in states]
     tell("%s:%s" % (zone, "".join(counts) or " no rows"))
     for why, names in sorted(left_out.items(), key=lambda item: TOLD_LEFT_OUT.index(item[0])):
-        tell("left out, %s: %d (%s%s)" % (why, len(names), " ".join(names[:20]), " .." if len(names) > 20 else ""))
+        tell("left out, %s: %d (%s)" % (why, len(names), some(names)))
     if not said:
         raise Stop(1, "FILE says nothing of SYSMODs of the zone %s" % zone)
     if len(listed) > 40000:
@@ -215,6 +218,11 @@ def as_list(said, zone, what):
     if not listed and what != "received":
         raise Stop(1, "nothing is installed in the zone %s, as FILE has it" % zone)
     return listed
+
+
+def some(names):
+    """The first of many names."""
+    return " ".join(names[:20]) + (" .." if len(names) > 20 else "")
 
 
 def tell(text):
