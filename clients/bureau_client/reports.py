@@ -119,7 +119,7 @@ def print_report(desk, kind, zone, as_csv=False, alerts=(), symptoms=None):
     else:
         answer = report_text(desk, kind, zone)
         report = texts_in(answer)[kind] if alerts else None
-        rows = answer.count(b"\n") > 3
+        rows = not answer.endswith((b"\nROWS 0\n", b"\nROWS 0"))
         classes = {report.column(line, "CLASS") for line in report.lines} if alerts else ()
     if rows and ("ANY" in alerts or any(each in classes for each in alerts)):
         run.ends_with(4)
