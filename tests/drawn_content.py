@@ -1,10 +1,13 @@
 """Rows that are drawn anew at each run, always the same ones: what is published, zones, and the verdicts there.
 
 What is wanted comes from a plain slow body, which tries every set of the eight SYSMODs: one that has all that its members need is a plan,
-and what stands in a plan is good. The rows are those of a desk (`tests/row_desk.py`), and the same of files (`tests/row_content.py`).
+and what stands in a plan is good. The rows are those of a desk (`tests/row_desk.py`), and the same of files (`tests/row_content.py`). `tests/rows.py` runs them.
+
+    tests/drawn_content.py PROGRAM RUNS [SEED]      draws other publications, and more of them: 12 of each run
 """
 import json
 import random
+import sys
 import tempfile
 
 import row_content
@@ -214,19 +217,14 @@ def publications_case(draw, _):
     return lines
 
 
-def cases(make, count):
-    """The lines of so many cases, which are drawn alike at each run."""
-    draw = random.Random(20260101)
-    return [make(draw, number) for number in range(count)]
-
-
-def read(make, count, name):
-    """These cases, as files of rows are read."""
-    reader = row_files.Reader()
-    for number, lines in enumerate(cases(make, count)):
-        for at, line in enumerate(["", *lines, ""], 0):
+def read(make, count, name, seed=20260101):
+    """So many cases, as files of rows are read. They are drawn alike at each run."""
+    draw = random.Random(seed)
+    for number in range(count):
+        reader = row_files.Reader()
+        for at, line in enumerate(make(draw, number), 1):
             reader.take(line, f"drawn {name} {number}, line {at}")
-    return reader.cases
+        yield from reader.cases
 
 
 def at_desk(program, case, frames):
@@ -244,6 +242,26 @@ def answers(program):
         yield from row_content.answers(program, case)
     for number, case in enumerate(read(desk_case, CONTENTS, "content of a desk")):
         yield from at_desk(program, case, 1 + number % 8)
-    for number, case in enumerate(read(publications_case, RUNS, "publications")):
+    yield from after_publications(program, RUNS, 20261124)
+
+
+def after_publications(program, runs, seed):
+    """The same after drawn publications."""
+    for number, case in enumerate(read(publications_case, runs, "publications", seed)):
         for frames in (1 + number % 8, 1024):
             yield from at_desk(program, case, frames)
+
+
+def main(words):
+    right = 0
+    for row, told, way in after_publications(words[0], int(words[1]), int(words[2]) if words[2:] else 1):
+        if told != row.wanted:
+            print(f"{row.place}: {row.text} ({way}):\n  told   {told}\n  wanted {row.wanted}")
+            return 1
+        right += 1
+    print(f"{right} answers are right")
+    return 0
+
+
+if __name__ == "__main__":
+    sys.exit(main(sys.argv[1:]))
