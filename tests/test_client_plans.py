@@ -268,9 +268,8 @@ def jobs_of_many():
         for words, holds in (("NOTHING RESOLVES ", plan["unresolved"]), ("ALL RESOLVERS ARE HELD OF ", plan["held"])):
             named = words + ", ".join("%(sysmod)s (%(reason)s)" % hold for hold in holds)
             check("what is left over is named", named in said if holds else words not in said, said[:300])
-        if shutil.which("node"):
-            title = " ".join(re.findall(r"^ /\* (.*) \*/$", out.split(" /* MADE BY")[0], re.M))
-            same("as the page makes it", page_job(plan, title), out)
+        title = " ".join(re.findall(r"^ /\* (.*) \*/$", out.split(" /* MADE BY")[0], re.M))
+        same("as the page makes it", page_job(plan, title), out)
 
 
 for part in (words_that_are_wrong, plans, no_plans, why_empty, jobs, jobs_that_are_none, jobs_of_many):

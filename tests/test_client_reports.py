@@ -378,7 +378,7 @@ def jobs_that_are_none():
 
 
 def jobs_of_many(bench):
-    """The job of a chain is that of the page's own code, where node is there to run it; each line is one of SMP/E."""
+    """The job of a chain is that of the page's own code; each line is one of SMP/E."""
     rows = [row for row in rows_of(bench.north, "errsysmods", "LARGE") if row["STATUS"] == "GOOD"]
     dice = random.Random(1)
     several = [row["RESOLVER"] for row in dice.sample(rows, min(len(rows), 40))]
@@ -390,7 +390,7 @@ def jobs_of_many(bench):
         members = sorted({member["id"] for chain in chains for member in chain["plan"]})
         selected = re.search(r"APPLY CHECK SELECT\((.*?)\)", out, re.S)[1]
         same("with all members", re.findall("[A-Z0-9]+", selected), members)
-        if shutil.which("node") and len(resolvers) == 1:
+        if len(resolvers) == 1:
             same("as the page makes it", out, page_job(bench, chains[0], out))
     check("some have holds to heed", any("BYPASS" in bench.north.run("job", "LARGE", row["RESOLVER"])[1] for row in rows[:40]))
 

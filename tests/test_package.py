@@ -249,10 +249,9 @@ if debs:
     commands = sorted(os.listdir(root + "/usr/bin"))
     same("these are the commands", commands, ["bureau", "bureau-client", "publication", "zone-csv"])
     same("each has its page", sorted(os.listdir(root + "/usr/share/man/man1")), sorted(name + ".1.gz" for name in commands))
-    if shutil.which("man"):
-        for name in commands:
-            page = subprocess.run(["man", "-l", root + "/usr/share/man/man1/%s.1.gz" % name], capture_output=True, text=True)
-            check("which reads", name in page.stdout and page.stderr == "", page.stderr)
+    for name in commands:
+        page = subprocess.run(["man", "-l", root + "/usr/share/man/man1/%s.1.gz" % name], capture_output=True, text=True)
+        check("which reads", name in page.stdout and page.stderr == "", page.stderr)
     control = subprocess.run(["dpkg-deb", "-f", os.path.join(made, debs[0]), "Depends"], capture_output=True, text=True).stdout
     check("what it needs", re.search(r"libc6 \(>= 2\.\d+\)", control) and "python3" in control and "adduser" in control, control)
     wanted = max(re.findall(rb"GLIBC_2\.(\d+)", read(PROGRAM)), key=int).decode()
@@ -261,17 +260,14 @@ if debs:
     set_up(os.path.join(made, debs[0]))
     unit = root + "/lib/systemd/system/bureau.service"
     same("the unit is installed", read(unit), read(TOP + "/examples/service/bureau.service"))
-    if shutil.which("systemd-analyze"):
-        line = ["systemd-analyze", "security", "--offline=yes", "--threshold=30", unit]
-        run = subprocess.run(line, capture_output=True, text=True)
-        check("systemd calls it exposed by less than 3", run.returncode == 0, run.stdout[-300:] + run.stderr)
-    if shutil.which("systemd-analyze") and shutil.which("strace"):
-        allowed = calls_in("@system-service") - calls_in("@privileged") - calls_in("@resources")
-        called = calls_of_a_desk(place + "/bureau")
-        check("the unit lets a desk do what it does", len(called) > 10 and called <= allowed, called - allowed)
-    if shutil.which("lintian"):
-        run = subprocess.run(["lintian", "--allow-root", "--fail-on", "error", os.path.join(made, debs[0])], capture_output=True, text=True)
-        check("lintian knows no error", run.returncode == 0, run.stdout + run.stderr)
+    line = ["systemd-analyze", "security", "--offline=yes", "--threshold=30", unit]
+    run = subprocess.run(line, capture_output=True, text=True)
+    check("systemd calls it exposed by less than 3", run.returncode == 0, run.stdout[-300:] + run.stderr)
+    allowed = calls_in("@system-service") - calls_in("@privileged") - calls_in("@resources")
+    called = calls_of_a_desk(place + "/bureau")
+    check("the unit lets a desk do what it does", len(called) > 10 and called <= allowed, called - allowed)
+    run = subprocess.run(["lintian", "--allow-root", "--fail-on", "error", os.path.join(made, debs[0])], capture_output=True, text=True)
+    check("lintian knows no error", run.returncode == 0, run.stdout + run.stderr)
     same(
         "publication finds the program",
         hidden(
