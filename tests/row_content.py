@@ -8,6 +8,7 @@
     verdict ID..               of each id, and of those on the lines before it, a line: GOOD and its plan, HELD and the need that
                                blocks it, or LACK
     chain ID..                 the same with chains, as JSON
+    members ID                 the same chain, with a line for each member
     errors                     the report of exception SYSMODs
     missing                    the report of missing fixes
 
@@ -71,6 +72,9 @@ class Content:
     def chain(self, row):
         return [line for sysmod in ids_of(row) for line in self.chain_of(sysmod)]
 
+    def members(self, row):
+        return "\n".join(self.chain(row)).replace('{"id":', '\n{"id":').split("\n")
+
     def verdict(self, row):
         return [verdict_of(sysmod, self.chain_of(sysmod)) for sysmod in ids_of(row)]
 
@@ -88,7 +92,7 @@ class Content:
         return getattr(self, row.word)(row)
 
 
-WORDS = {"publish", "zone", "received", "categories", "fault", "chain", "verdict", "errors", "missing"}
+WORDS = {"publish", "zone", "received", "categories", "fault", "chain", "members", "verdict", "errors", "missing"}
 
 
 def ids_of(row):
