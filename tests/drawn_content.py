@@ -232,8 +232,7 @@ def at_desk(program, case, frames):
     with tempfile.TemporaryDirectory() as room:
         row_desk.write(room, "callers", row_desk.CALLERS_FILE)
         told = list(row_desk.replayed(frames, True)(program, room, [row_desk.request(row) for row in case.rows]))
-    for at, row in enumerate(case.rows):
-        yield row, told[at] if at < len(told) else ["no reply"], f"room for {frames} frames"
+    yield from row_desk.paired(case.rows, told, f"room for {frames} frames")
 
 
 def answers(program):

@@ -39,7 +39,7 @@ CHANGES = ["PUT /zones/{zone} zone", "PUT /zones/{zone} zone", "PUT /zones/{zone
 QUESTIONS = ["/zones", "/zones.json", "/published", "/published.json", "/zones/{zone}/chains/{sysmod}", "/zones/{zone}/chains/{sysmod}",
              *(f"/zones/{{zone}}/{report}{end}" for report in ("errsysmods", "missingfix") for end in ("", ".json", "/plan", "/plan.json"))]
 # what some request is told: each status; a chain with what is required, one that it blocks, one without; a report in which that shows
-TOLD = ["200", "400", "404", "409", "422", '"UA10020","system":[],"user":[]},{"id":"UA10021"', '"blocked":"UA10021"',
+TOLD = ["\n200\n", "\n400\n", "\n404\n", "\n409\n", "\n422\n", '"UA10020","system":[],"user":[]},{"id":"UA10021"', '"blocked":"UA10021"',
         '{"plan":[{"id":"UA10020","system":[],"user":[]}],"status":"GOOD","sysmod":"UA10020","zone":"TGT2"}',
         "HBB7790  UA10001  AA20002  UA10005  HELD   NO       PE"]
 
@@ -81,8 +81,8 @@ def answers(program):
     """Of each row what the program says, in each way; and whether each of TOLD was drawn."""
     rows = case()
     yield from row_desk.answers(program, rows)
-    told = "\n".join(line for row in rows.rows for line in row.wanted)
+    told = "".join(f"\n{line}\n" for row in rows.rows for line in row.wanted)
     for text in TOLD:
-        row = Row("drawn requests", f"one is told {text}", [])
+        row = Row("drawn requests", f"one is told {text.strip()}", [])
         row.wanted = ["yes"]
         yield row, ["yes" if text in told else "no"], ""

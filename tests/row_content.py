@@ -19,7 +19,7 @@ import os
 import subprocess
 import tempfile
 
-from row_files import Unreadable
+from row_files import Unreadable, lines_of_run
 
 ELSEWHERE = {"room", "answers", "changes", "touched", "catalogued", "record", "givers", "frame", "nodes", "in-frame", "statuses", "together",
              "candidates", "unkept", "kept", "kept-nodes", "built", "same", "reads", "fails"}
@@ -44,8 +44,7 @@ class Content:
     def run(self, command, *words, files=None):
         """What the program prints, or tells."""
         words = [self.program, command, "--zone", "zone", "--name", "TGT1", *words, *(files or self.publications or ["nothing"])]
-        done = subprocess.run(words, cwd=self.room, capture_output=True, text=True)
-        return (done.stdout or done.stderr).splitlines()
+        return lines_of_run(subprocess.run(words, cwd=self.room, capture_output=True))
 
     def publish(self, row):
         self.publications.append(self.write(f"publication.{len(self.publications)}", row.given))
@@ -89,10 +88,13 @@ class Content:
             return None
         if row.word not in WORDS:
             raise Unreadable(f"{row.place}: an unknown word: {row.word}")
+        if row.word in ALONE and (row.rest or row.given):
+            raise Unreadable(f"{row.place}: {row.word} takes nothing")
         return getattr(self, row.word)(row)
 
 
 WORDS = {"publish", "zone", "received", "categories", "fault", "chain", "members", "verdict", "errors", "missing"}
+ALONE = {"errors", "missing"}
 
 
 def ids_of(row):

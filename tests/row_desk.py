@@ -16,7 +16,7 @@ import socket
 import subprocess
 import tempfile
 
-from row_files import Row, Unreadable
+from row_files import Row, Unreadable, each_number
 
 CALLERS = {"PUBLISH": "publisher-token", "ALPHA": "alpha-token", "BETA": "beta-token", "GAMMA": "gamma-token"}
 CALLERS_FILE = "".join(f"{name},{token}\n" for name, token in {"NAME": "TOKEN", **CALLERS}.items()).encode()
@@ -58,10 +58,10 @@ def each_row(row):
     """The rows for which one row stands."""
     if row.word != "numbered":
         return [row]
-    first, last, *rest = row.rest.split(" ", 2)
-    if not (first.isdigit() and last.isdigit() and rest):
+    words = row.rest.split(" ", 2)
+    if len(words) < 3:
         raise Unreadable(f"{row.place}: numbered FIRST LAST REQUEST is wanted")
-    return [of_number(row, number) for number in range(int(first), int(last) + 1)]
+    return [of_number(row, number) for number in each_number(*words[:2], row.place)]
 
 
 def replies(text):
@@ -75,9 +75,10 @@ def replies(text):
 
 
 def body_lines(head, body):
-    """The lines of a body. JSON is told to be so, and has no end of a line; all else has one."""
-    is_json = "content-type: application/json" in head
-    if body and is_json != body.startswith("{") or body and is_json == body.endswith("\n"):
+    """The lines of a body. JSON is told to be so, and has no end of a line; all else is text and has one."""
+    is_json = body.startswith("{")
+    kind = f"content-type: {'application/json' if is_json else 'text/plain'}"
+    if body and (kind not in head or is_json == body.endswith("\n")):
         return [*head, body]
     return body.removesuffix("\n").split("\n")
 
@@ -94,7 +95,7 @@ def replayed(frames, is_one):
         sent = [b"".join(requests)] if is_one else requests
         names = [write(room, str(at), data) for at, data in enumerate(sent)]
         done = subprocess.run([program, "replay", "--cache", str(frames), "callers", *names], cwd=room, capture_output=True)
-        return replies(done.stdout)
+        return [*replies(done.stdout), *([[f"status {done.returncode}", done.stderr.decode()]] if done.returncode or done.stderr else [])]
     return way
 
 
@@ -119,7 +120,12 @@ class Served:
         with socket.create_connection(("127.0.0.1", self.port), timeout=60) as connection:
             connection.sendall(sent)
             connection.shutdown(socket.SHUT_WR)
-            return next(replies(b"".join(iter(lambda: connection.recv(65536), b""))), ["no reply"])
+            return only(list(replies(b"".join(iter(lambda: connection.recv(65536), b"")))))
+
+
+def only(told):
+    """The one reply of a connection of one request."""
+    return told[0] if len(told) == 1 else [f"{len(told)} replies"]
 
 
 def free_port():
@@ -164,9 +170,11 @@ WAYS = {
 
 
 def callers_of(case):
-    """The callers file of a case."""
-    given = [row.given for row in case.rows if row.word == "callers"]
-    return "".join(f"{line}\n" for line in given[0]).encode() if given else CALLERS_FILE
+    """The callers file of a case, which its first row may give."""
+    given = [row for row in case.rows if row.word == "callers"]
+    if given and (given != case.rows[:1] or given[0].wanted or given[0].rest):
+        raise Unreadable(f"{given[-1].place}: callers stands first, and answers nothing")
+    return "".join(f"{line}\n" for line in given[0].given).encode() if given else CALLERS_FILE
 
 
 def ways_of(rows):
@@ -188,5 +196,11 @@ def answers(program, case):
         write(room, "callers", callers_of(case))
         for name, way, rows in ways_of(asked):
             told = list(way(program, room, [sent[row] for row in rows]))
-            for at, row in enumerate(rows):
-                yield row, told[at] if at < len(told) else ["no reply"], name
+            yield from paired(rows, told, name)
+
+
+def paired(rows, told, way):
+    """Each row with what it was told. What is told beside is told of the last one."""
+    for at, row in enumerate(rows):
+        beside = told[at + 1:] if at == len(rows) - 1 else []
+        yield row, [*told[at], *(f"and {line}" for more in beside for line in more)] if at < len(told) else ["no reply"], way

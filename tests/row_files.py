@@ -51,6 +51,25 @@ def brief(line):
     return f"{' '.join(words[:3])} .. {words[-1]}, {len(words)} words" if words else ""
 
 
+def lines_of(data):
+    """The lines of what is printed, with \\r for CR. One that doesn't end is told."""
+    *lines, rest = data.decode().replace("\r", "\\r").split("\n")
+    return [*lines, *([f"{rest} and no end of the line"] if rest else [])]
+
+
+def lines_of_run(done):
+    """The lines that a run of the program prints, and then those that it tells. One that tells a fault has a status of its own."""
+    odd = [f"status {done.returncode}"] if bool(done.stderr) != bool(done.returncode) or done.stdout and done.stderr else []
+    return [*lines_of(done.stdout), *lines_of(done.stderr), *odd]
+
+
+def each_number(first, last, place):
+    """The numbers from one to another, of which there are some."""
+    if not (first.isdigit() and last.isdigit() and int(first) <= int(last)):
+        raise Unreadable(f"{place}: two numbers are wanted of which the first is no greater, and no {first} and {last}")
+    return range(int(first), int(last) + 1)
+
+
 class Case:
     """The rows between two empty lines."""
 
@@ -62,12 +81,11 @@ class Case:
 
 def lines_of_each(text, place):
     """The lines for which `each FIRST LAST TEXT` stands."""
-    try:
-        first, last, template = text.split(" ", 2)
-        numbers = range(int(first), int(last) + 1)
-    except ValueError:
-        raise Unreadable(f"{place}: each FIRST LAST TEXT is wanted") from None
-    return [line.replace("%", f"{at:05}").replace("&", f"{at + 1:05}") for at in numbers for line in template.split("|")]
+    words = text.split(" ", 2)
+    if len(words) < 3:
+        raise Unreadable(f"{place}: each FIRST LAST TEXT is wanted")
+    numbers = each_number(*words[:2], place)
+    return [line.replace("%", f"{at:05}").replace("&", f"{at + 1:05}") for at in numbers for line in words[2].split("|")]
 
 
 class Reader:

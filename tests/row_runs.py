@@ -25,7 +25,7 @@ import subprocess
 import tempfile
 
 from row_desk import CALLERS, CALLERS_FILE
-from row_files import Unreadable
+from row_files import Unreadable, lines_of
 
 
 def bytes_of(text):
@@ -33,14 +33,8 @@ def bytes_of(text):
     return codecs.escape_decode(text.encode())[0]
 
 
-def lines_of(data):
-    """The lines of what is printed, with \\r for CR. One that doesn't end is told."""
-    *lines, rest = data.decode().replace("\r", "\\r").split("\n")
-    return [*lines, *([f"{rest} and no end of the line"] if rest else [])]
-
-
 def replies(data, has_bodies=True):
-    """The lines of replies: of each its status, the lines of its head but for a text's kind and length, and its body."""
+    """The lines of replies: of each its status, the lines of its head but for a text's kind and then the length, and its body."""
     lines = []
     while data:
         head, end, data = data.partition(b"\r\n\r\n")
@@ -49,8 +43,9 @@ def replies(data, has_bodies=True):
         count = int(length.split()[1]) if has_bodies else 0
         body, data = data[:count], data[count:]
         plain = ["content-type: text/plain", f"content-length: {count}"]
+        head = [line for line, usual in zip(head, plain) if line != usual] + head[2:]
         cut = "" if end and len(body) == count else f" and {len(body)} of {count} bytes"
-        lines += [status.removeprefix("HTTP/1.1 ") + cut, *(line for line in head if line not in plain)]
+        lines += [status.removeprefix("HTTP/1.1 ") + cut, *head]
         lines += body.decode().removesuffix("\n").split("\n") if body else []
     return lines
 
@@ -140,7 +135,8 @@ class Room:
         """What replay writes to connections, or tells."""
         names = [self.write(f"connection.{at}", data) for at, data in enumerate(connections)]
         done = self.ended(["replay", "callers", *names])
-        return done.stdout or done.stderr
+        fault = b"HTTP/1.1 status %d and %s\r\n\r\n" % (done.returncode, done.stderr)
+        return done.stdout + (fault if done.returncode or done.stderr else b"")
 
     def ask(self, row):
         """The reply to a request, in each way."""

@@ -15,7 +15,7 @@ import subprocess
 import tempfile
 
 import row_desk
-from row_files import Unreadable
+from row_files import Unreadable, lines_of_run
 
 
 class Store:
@@ -35,8 +35,7 @@ class Store:
     def run(self, *words):
         """The lines that a run of the program prints, and then those that it tells."""
         self.end()
-        done = subprocess.run([self.program, *words], cwd=self.room, capture_output=True, text=True)
-        return (done.stdout + done.stderr).splitlines()
+        return lines_of_run(subprocess.run([self.program, *words], cwd=self.room, capture_output=True))
 
     def make(self):
         """Makes a store with the callers CALLERS."""
@@ -84,6 +83,8 @@ class Store:
         return self.desk.reply(row_desk.request(row)) if self.desk.port else [self.desk.line]
 
     def answer(self, row):
+        if row.word in ALONE and (row.rest or row.given):
+            raise Unreadable(f"{row.place}: {row.word} takes nothing")
         if row.word in WORDS:
             return getattr(self, row.word)(row)
         if row.word.islower() and ":" not in row.word:
@@ -92,6 +93,7 @@ class Store:
 
 
 WORDS = {"init", "made", "sql", "serve", "migrate", "check"}
+ALONE = {"serve", "migrate", "check"}
 
 
 def text_of(value):
