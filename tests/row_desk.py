@@ -21,6 +21,7 @@ from row_files import Row, Unreadable, each_number
 CALLERS = {"PUBLISH": "publisher-token", "ALPHA": "alpha-token", "BETA": "beta-token", "GAMMA": "gamma-token"}
 CALLERS_FILE = "".join(f"{name},{token}\n" for name, token in {"NAME": "TOKEN", **CALLERS}.items()).encode()
 ELSEWHERE = {"built", "kept", "room"}
+PORT_TAKEN = "FAULT 73"  # another one took the port in the meantime
 
 
 def request(row):
@@ -103,9 +104,11 @@ class Served:
     """`bureau serve` over the file `store` of a folder, until its end. `port` is None where it refuses to serve, and `line` says why."""
 
     def __init__(self, program, room, *words):
-        self.process = subprocess.Popen([program, "serve", *words, "--port", str(free_port()), "store"], cwd=room,
-                                        stdout=subprocess.PIPE, stderr=subprocess.STDOUT, text=True)
-        self.line = self.process.stdout.readline().removesuffix("\n")
+        self.line = PORT_TAKEN
+        while self.line == PORT_TAKEN:
+            self.process = subprocess.Popen([program, "serve", *words, "--port", str(free_port()), "store"], cwd=room,
+                                            stdout=subprocess.PIPE, stderr=subprocess.STDOUT, text=True)
+            self.line = self.process.stdout.readline().removesuffix("\n")
         self.port = int(self.line.rpartition(":")[2]) if self.line.startswith("LISTENING 127.0.0.1:") else None
 
     def __enter__(self):

@@ -8,11 +8,12 @@ Without FILE it runs all below `tests/rows` and in the data of the crates of row
 file is written. The kind of its rows is the name of its folder: `content` (`tests/row_content.py`), `desk` (`tests/row_desk.py`), `runs`
 (`tests/row_runs.py`) or `store` (`tests/row_store.py`), with `_rows` after it for a crate's data. There a row that the program can't show
 is passed over, and counted, and `planted.txt` is left to the crate, since its rows are wrong. The last line counts the answers; a row
-that asks nothing, as `publish`, has none.
+that asks nothing, as `publish`, has none. Files run side by side, as many as there are processors.
 """
 import glob
 import os
 import sys
+from concurrent.futures import ProcessPoolExecutor
 
 import drawn_content
 import drawn_requests
@@ -99,9 +100,11 @@ def main(words):
         print(__doc__)
         return 2
     program = os.path.realpath(words[0])
-    tallies = [run(program, name) for name in words[1:] or all_files()]
-    if not words[1:]:
-        tallies += [drawn(program), planted(program)]
+    with ProcessPoolExecutor(len(os.sched_getaffinity(0))) as pool:
+        tasks = [pool.submit(run, program, name) for name in words[1:] or all_files()]
+        if not words[1:]:
+            tasks += [pool.submit(drawn, program), pool.submit(planted, program)]
+        tallies = [task.result() for task in tasks]
     for line in (line for tally in tallies for line in tally.said):
         print(line)
     print(f"rows: {sum(tally.passed_over for tally in tallies)} rows of crates are passed over, since the program can't show them")
