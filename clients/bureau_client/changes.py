@@ -9,12 +9,15 @@ twice. The folder of a desk has
     sent/      a copy of each list that the desk has accepted, so that sync sends what differs
     news/      of each zone the reports that the last news told of
 """
+import itertools
 import os
 import re
+import shutil
 import time
+from contextlib import suppress
 
 from . import run
-from .run import Stop, refused, say
+from .run import Stop, or_stop, refused, say
 
 BUILT_ANEW = "it was built anew or put back. sync sends everything again"
 
@@ -25,49 +28,38 @@ class Lock:
 
     def __init__(self, settings):
         self.home, self.turns = settings.home, settings.turns
-        self.path, self.own = self.home + "/lock", "%s/lock.%d" % (self.home, os.getpid())
+        self.path, self.own = f"{self.home}/lock", f"{self.home}/lock.{os.getpid()}"
 
     def __enter__(self):
-        try:
-            os.makedirs(self.home, exist_ok=True)
-        except OSError:
-            raise Stop(3, "the client's folder %s can't be made" % self.home) from None
-        try:
-            with open(self.own, "w") as file:
-                file.write("%s %d\n" % (os.uname().nodename, os.getpid()))
-        except OSError:
-            raise Stop(3, "nothing can be written into %s" % self.home) from None
+        run.make_folder(self.home, f"the client's folder {self.home} can't be made")
+        with or_stop(f"nothing can be written into {self.home}"), open(self.own, "w") as file:
+            file.write(f"{os.uname().nodename} {os.getpid()}\n")
         try:
             self.take()
         finally:
             run.remove(self.own)
-        return self
 
     def __exit__(self, *_):
         run.remove(self.path)
 
     def take(self):
-        turn = misses = 0
-        while True:
-            try:
+        misses = 0
+        for turn in itertools.count(1):
+            with suppress(OSError):
                 return os.link(self.own, self.path)
-            except OSError:
-                pass
-            misses += not os.path.exists(self.path)  # where it is never there, no link can be made in this folder
+            misses += not os.path.exists(self.path)  # if it is never there, no link can be made in this folder
             if misses >= 5:
-                raise Stop(3, "the lock %s can't be made" % self.path)
-            turn += 1
+                raise Stop(3, f"the lock {self.path} can't be made")
             if turn > self.turns:
-                text = "another run is at work: %s (machine and process). If it is not, remove %s and %s/breaking"
-                raise Stop(3, text % (" ".join(self.owner()), self.path, self.home))
+                text = f"another run is at work: {' '.join(self.owner())} (machine and process). If it is not, remove"
+                raise Stop(3, f"{text} {self.path} and {self.home}/breaking")
             if not self.drop_dead():
                 time.sleep(1)
 
     def owner(self):
-        try:
+        with suppress(OSError):
             return os.fsdecode(run.bytes_in(self.path)).split("\n")[0].split()
-        except OSError:
-            return []
+        return []
 
     def drop_dead(self):
         """Removes the lock of a run that has ended. Only one run does so at a time: else a second one could remove the lock that another
@@ -78,10 +70,9 @@ class Lock:
         except OSError:
             return False
         try:
-            if not is_dead(self.owner()):
-                return False
-            run.remove(self.path)
-            return True
+            if is_ended := is_dead(self.owner()):
+                run.remove(self.path)
+            return is_ended
         finally:
             os.rmdir(breaking)
 
@@ -101,81 +92,75 @@ def is_dead(owner):
 
 def checksum(data):
     """What POSIX cksum tells of bytes."""
-    length = len(data)
-    while length:
-        data, length = data + bytes([length & 255]), length >> 8
     check = 0
-    for byte in data:
+    for byte in data + len(data).to_bytes((len(data).bit_length() + 7) // 8, "little"):
         check ^= byte << 24
         for _ in range(8):
-            check = (check << 1 ^ (0x04C11DB7 if check & 0x80000000 else 0)) & 0xFFFFFFFF
+            check = check << 1 ^ (0x104C11DB7 if check & 0x80000000 else 0)
     return check ^ 0xFFFFFFFF
 
 
 def cleared(folder):
-    """Removes a folder of files, or nothing where it isn't there."""
-    try:
-        for name in os.listdir(folder):
-            os.remove(folder + "/" + name)
-        os.rmdir(folder)
-    except FileNotFoundError:
-        pass
+    """Removes a folder, or nothing if it isn't there."""
+    with suppress(FileNotFoundError):
+        shutil.rmtree(folder)
 
 
 class Changes:
     """What a client knows of its changes at a desk."""
 
     def __init__(self, desk):
-        self.desk = desk
-        url = os.fsencode(desk.url)
+        self.desk, url = desk, os.fsencode(desk.url)
         plain = re.sub("[^A-Za-z0-9.-]", "_", url.decode("latin-1"))
-        self.folder = "%s/desks/%s.%d" % (desk.settings.home, plain, checksum(url))
+        self.folder = f"{desk.settings.home}/desks/{plain}.{checksum(url)}"
         self.waiting, self.making = self.folder + "/waiting", self.folder + "/making"
         self.is_known, self.is_idle, self.taken = False, True, None
 
     def open(self):
-        try:
-            for name in ("zones", "categories"):
-                os.makedirs("%s/sent/%s" % (self.folder, name), exist_ok=True)
-        except OSError:
-            raise Stop(3, "%s can't be made" % self.folder) from None
-        self.take_up()
+        """Makes the folder, and sends the change of an earlier run that had no answer."""
+        for name in ("zones", "categories"):
+            run.make_folder(self.sent(name), f"{self.folder} can't be made")
+        cleared(self.making)
+        if os.path.isdir(self.waiting):
+            taken = self.noted("waiting/method"), self.noted("waiting/path"), self.body()
+            say("a change of an earlier run had no answer and is sent again: %s %s" % taken[:2])
+            self.taken = taken if self.send_waiting() else None
 
     def sent(self, name):
         """The copy of a list that the desk has accepted."""
-        return "%s/sent/%s" % (self.folder, name)
+        return f"{self.folder}/sent/{name}"
+
+    def copy(self, name):
+        """What is in this copy, or None."""
+        return run.bytes_in(self.sent(name)) if os.path.isfile(self.sent(name)) else None
 
     def noted(self, name):
-        try:
-            return os.fsdecode(run.bytes_in(self.folder + "/" + name)).rstrip("\n")
-        except FileNotFoundError:
-            return ""
+        with suppress(FileNotFoundError):
+            return os.fsdecode(run.bytes_in(f"{self.folder}/{name}")).rstrip("\n")
+        return ""
 
     def note(self, name, text):
-        run.write(self.folder + "/" + name, os.fsencode("%s\n" % text))
+        run.write(f"{self.folder}/{name}", os.fsencode(f"{text}\n"))
+
+    def body(self):
+        path = self.waiting + "/body"
+        return run.bytes_in(path) if os.path.isfile(path) else None
 
     def forget_sent(self):
-        for name in ("zones", "categories"):
-            folder = self.sent(name)
-            run.remove(*(folder + "/" + each for each in (os.listdir(folder) if os.path.isdir(folder) else ())))
+        for folder in (self.sent("zones"), self.sent("categories")):
+            run.remove(*(f"{folder}/{name}" for name in (os.listdir(folder) if os.path.isdir(folder) else ())))
         run.remove(self.sent("received"))
 
     def number_next(self):
-        """The number of the next change. Where the desk has another last number than this client remembers, what was sent before may not
+        """The number of the next change. If the desk has another last number than this client remembers, what was sent before may not
         be there any more."""
         if self.is_known:
             return int(self.noted("last")) + 1
-        last = self.desk.ask_last("client")
-        if last is None:
-            raise self.desk.no_answer("Nothing was sent")
-        noted = self.noted("last")
+        last, noted = self.desk.ask_last("client", ". Nothing was sent"), self.noted("last")
         noted = int(noted) if re.fullmatch("[0-9]+", noted) else last
-        if last < noted:
-            say("%s has %d changes of yours, and had %d: %s" % (self.desk.url, last, noted, BUILT_ANEW))
-            self.forget_sent()
-        elif last > noted:
-            text = "%s has %d changes of yours, of which this client made %d: another program sends with this token"
-            say(text % (self.desk.url, last, noted))
+        if last != noted:
+            others = f"of which this client made {noted}: another program sends with this token"
+            say(f"{self.desk.url} has {last} changes of yours, " + (others if last > noted else f"and had {noted}: {BUILT_ANEW}"))
             self.forget_sent()
         self.note("last", last)
         self.is_known = True
@@ -183,91 +168,72 @@ class Changes:
 
     def change(self, method, path, name, body, expected, sent):
         """Writes a change down, and sends it. BODY is that of the file NAME, or None; SENT is where its copy goes."""
-        if self.is_made_already(method, path, body):
-            return
+        if self.taken and self.taken[:2] == (method, path):  # it is the one that waited, and is not made twice
+            taken, self.taken = self.taken, None
+            if body is None or body == (taken[2] or b""):
+                return
         number = self.number_next()
         cleared(self.making)
-        try:
+        with or_stop(f"{self.making} can't be made"):
             os.mkdir(self.making)
-        except OSError:
-            raise Stop(3, "%s can't be made" % self.making) from None
         if body is not None:
             run.write(self.making + "/body", body)
         notes = {"number": number, "method": method, "path": path, "name": name, "expected": expected, "sent": sent}
         for each, text in notes.items():
             self.note("making/" + each, text)
-        try:
+        with or_stop(f"{self.waiting} can't be made"):
             os.rename(self.making, self.waiting)
-        except OSError:
-            raise Stop(3, "%s can't be made" % self.waiting) from None
         self.send_waiting()
-
-    def body(self):
-        path = self.waiting + "/body"
-        return run.bytes_in(path) if os.path.isfile(path) else None
-
-    def take_up(self):
-        """A change of an earlier run that had no answer comes first."""
-        cleared(self.making)
-        if not os.path.isdir(self.waiting):
-            return
-        taken = self.noted("waiting/method"), self.noted("waiting/path"), self.body()
-        say("a change of an earlier run had no answer and is sent again: %s %s" % taken[:2])
-        if self.send_waiting():
-            self.taken = taken
-
-    def is_made_already(self, method, path, body):
-        """The change that is asked for is the one that waited, and has just been made: it is not made twice."""
-        if not self.taken or self.taken[:2] != (method, path):
-            return False
-        taken, self.taken = self.taken, None
-        return body is None or body == (taken[2] or b"")
 
     def send_waiting(self):
         """Sends the change that waits until its answer comes, and does what the answer asks for. Tells whether it was made."""
         self.is_idle, is_made, desk = False, False, self.desk
         body, path = self.body(), self.noted("waiting/path")
-        while True:
-            number = self.noted("waiting/number")
-            if not desk.send(self.noted("waiting/method"), path, number, body):
-                raise desk.no_answer("The change waits as number %s, and the next run sends it first" % number)
-            if desk.status == 409 and desk.first_line().startswith("GAP LAST "):
-                # the desk has fewer changes than when it was asked: it has been built anew, and lacks this one
-                fewer = desk.gap()
-                if fewer is None:
-                    raise Stop(3, "%s does not answer as a desk does" % desk.url)
-                say("%s has %d changes of yours, and had more: %s" % (desk.url, fewer, BUILT_ANEW))
-                self.forget_sent()
-                self.note("waiting/number", fewer + 1)
-                continue
-            break
+        number = self.send_numbered(path, body)
         if desk.status == 200:
             self.note("last", number)
             is_made = self.keep_answer(number, path, body)
         elif desk.status == 409 and desk.first_line() == "STALE":
-            text = "another program sends with this token: %s has gone on past number %s. Whether this change was made is not known: %s. "
-            refused((text + "Send it again if it is still wanted") % (desk.url, number, path))
+            text = f"another program sends with this token: {desk.url} has gone on past number {number}. Whether this change was made"
+            refused(f"{text} is not known: {path}. Send it again if it is still wanted")
             self.forget_sent()
             run.remove(self.folder + "/last")
             self.is_known = False
         else:
             desk.explain(self.noted("waiting/name"), body, path)
-        # in one step, so that no half of it waits where this run is killed
+        # in one step, so that no half of it waits if this run is killed
         os.rename(self.waiting, self.making)
         cleared(self.making)
         if is_made:
             run.out(desk.first_line() + "\n")
         return is_made
 
+    def send_numbered(self, path, body):
+        """Sends the change that waits, and tells with which number it was answered. If the desk has fewer changes than when it was asked,
+        it has been built anew, and lacks this one: it gets another number."""
+        desk = self.desk
+        while True:
+            number = self.noted("waiting/number")
+            more = f". The change waits as number {number}, and the next run sends it first"
+            desk.send(self.noted("waiting/method"), path, number, body, more)
+            if desk.status != 409 or not desk.first_line().startswith("GAP LAST "):
+                return number
+            fewer = desk.gap()
+            if fewer is None:
+                raise Stop(3, f"{desk.url} does not answer as a desk does")
+            say(f"{desk.url} has {fewer} changes of yours, and had more: {BUILT_ANEW}")
+            self.forget_sent()
+            self.note("waiting/number", fewer + 1)
+
     def keep_answer(self, number, path, body):
-        """A 200 came. It is this change's where it says what this change should get."""
+        """A 200 came. It is this change's if it says what this change should get."""
         got, expected, sent = self.desk.first_line(), self.noted("waiting/expected"), self.noted("waiting/sent")
         run.remove(self.sent(sent))
         if got != expected:
             self.is_known = False
-            text = "number %s of %s was answered '%s', and this change should get '%s'. The kept reply is that of another change, so another"
-            more = " program sends with this token. This change was probably not made: look, and send it again"
-            refused((text + more) % (number, self.desk.url, got, expected))
+            text = f"number {number} of {self.desk.url} was answered '{got}', and this change should get '{expected}'. The kept reply is"
+            more = "that of another change, so another program sends with this token. This change was probably not made: look, and send it again"
+            refused(f"{text} {more}")
             return False
         if body is not None:
             run.write(self.sent(sent), body)

@@ -1,17 +1,38 @@
 """One desk over HTTP: a request, again until an answer comes, and what a refusal means."""
+import itertools
+import json
 import os
+import re
+import select
+import ssl
 import time
+from base64 import b64encode
+from http.client import HTTPConnection, HTTPException, HTTPSConnection, InvalidURL
+from urllib.parse import unquote, urlsplit
 
-from . import faults, run
-from .run import NoAnswer, Stop, refused, say
+from . import faults
+from .run import Stop, refused, say
 
 GREATEST = 9223372036854775807
 PIECE = 1 << 16
 HEAD = 1 << 20  # bytes, which no head has
+NONE_OF_ITS_FORM = (ValueError, KeyError, TypeError, AttributeError, RecursionError)  # what reading JSON of another form raises
+
+# What a status says. Each other is told with the answer.
+SAID = {
+    401: "{url} does not know the token",
+    403: "{url} refuses: only the publisher publishes, and the publisher has no zones ({answer})",
+    404: "{url} has no such zone of yours, or no such path ({answer})",
+    413: "the file is too large: a request takes 67,108,864 bytes, and a front perhaps fewer",
+}
 
 
 class Cut(OSError):
     """No whole reply came."""
+
+
+class Unanswered(Stop):
+    """No answer came, however often the desk was asked."""
 
 
 def escaped(name):
@@ -19,30 +40,46 @@ def escaped(name):
     return name.replace("#", "%23")
 
 
+def zones_in(whole):
+    """The client's zones, each with the number of its SYSMODs."""
+    zones = [(row["zone"], row["sysmods"]) for row in whole["zones"]]
+    if not all(isinstance(zone, str) and isinstance(count, int) for zone, count in zones):
+        raise TypeError(zones)
+    return zones
+
+
+def in_form(data, form, fault):
+    """What FORM makes of JSON, which has to be of its form."""
+    try:
+        return form(json.loads(data))
+    except NONE_OF_ITS_FORM:
+        raise fault() from None
+
+
 def why(fault):
     return getattr(fault, "strerror", None) or str(fault) or type(fault).__name__
 
 
-def proxy_of(scheme, host):
-    """The proxy of the environment that stands before a host, if there is one."""
-    if not any(name.lower() in ("http_proxy", "https_proxy", "all_proxy") for name in os.environ):
+def proxy_of(parts):
+    """The proxy of the environment that stands before a URL, if there is one."""
+    if not any(name.lower().endswith("_proxy") for name in os.environ):
         return None
-    from urllib.request import getproxies_environment, proxy_bypass_environment
+    from urllib.request import getproxies_environment, proxy_bypass_environment  # it takes long to import
 
     proxies = getproxies_environment()
-    return None if proxy_bypass_environment(host) else proxies.get(scheme) or proxies.get("all")
+    proxy = None if proxy_bypass_environment(parts.hostname) else proxies.get(parts.scheme) or proxies.get("all")
+    return urlsplit(proxy if "://" in proxy else "http://" + proxy) if proxy else None
 
 
-def by_password(parts):
-    """The header's value for the user and the password of a URL."""
-    from base64 import b64encode
-    from urllib.parse import unquote
-
-    return "Basic " + b64encode(unquote("%s:%s" % (parts.username, parts.password or "")).encode()).decode()
+def login(header, parts):
+    """The header for the user and the password of a URL, if it has them."""
+    if parts.username is None:
+        return {}
+    return {header: "Basic " + b64encode(unquote(f"{parts.username}:{parts.password or ''}").encode()).decode()}
 
 
 class Desk:
-    """A desk as this run speaks to it. `status` and `reply` are those of the last answer, and the status is 0 where none came whole."""
+    """A desk as this run speaks to it. `status` and `reply` are those of the last answer, and the status is 0 if none came whole."""
 
     def __init__(self, url, settings):
         self.url, self.settings = url, settings
@@ -51,37 +88,30 @@ class Desk:
     # --- One request
 
     def connection(self, headers):
-        """A connection that is open, and the target of its requests in front of the path."""
-        import http.client
-        from urllib.parse import urlsplit
-
-        parts = urlsplit(self.url)
-        if parts.username is not None:
-            headers["authorization"] = by_password(parts)
-        target, host, port, proxy = parts.path, parts.hostname, parts.port, proxy_of(parts.scheme, parts.hostname)
-        more = {"timeout": min(20, self.settings.seconds)}
-        if parts.scheme == "https":
-            import ssl
-
-            try:
-                self.tls = self.tls or ssl.create_default_context(cafile=self.settings.authority or None)
-            except OSError as fault:
-                raise Stop(3, "no answer from %s: %s: %s" % (self.url, self.settings.authority, why(fault))) from None
-            more["context"] = self.tls
-        make = http.client.HTTPSConnection if parts.scheme == "https" else http.client.HTTPConnection
-        if not proxy:
-            connection = make(host, port, **more)
+        """A connection that is open, and what stands in front of the path in its requests."""
+        here = urlsplit(self.url)
+        proxy, target = proxy_of(here), here.path
+        host, port = (proxy.hostname, proxy.port or 80) if proxy else (here.hostname, here.port)
+        headers.update(login("authorization", here))
+        seconds = min(20, self.settings.seconds)
+        if here.scheme == "https":
+            connection = HTTPSConnection(host, port, timeout=seconds, context=self.context())
+            if proxy:
+                connection.set_tunnel(here.hostname, here.port, login("proxy-authorization", proxy))
         else:
-            through = urlsplit(proxy if "://" in proxy else "http://" + proxy)
-            login = {"proxy-authorization": by_password(through)} if through.username is not None else {}
-            connection = make(through.hostname, through.port or 80, **more)
-            if parts.scheme == "https":
-                connection.set_tunnel(host, port, login)
-            else:
-                headers.update(login, host=parts.netloc.rpartition("@")[2])
+            connection = HTTPConnection(host, port, timeout=seconds)
+            if proxy:
+                headers.update(login("proxy-authorization", proxy), host=here.netloc.rpartition("@")[2])
                 target = "http://" + headers["host"] + target
         connection.connect()
         return connection, target
+
+    def context(self):
+        try:
+            self.tls = self.tls or ssl.create_default_context(cafile=self.settings.authority or None)
+        except OSError as fault:
+            raise Stop(3, f"no answer from {self.url}: {self.settings.authority}: {why(fault)}") from None
+        return self.tls
 
     def exchange(self, method, path, number, body):
         """The status and the body of the reply to one request. It has to be whole by the end of the seconds for one request."""
@@ -106,30 +136,24 @@ class Desk:
         finally:
             connection.close()
 
-    def send_once(self, method, path, number, body):
-        from http.client import HTTPException, InvalidURL
-        from ssl import SSLCertVerificationError
-
-        try:
-            self.status, self.reply = self.exchange(method, path, number, body)
-        except (SSLCertVerificationError, InvalidURL, ValueError) as fault:
-            # another try won't help
-            raise Stop(3, "no answer from %s: %s" % (self.url, why(fault))) from None
-        except (OSError, HTTPException) as fault:
-            self.status, self.reply, self.fault = 0, b"", why(fault)
-
-    def send(self, method, path, number="", body=None):
-        """Whether an answer came. A 5xx is none: the desk has no room now, or the front found no desk."""
-        pause, tried = self.settings.pause, 1
-        while True:
-            self.send_once(method, path, number, body)
+    def send(self, method, path, number="", body=None, more=""):
+        """Sends a request until an answer comes. A 5xx is none: the desk has no room now, or the front found no desk. MORE is said if
+        none comes."""
+        pause = self.settings.pause
+        for tried in itertools.count(1):
+            try:
+                self.status, self.reply = self.exchange(method, path, number, body)
+            except (ssl.SSLCertVerificationError, InvalidURL, ValueError) as fault:  # another try won't help
+                raise Stop(3, f"no answer from {self.url}: {why(fault)}") from None
+            except (OSError, HTTPException) as fault:
+                self.status, self.reply, self.fault = 0, b"", why(fault)
             if self.status not in (0, 408, 429) and self.status < 500:
-                return True
+                return
+            told = f"status {self.status} {self.first_line()}" if self.status else self.fault
             if tried >= self.settings.tries:
-                return False
+                raise Unanswered(3, f"no answer from {self.url} after {int(self.settings.tries)} tries: {told}{more}")
             if tried == 1 and os.isatty(2):  # whoever looks on is told why it takes so long; a job at night is not
-                say("no answer from %s yet: %s. It is asked again, %d times in all" % (self.url, self.why(), self.settings.tries))
-            tried += 1
+                say(f"no answer from {self.url} yet: {told}. It is asked again, {int(self.settings.tries)} times in all")
             time.sleep(pause)
             pause = min(60, pause * 2)
 
@@ -138,48 +162,36 @@ class Desk:
     def first_line(self):
         return os.fsdecode(self.reply.split(b"\n", 1)[0])
 
-    def why(self):
-        return "status %d %s" % (self.status, self.first_line()) if self.status else self.fault
-
-    def no_answer(self, more=""):
-        text = "no answer from %s after %d tries: %s" % (self.url, self.settings.tries, self.why())
-        return Stop(3, text + (". " + more if more else ""))
-
     def no_report(self):
-        return Stop(3, "what came from %s is no answer of a desk: %s" % (self.url, self.first_line()[:100]))
+        return Stop(3, f"what came from {self.url} is no answer of a desk: {self.first_line()[:100]}")
 
     def need_200(self):
         if self.status != 200:
             self.explain()
             raise Stop(1)
+        return self.reply
 
     def ask(self, path):
         """The answer to a question, as the desk gives it."""
-        if not self.send("GET", path):
-            raise self.no_answer()
-        self.need_200()
-        return self.reply
+        self.send("GET", path)
+        return self.need_200()
 
-    def ask_json(self, path):
-        import json
+    def ask_json(self, path, form):
+        return in_form(self.ask(path), form, self.no_report)
 
-        try:
-            return json.loads(self.ask(path))
-        except (ValueError, RecursionError):
-            raise self.no_report() from None
+    def zones(self):
+        return self.ask_json("/zones.json", zones_in)
 
-    def ask_last(self, caller):
-        """The number of the last change, or None where no answer comes. A change with the greatest number changes nothing: the desk
-        answers with the last number."""
-        request = ("POST", "/publish", GREATEST, b"") if caller == "publisher" else ("DELETE", "/zones/A", GREATEST)
-        if not self.send(*request):
-            return None
+    def ask_last(self, caller, more=""):
+        """The number of the last change. A change with the greatest number changes nothing: the desk answers with the last number."""
+        request = ("POST", "/publish", GREATEST, b"") if caller == "publisher" else ("DELETE", "/zones/A", GREATEST, None)
+        self.send(*request, more)
         if self.status in (401, 403):
             self.need_200()
         last = self.gap()
         if last is None:
-            more = "" if self.status == 409 and self.first_line().startswith("GAP LAST ") else "status %03d " % self.status
-            raise Stop(3, "%s does not answer as a desk does: %s%s" % (self.url, more, self.first_line()))
+            told = "" if self.status == 409 and self.first_line().startswith("GAP LAST ") else f"status {self.status:03} "
+            raise Stop(3, f"{self.url} does not answer as a desk does: {told}{self.first_line()}")
         return last
 
     def gap(self):
@@ -190,35 +202,20 @@ class Desk:
 
     def explain(self, name="", body=None, path=""):
         """Says what the reply's status means. NAME is that of the file as the user knows it, and BODY what was sent of it."""
-        answer, url = self.first_line(), self.url
-        if self.status == 401:
-            refused("%s does not know the token" % url)
-        elif self.status == 403:
-            refused("%s refuses: only the publisher publishes, and the publisher has no zones (%s)" % (url, answer))
-        elif self.status == 404 and path.startswith("/zones/") and path.endswith("/categories"):
-            zone = path[len("/zones/") : -len("/categories")].replace("%23", "#")
-            lacks = "%s has no zone %s of yours, so '%s' was not accepted:" % (url, zone, name)
-            refused(lacks + " send the zone's list first, with 'bureau-client zone'")
-        elif self.status == 404:
-            refused("%s has no such zone of yours, or no such path (%s)" % (url, answer))
-        elif self.status == 413:
-            refused("the file is too large: a request takes 67,108,864 bytes, and a front perhaps fewer")
+        answer, url, words = self.first_line(), self.url, self.first_line().split()
+        if self.status == 404 and (zone := re.fullmatch("/zones/(.*)/categories", path, re.S)):
+            text = f"{url} has no zone {zone[1].replace('%23', '#')} of yours, so '{name}' was not accepted:"
+            refused(text + " send the zone's list first, with 'bureau-client zone'")
         elif self.status == 422:
-            words = answer.split()
-            fault = words[1] if len(words) > 1 else ""
-            refused("%s refuses %s whole: %s: %s" % (url, name or "it", answer, faults.meaning(fault)))
-            at = faults.place_of(words, body) if body is not None else None
-            if at:
-                say("%s, line %d: %s" % (name, at, faults.shown(body, at)))
+            refused(f"{url} refuses {name or 'it'} whole: {answer}: {faults.meaning(''.join(words[1:2]))}")
+            if body is not None and (at := faults.place_of(words, body)):
+                say(f"{name}, line {at}: {faults.shown(body, at)}")
         else:
-            refused("%s refuses: status %03d %s" % (url, self.status, answer))
+            refused(SAID.get(self.status, "{url} refuses: status {status:03} {answer}").format(url=url, answer=answer, status=self.status))
 
 
 def send_body(line, body, end):
     """Sends a body, and stops where a reply comes before its end. Gives what came of that, and the fault where sending failed."""
-    import select
-    from ssl import SSLWantReadError
-
     left = memoryview(body)
     try:
         while left:
@@ -226,7 +223,7 @@ def send_body(line, body, end):
                 line.settimeout(0)
                 try:
                     return line.recv(PIECE), None
-                except (BlockingIOError, SSLWantReadError):
+                except (BlockingIOError, ssl.SSLWantReadError):
                     pass  # nothing of the reply, but of TLS
             line.settimeout(max(0.001, end - time.monotonic()))
             line.sendall(left[:PIECE])
@@ -238,8 +235,6 @@ def send_body(line, body, end):
 
 def read_reply(line, received, end):
     """The status and the body of a reply. Its head ends with an empty line, and its body has the length that the head tells."""
-    import re
-
     data, at, status, length = bytearray(received), -1, 0, None
     while True:
         if at < 0 and (found := re.search(rb"\r?\n\r?\n", data)):

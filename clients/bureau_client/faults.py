@@ -1,16 +1,21 @@
 """What a FAULT of `bureau` or of a desk means: the rows of faults.csv."""
+import csv
 import functools
 import os
+import pkgutil
+import re
+import shutil
+import subprocess
+
+from . import run
+from .run import Stop, say
 
 
 @functools.lru_cache(None)
 def table():
     """Each fault's row, by its number: MEANING, DO (what to do about it), and BRIEF, its meaning where the statement stands beside it."""
-    import csv
-
-    path = os.path.join(os.path.dirname(__file__), "faults.csv")
-    text = __loader__.get_data(path).decode()
-    return {row["FAULT"]: row for row in csv.DictReader(text.splitlines())}
+    rows = csv.DictReader(pkgutil.get_data(__package__, "faults.csv").decode().splitlines())
+    return {row["FAULT"]: row for row in rows}
 
 
 def meaning(fault):
@@ -23,12 +28,6 @@ def brief(fault):
     return row.get("BRIEF") or row.get("MEANING") or "see docs/API.md"
 
 
-def line_of_record(data, number):
-    """The line of a list that has its record NUMBER: the header and empty lines are no records."""
-    lines = [at for at, line in enumerate(data.split(b"\n"), 1) if line.removesuffix(b"\r")]
-    return lines[number] if number < len(lines) else None
-
-
 def shown(data, line):
     """The beginning of a line, as it is shown."""
     lines = data.split(b"\n")
@@ -36,8 +35,36 @@ def shown(data, line):
 
 
 def place_of(words, data):
-    """The line of a fault, of which the desk says FAULT, its number and its place: from 31 on that is a record."""
+    """The line of a fault, of which the desk says FAULT, its number and its place. From 31 on that is a record of a list: its header
+    and empty lines are no records."""
     if len(words) < 3 or not all(word.isascii() and word.isdigit() for word in words[1:3]):
         return None
-    place = int(words[2])
-    return place if int(words[1]) < 31 else line_of_record(data, place)
+    fault, place = int(words[1]), int(words[2])
+    if fault < 31:
+        return place
+    lines = [at for at, line in enumerate(data.split(b"\n"), 1) if line.removesuffix(b"\r")]
+    return lines[place] if place < len(lines) else None
+
+
+# --- The commands that need no desk
+
+
+def fault(number):
+    if number not in table():
+        raise Stop(2, f"there is no FAULT {number}: docs/API.md has the faults")
+    run.out(meaning(number) + "\n")
+
+
+def holds(path):
+    """The hold book that a file leaves, by the program `bureau`. A refusal comes with its meaning, and with the line that has it."""
+    run.need_file(path)
+    program = run.program() or shutil.which("bureau")
+    if not program:
+        raise Stop(2, "the program bureau is not there: set BUREAU_PROGRAM")
+    made = subprocess.run([program, "holds", path], stderr=subprocess.PIPE)
+    run.put(2, made.stderr)
+    if found := re.search(r"^FAULT (\d+)(?: (\d+))?", os.fsdecode(made.stderr), re.M):
+        say(f"FAULT {found[1]}: {meaning(found[1])}")
+        if found[2]:
+            say(f"{path}, line {found[2]}: {shown(run.bytes_in(path), int(found[2]))}")
+    return made.returncode

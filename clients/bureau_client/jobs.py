@@ -1,51 +1,57 @@
 """Chains, plans, and the jobs for SMP/E that are made of them."""
-import os
+import csv
 import re
+import textwrap
 import time
 
 from . import run
-from .desk import escaped
-from .lists import ID
-from .reports import KINDS, NONE_OF_ITS_FORM, TITLES, holds_of, report_of, tell_why_empty, zones_of
-from .run import NoAnswer, Stop, say
+from .changes import Changes
+from .desk import escaped, in_form
+from .reports import KINDS, TITLES, holds_of, report_of, tables_in, tell_why_empty
+from .run import ID, NoAnswer, Stop, say
 
 # Control statements, as SMP/E writes them into SMPPUNCH. They stand in columns 1 to 71. Column 1 is blank, since `/*` there
 # would end the data of a DD * statement. clients/page/job.js makes the same bytes, which the tests of plans see to.
 COLUMNS = 71
 
 
-# --- Questions ----------------------------------------------------------------------------------------------------------
+# --- The questions: a function for each command -------------------------------------------------------------------------
 
 
-def print_chain(desk, zone, sysmod):
-    run.out(desk.ask("/zones/%s/chains/%s" % (escaped(zone), escaped(sysmod))) + b"\n")  # its JSON has no line end
+def chain(desk, zone, sysmod):
+    run.out(desk.ask(path_of_chain(zone, sysmod)) + b"\n")  # its JSON has no line end
+
+
+def plan(desk, zone, fixes=False):
+    report = KINDS[fixes]
+    data = ask_plan(desk, zone, report, "plan")
+    tables = list(tables_in(data.decode("latin-1").removesuffix("\n").split("\n"), desk.no_report))
+    if tables[0][0] != TITLES[report] % "PLAN" + zone:
+        raise desk.no_report()
+    run.out(data)
+    if all(len(table) == 2 for table in tables):
+        tell_why_empty(desk, report, zone)
+
+
+def job(desk, zone, *sysmods, fixes=False):
+    if sysmods:
+        job_of_chains(desk, zone, list(dict.fromkeys(sysmods)))
+    else:
+        job_of_plan(desk, zone, KINDS[fixes])
+
+
+def path_of_chain(zone, sysmod):
+    return f"/zones/{escaped(zone)}/chains/{escaped(sysmod)}"
 
 
 def ask_plan(desk, zone, report, form):
-    """The plan for a report. A desk of an earlier version has none. It answers 404 then, as where the zone is not there."""
-    if not desk.send("GET", "/zones/%s/%s/%s" % (escaped(zone), report, form)):
-        raise desk.no_answer()
+    """The plan for a report. A desk of an earlier version has none. It answers 404 then, as if the zone were not there."""
+    desk.send("GET", f"/zones/{escaped(zone)}/{report}/{form}")
     if desk.status == 404:
-        if zone in [each for each, _ in zones_of(desk)]:
-            raise Stop(1, "%s has no plans: its program is of an earlier version" % desk.url)
-        raise Stop(1, "%s has no zone %s of yours" % (desk.url, zone))
-    desk.need_200()
-    return desk.reply
-
-
-def print_plan(desk, zone, report):
-    """A plan in print is tables, one after the other: each has a title, a heading, its rows and their number."""
-    data, at, is_good, has_rows = ask_plan(desk, zone, report, "plan"), 0, True, False
-    lines = data.removesuffix(b"\n").split(b"\n")
-    for line in lines:
-        at += 1
-        if at > 2 and re.fullmatch(rb"ROWS \d+", line):
-            is_good, has_rows, at = is_good and line == b"ROWS %d" % (at - 3), has_rows or at > 3, 0
-    if not is_good or at or lines[0] != (TITLES[report] % "PLAN" + zone).encode():
-        raise desk.no_report()
-    run.out(data)
-    if not has_rows:
-        tell_why_empty(desk, report, zone)
+        if zone in [each for each, _ in desk.zones()]:
+            raise Stop(1, f"{desk.url} has no plans: its program is of an earlier version")
+        raise Stop(1, f"{desk.url} has no zone {zone} of yours")
+    return desk.need_200()
 
 
 # --- Control statements -------------------------------------------------------------------------------------------------
@@ -53,31 +59,30 @@ def print_plan(desk, zone, report):
 
 def comment(text):
     """A comment, in as many lines as it takes. No text here has `*/` in it."""
-    lines, line = [], ""
-    for word in text.upper().split(" "):
-        if line and len(line) + len(word) + 1 > COLUMNS - 7:
-            lines.append(line)
-            line = ""
-        line += (" " if line else "") + word
-    return [" /* %s */" % each for each in [*lines, line]]
+    lines = textwrap.wrap(text.upper(), COLUMNS - 7, break_long_words=False, break_on_hyphens=False)
+    return [f" /* {line} */" for line in lines]
 
 
 def list_of(ids):
     """Ids in lines of eight."""
-    lines = ["    " + ",".join(ids[at : at + 8]) for at in range(0, len(ids), 8)]
-    return [line + "," for line in lines[:-1]] + lines[-1:]
+    lines = [",".join(ids[at : at + 8]) for at in range(0, len(ids), 8)]
+    return ["    " + line for line in ",\n".join(lines).split("\n")]
+
+
+def named(holds):
+    return ", ".join(f"{sysmod} ({reason})" for sysmod, reason in holds)
 
 
 def about(member):
     """Why a member is there, and what to heed."""
-    lines = []
+    id, lines = member["id"], []
     if member["holds"]:
-        lines += comment(member["id"] + " FOR " + ", ".join("%s (%s)" % hold for hold in member["holds"]))
+        lines += comment(f"{id} FOR {named(member['holds'])}")
     if member["needed_by"]:
-        lines += comment(member["id"] + " IS NEEDED BY " + ", ".join(member["needed_by"]))
+        lines += comment(f"{id} IS NEEDED BY {', '.join(member['needed_by'])}")
     for kind in ("system", "user"):
         for reason in member[kind]:
-            lines += comment("%s HAS A %s HOLD: %s" % (member["id"], kind.upper(), reason))
+            lines += comment(f"{id} HAS A {kind} HOLD: {reason}")
     return lines
 
 
@@ -88,29 +93,25 @@ def bypass(members):
     lists = [("HOLD" + kind.upper(), found) for kind, found in reasons.items() if found]
     if not lists:
         return []
-    whole = "BYPASS(%s)" % ",".join("%s(%s)" % (name, ",".join(found)) for name, found in lists)
-    if len(whole) <= COLUMNS - 7:
-        return [" /* %s */" % whole]
-    parts = [[name + "(", *(line.strip() for line in list_of(found)), ")"] for name, found in lists]
-    parts[:-1] = [part[:-1] + ["),"] for part in parts[:-1]]
-    return [" /* %s */" % line for line in ["BYPASS(", *(line for part in parts for line in part), ")"]]
+    lines = ["BYPASS(%s)" % ",".join(f"{name}({','.join(found)})" for name, found in lists)]
+    if len(lines[0]) > COLUMNS - 7:
+        parts = ["\n".join([name + "(", *(line.strip() for line in list_of(found)), ")"]) for name, found in lists]
+        lines = ["BYPASS(", *",\n".join(parts).split("\n"), ")"]
+    return [f" /* {line} */" for line in lines]
 
 
 def job_of(zone, members, left_over, title):
     """The job that installs the members. LEFT_OVER says what it can't install, a sentence each."""
-    lines = comment(title) + comment("made by bureau, and not tried on a real z/OS. Read it before you run it.")
-    for sentence in left_over:
-        lines += comment(sentence)
-    if not members:
-        lines += comment("nothing can be installed")
-    to_receive = [member["id"] for member in members if not member["received"]]
-    if to_receive:
+    notes = [title, "made by bureau, and not tried on a real z/OS. Read it before you run it.", *left_over]
+    notes += [] if members else ["nothing can be installed"]
+    lines = [line for note in notes for line in comment(note)]
+    if to_receive := [member["id"] for member in members if not member["received"]]:
         lines += ["", " SET BOUNDARY(GLOBAL).", " RECEIVE SYSMODS SELECT(", *list_of(to_receive), "    )."]
     if members:
-        lines += ["", *(line for member in members for line in about(member)), "", " SET BOUNDARY(%s)." % zone]
+        lines += ["", *(line for member in members for line in about(member)), "", f" SET BOUNDARY({zone})."]
         ids = [member["id"] for member in members]
         lines += [" APPLY CHECK SELECT(", *list_of(ids), "    )", *bypass(members), " ."]
-    return "".join(line + "\n" for line in lines)
+    return "\n".join(lines) + "\n"
 
 
 # --- What a desk answers ------------------------------------------------------------------------------------------------
@@ -129,28 +130,17 @@ def ids_of(value):
     return value
 
 
-def in_form(read, data):
-    """What READ makes of JSON, which has to be of its form."""
-    import json
-
-    try:
-        return read(json.loads(data))
-    except (*NONE_OF_ITS_FORM, RecursionError):
-        raise NoAnswer() from None
-
-
-def members_in(chain):
-    """The ids of the members of a chain that is GOOD."""
-    return [ids_of([member["id"], *ids_of(member["system"]), *ids_of(member["user"])])[0] for member in items_of(chain["plan"])]
-
-
 def chain_in(chain, zone, sysmod):
     if (chain["zone"], chain["sysmod"]) == (zone, sysmod):
         if chain["status"] == "LACK" or chain["status"] == "HELD" and ids_of([chain["blocked"]]):
             return chain
-        if chain["status"] == "GOOD" and sysmod in members_in(chain):
+        if chain["status"] == "GOOD" and sysmod in [ids_of([member["id"], *holds_to_heed(member)])[0] for member in items_of(chain["plan"])]:
             return chain
     raise NoAnswer()
+
+
+def holds_to_heed(member):
+    return [*ids_of(member["system"]), *ids_of(member["user"])]
 
 
 def holds_in(value):
@@ -161,7 +151,7 @@ def member_in(item):
     """A member of a plan, as a job takes it."""
     if not isinstance(item["received"], bool):
         raise NoAnswer()
-    ids_of([item["id"], *ids_of(item["needed_by"]), *ids_of(item["system"]), *ids_of(item["user"])])
+    ids_of([item["id"], *ids_of(item["needed_by"]), *holds_to_heed(item)])
     return {**item, "holds": holds_in(item["holds"])}
 
 
@@ -177,7 +167,12 @@ def age_of(desk, asked):
     level = re.fullmatch(rb"PUBLISHED SYSMODS (\d+) HOLDS (\d+)\n", desk.ask("/published"))
     if not level:
         raise NoAnswer()
-    return "published %s SYSMODs and %s holds, asked %s" % (*(each.decode() for each in level.groups()), asked)
+    sysmods, holds = (each.decode() for each in level.groups())
+    return f"published {sysmods} SYSMODs and {holds} holds, asked {asked}"
+
+
+def now():
+    return time.strftime("%Y-%m-%d %H:%M:%S")
 
 
 # --- The job of SYSMODs with their chains -------------------------------------------------------------------------------
@@ -188,10 +183,10 @@ def members_of(chains, resolved, received):
     members = {}
     for chain in chains:
         for member in chain["plan"]:
-            one = members.setdefault(member["id"], {**member, "holds": [], "needed_by": []})
-            one["received"] = member["id"] in received
-            if member["id"] == chain["sysmod"]:
-                one["holds"] = resolved.get(member["id"], [])
+            id = member["id"]
+            one = members.setdefault(id, {**member, "received": id in received, "holds": [], "needed_by": []})
+            if id == chain["sysmod"]:
+                one["holds"] = resolved.get(id, [])
             else:
                 one["needed_by"].append(chain["sysmod"])
     return [members[id] for id in sorted(members)]
@@ -199,47 +194,38 @@ def members_of(chains, resolved, received):
 
 def why_not(chain):
     if chain["status"] == "HELD":
-        return "%s can't be installed: %s is in the way" % (chain["sysmod"], chain["blocked"])
-    return "%s is not published, or is for a function that the zone lacks" % chain["sysmod"]
+        return f"{chain['sysmod']} can't be installed: {chain['blocked']} is in the way"
+    return f"{chain['sysmod']} is not published, or is for a function that the zone lacks"
 
 
 def resolvers_of(reports):
     """The holds that each resolver resolves, and which resolvers were received."""
     resolved, received = {}, set()
-    for kind, rows in reports.items():
-        for hold, rows in holds_of(kind, rows).items():
+    for kind, all_rows in reports.items():
+        for hold, rows in holds_of(kind, all_rows).items():
             ids_of(list(hold))
             for row in rows:
-                if hold not in resolved.setdefault(row["RESOLVER"], []):
-                    resolved[row["RESOLVER"]].append(hold)
+                resolved.setdefault(row["RESOLVER"], {})[hold] = True
                 received |= {row["RESOLVER"]} if row["RECEIVED"] == "YES" else set()
-    return resolved, received
+    return {resolver: list(holds) for resolver, holds in resolved.items()}, received
 
 
 def received_list(desk):
     """The ids of the received list that this client sent last. It is one that a desk has accepted."""
-    import csv
-
-    from .changes import Changes
-
-    path = Changes(desk).sent("received")
-    data = run.bytes_in(path) if os.path.isfile(path) else b""
-    records = csv.reader(data.decode("utf-8-sig").split("\n"))
+    records = csv.reader((Changes(desk).copy("received") or b"").decode("utf-8-sig").split("\n"))
     return {record[0].strip(" \t") for record in records if record}
 
 
-def job(desk, zone, named):
-    """Of the SYSMODs with their chains. Which members of a chain were received, the rows of both reports tell of resolvers, and the list
-    that was sent of all."""
-    asked, sysmods = time.strftime("%Y-%m-%d %H:%M:%S"), list(dict.fromkeys(named))
+def job_of_chains(desk, zone, sysmods):
+    """Which members of a chain were received, the rows of both reports tell of resolvers, and the list that was sent of all."""
+    asked = now()
     reports = {kind: report_of(desk, kind, zone) for kind in KINDS}
     age = age_of(desk, asked)
-    paths = {sysmod: "/zones/%s/chains/%s" % (escaped(zone), escaped(sysmod)) for sysmod in sysmods}
-    chains = [in_form(lambda chain: chain_in(chain, zone, sysmod), desk.ask(path)) for sysmod, path in paths.items()]
+    chains = [in_form(desk.ask(path_of_chain(zone, each)), lambda chain: chain_in(chain, zone, each), NoAnswer) for each in sysmods]
     resolved, received = resolvers_of(reports)
     good = [chain for chain in chains if chain["status"] == "GOOD"]
     left_over = [why_not(chain) for chain in chains if chain["status"] != "GOOD"]
-    title = "Chain%s of %s in zone %s, %s" % ("s" if len(sysmods) > 1 else "", ", ".join(sysmods), zone, age)
+    title = f"Chain{'s' if len(sysmods) > 1 else ''} of {', '.join(sysmods)} in zone {zone}, {age}"
     run.out(job_of(zone, members_of(good, resolved, received | received_list(desk)), left_over, title))
     for sentence in left_over:
         run.refused(sentence)
@@ -247,29 +233,23 @@ def job(desk, zone, named):
 
 # --- The job of a plan --------------------------------------------------------------------------------------------------
 
-SUBJECTS = {"errsysmods": "exception SYSMODs", "missingfix": "missing fixes"}
-
 
 def several(number, word):
-    return "%d %s%s" % (number, word, "" if number == 1 else "s")
+    return f"{number} {word}{'' if number == 1 else 's'}"
 
 
 def job_of_plan(desk, zone, report):
-    """Of the plan for a report. A plan tells of each member whether it was received."""
-    asked = time.strftime("%Y-%m-%d %H:%M:%S")
+    """A plan tells of each member whether it was received."""
+    asked = now()
     data = ask_plan(desk, zone, report, "plan.json")
     age = age_of(desk, asked)
-    members, unresolved, held = in_form(lambda plan: plan_in(plan, report, zone), data)
-    left_over = [
-        words + ", ".join("%s (%s)" % hold for hold in holds)
-        for words, holds in (("nothing resolves ", unresolved), ("all resolvers are held of ", held))
-        if holds
-    ]
-    title = "Plan for the %s of zone %s, %s" % (SUBJECTS[report], zone, age)
-    run.out(job_of(zone, members, left_over, title))
+    members, unresolved, held = in_form(data, lambda plan: plan_in(plan, report, zone), NoAnswer)
+    left_over = [f"nothing resolves {named(unresolved)}"] if unresolved else []
+    left_over += [f"all resolvers are held of {named(held)}"] if held else []
+    subject, option = ("exception SYSMODs", "") if report == "errsysmods" else ("missing fixes", "--fixes ")
+    run.out(job_of(zone, members, left_over, f"Plan for the {subject} of zone {zone}, {age}"))
     if left_over:
-        option = "--fixes " if report == "missingfix" else ""
-        told = several(len(unresolved), "hold") + " that nothing resolves, and " + several(len(held), "hold")
-        say("left over: %s of which all resolvers are held. 'bureau-client plan %s%s' tells more" % (told, option, zone))
+        told = f"{several(len(unresolved), 'hold')} that nothing resolves, and {several(len(held), 'hold')}"
+        say(f"left over: {told} of which all resolvers are held. 'bureau-client plan {option}{zone}' tells more")
     elif not members:
         say("nothing is to be installed: the plan has no member")

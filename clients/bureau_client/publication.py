@@ -1,34 +1,11 @@
-"""Makes a publication from HOLDDATA and SMPPTFIN as they come.
-
-It names every statement that a desk would refuse.
-
-    publication [--unchecked] [--symptoms CSV] FILE.. >publication.txt
-    publication [--unchecked] [--symptoms CSV] --parts NAME FILE..
-
-A FILE that is - is standard input. It keeps ++FUNCTION, ++PTF, ++APAR, ++USERMOD, ++VER, ++IF, ++HOLD
-and ++RELEASE, each to its period, in columns 1 to 72. It leaves out all other statements, inline
-elements, sequence numbers, and what stands between statements. The program `bureau` judges the rest:
-BUREAU_PROGRAM names it, or it stands in the folder above. A statement that it refuses is left out and
-named on standard error. A SYSMOD goes with its ++VER and ++IF: where one is refused, all are left out.
-
-A line that begins with ++ always begins a statement here, also where a parenthesis or a comment before
-it is open. A file of 80-byte records without line ends is cut into its records. --unchecked judges
-nothing. A desk takes 67,108,864 bytes at once: --parts writes NAME-001.txt, NAME-002.txt and so on, none
-larger than that. Publish them in this order.
-
-It names each SYSMOD of which a desk knows less than SMP/E: those whose ++VERs differ in requisites, since a desk joins
-them, and those with NPRE, which no desk reads. --symptoms writes what SMRTDATA in the COMMENT of a hold says into the
-file CSV: SYSMOD, REASON, DATE, CHGDT, SYMP and FIX. No desk reads that either; `bureau-client errsysmods --csv
---symptoms CSV` joins it to a report.
-
-Exit status: 0 all of it is there; 1 some statement is left out because of a fault, because ++ is not in
-column 1, or because another stands before it on its line, or a file has none, or the publication is too
-large for a desk, and then nothing is printed; 2 the command line is wrong, or there is no program; 3 a
-file can't be read or written.
-"""
+"""Makes a publication from HOLDDATA and SMPPTFIN as they come. publication.txt says how."""
 import itertools
 import os
+import pkgutil
 import re
+import subprocess
+import tempfile
+from collections import Counter
 
 from . import faults, run
 from .run import Stop, csv_line, say
@@ -46,17 +23,15 @@ class Judge:
     """Asks the real program what a desk would answer."""
 
     def __init__(self, folder):
-        self.program = os.environ.get("BUREAU_PROGRAM") or run.program()
-        if not run.is_program(self.program):
+        self.program = run.program()
+        if not self.program:
             raise Stop(2, "there is no program to judge by: set BUREAU_PROGRAM, or say --unchecked")
         self.callers, self.connection = os.path.join(folder, "callers"), os.path.join(folder, "connection")
         with open(self.callers, "wb") as out:
             out.write(b"NAME,TOKEN\nPUBLISH,publisher-token\n")
 
     def answer(self, body):
-        """The three counts where it is accepted, else the number and the line of its first fault."""
-        import subprocess
-
+        """The three counts if it is accepted, else the number and the line of its first fault."""
         head = b"POST /publish HTTP/1.1\r\nbureau-token: publisher-token\r\nbureau-number: 1\r\ncontent-length: %d\r\n\r\n"
         with open(self.connection, "wb") as out:
             out.write(head % len(body) + body)
@@ -65,11 +40,11 @@ class Judge:
         counts = re.match(rb"ACCEPTED SYSMODS (\d+) HOLDS (\d+) RELEASES (\d+)\n", reply)
         fault = re.match(rb"FAULT (\d+) (\d+)\n", reply)
         if made.returncode != 0 or not (counts or fault):
-            raise Stop(2, "%s gives no answer (status %d): %r" % (self.program, made.returncode, made.stdout[:200]))
+            raise Stop(2, f"{self.program} gives no answer (status {made.returncode}): {made.stdout[:200]!r}")
         return tuple(map(int, (counts or fault).groups()))
 
     def judge(self, block, is_inside):
-        """Marks the faults of a block of statements. Where a SYSMOD came before it, a ++VER or a ++IF may begin it.
+        """Marks the faults of a block of statements. If a SYSMOD came before it, a ++VER or a ++IF may begin it.
 
         One without a period is judged alone: in a block it could take in the statements after it."""
         for one in block:
@@ -81,21 +56,18 @@ class Judge:
             for one in left:
                 owner[len(body) + 1] = one
                 body += one.lines
-            answer = self.answer(b"\n".join(body) + b"\n")
-            if len(answer) == 3:
+            fault, line, *is_accepted = answer = self.answer(b"\n".join(body) + b"\n")
+            if is_accepted:
                 break
-            bad = owner[answer[1]]
-            bad.fault = answer[0]
-            left.remove(bad)
+            owner[line].fault = fault
+            left.remove(owner[line])
         verbs = [one.verb for one in left]
         counts = (is_inside + sum(map(verbs.count, HEADERS)), verbs.count(b"HOLD"), verbs.count(b"RELEASE"))
         if answer != counts:
-            raise Stop(2, "a desk counts SYSMODS, HOLDS, RELEASES %s, and here they are %s: please report it" % (answer, counts))
+            raise Stop(2, f"a desk counts SYSMODS, HOLDS, RELEASES {answer}, and here they are {counts}: please report it")
 
 
-def judged(statements):
-    import tempfile
-
+def judge_all(statements):
     with tempfile.TemporaryDirectory(prefix="publication-") as folder:
         judge, is_inside = Judge(folder), False
         for at in range(0, len(statements), BLOCK):
@@ -106,12 +78,11 @@ def judged(statements):
 
 def kept(statements):
     """What is left: a SYSMOD goes with its ++VER and ++IF."""
-    header, bad = None, set()
+    header = None
     for one in statements:
         header = one if one.is_header() else header
         one.header = header if one.verb in (b"VER", b"IF") or one.is_header() else None
-        if one.fault and one.header:
-            bad.add(one.header)
+    bad = {one.header for one in statements if one.fault and one.header}
     return [one for one in statements if not one.fault and one.header not in bad]
 
 
@@ -126,21 +97,19 @@ def which(one):
 
 
 def report(statements, left, lost):
-    """Names each statement with a fault, and the SYSMODs that go with one."""
-    is_left, count_of_faults = set(left), 0
+    """Names each statement with a fault, and the SYSMODs that go with one. Tells how many have a fault."""
+    is_left, faulty = set(left), [one for one in statements if one.fault]
     for one in statements:
         if one.fault:
-            count_of_faults += 1
             told = ": ".join([faults.brief(one.fault), *which(one), shown(one.lines[0])])
-            say("%s, line %d: FAULT %d: %s" % (*one.place, one.fault, told))
+            say(f"{one.place}: FAULT {one.fault}: {told}")
         elif one not in is_left and one.is_header():
-            say("%s, line %d: left out, since a statement of it has a fault: %s" % (*one.place, shown(one.lines[0])))
-    verbs = [one.verb for one in left]
-    count = {verb: verbs.count(verb) for verb in KEPT}
-    counts = (sum(count[verb] for verb in HEADERS), *(count[verb] for verb in KEPT[len(HEADERS) :]), count_of_faults)
-    told = "%d SYSMODs, %d ++VER, %d ++IF, %d ++HOLD, %d ++RELEASE; %d statements with a fault" % counts
-    say(told + (", %d not in column 1" % lost if lost else ""))
-    return count_of_faults
+            say(f"{one.place}: left out, since a statement of it has a fault: {shown(one.lines[0])}")
+    count = Counter(one.verb for one in left)
+    told = ", ".join(f"{count[verb]} ++{verb.decode()}" for verb in KEPT[len(HEADERS) :])
+    told = f"{sum(count[verb] for verb in HEADERS)} SYSMODs, {told}; {len(faulty)} statements with a fault"
+    say(told + (f", {lost} not in column 1" if lost else ""))
+    return len(faulty)
 
 
 # --- What a desk does not read ------------------------------------------------------------------------------------------
@@ -181,7 +150,7 @@ def vers_of(left):
 def name_all(ids, what):
     """Says how many SYSMODs there are, and names each, in lines that can be read."""
     if ids:
-        say("%d SYSMOD%s %s" % (len(ids), "" if len(ids) == 1 else "s", what))
+        say(f"{len(ids)} SYSMOD{'' if len(ids) == 1 else 's'} {what}")
         for at in range(0, len(ids), 10):
             say("    " + " ".join(ids[at : at + 10]))
 
@@ -202,19 +171,18 @@ def symptoms_of(left):
     """A record for each SMRTDATA of a ++HOLD, with what it says."""
     for one in left:
         operands = operands_of(one) if one.verb == b"HOLD" else []
-        texts = {name: b" ".join(text.split()) for name, text in operands}
-        for data in SMRTDATA.finditer(texts.get(b"COMMENT", b"")):
-            said = {name.upper(): b" ".join(re.split(rb"[\s,]+", text.strip(b" ,"))) for name, text in PART.findall(data[1])}
-            yield [texts.get(b"", b""), *(texts.get(name, b"") for name in (b"REASON", b"DATE"))] + [
-                said.get(name.encode(), b"") for name in SYMPTOMS[3:]
-            ]
+        texts = {name.decode("latin-1"): b" ".join(text.split()) for name, text in operands}
+        for data in SMRTDATA.finditer(texts.get("COMMENT", b"")):
+            said = {name.upper().decode(): b" ".join(re.split(rb"[\s,]+", text.strip(b" ,"))) for name, text in PART.findall(data[1])}
+            record = [texts.get("", b""), *map(texts.get, SYMPTOMS[1:3]), *map(said.get, SYMPTOMS[3:])]
+            yield [(each or b"").decode("ascii", "backslashreplace").strip() for each in record]
 
 
 def write_symptoms(path, left):
-    records = [[each.decode("ascii", "backslashreplace").strip() for each in record] for record in symptoms_of(left)]
+    records = list(symptoms_of(left))
     with open(path, "w", encoding="utf-8", newline="\n") as out:
-        out.writelines(csv_line(record) for record in [SYMPTOMS, *records])
-    say("%s has the symptoms of %d holds" % (path, len(records)))
+        out.writelines(map(csv_line, [SYMPTOMS, *records]))
+    say(f"{path} has the symptoms of {len(records)} holds")
 
 
 # --- What is printed ----------------------------------------------------------------------------------------------------
@@ -235,55 +203,46 @@ def parts_of(left):
 
 def write_parts(name, left):
     """Whether each part is one that a desk takes."""
-    all_fit = True
+    sizes = []
     for number, part in enumerate(parts_of(left), 1):
-        path = "%s-%03d.txt" % (name, number)
+        path = f"{name}-{number:03}.txt"
         with open(path, "wb") as out:
-            size = sum(map(out.write, part))
-        all_fit = all_fit and size <= LIMIT
-        say("%s has %d bytes%s" % (path, size, "" if size <= LIMIT else ", which no desk takes"))
-    return all_fit
+            sizes.append(sum(map(out.write, part)))
+        say(f"{path} has {sizes[-1]} bytes" + ("" if sizes[-1] <= LIMIT else ", which no desk takes"))
+    return max(sizes) <= LIMIT
 
 
 def print_all(left):
     """Whether it is printed: a desk would refuse what is too large."""
     size = sum(len(one.bytes()) for one in left)
     if size > LIMIT:
-        say("the publication has %d bytes, and a desk takes 67,108,864: use --parts NAME" % size)
+        say(f"the publication has {size} bytes, and a desk takes 67,108,864: use --parts NAME")
         return False
     for at in range(0, len(left), BLOCK):
         run.out(b"".join(one.bytes() for one in left[at : at + BLOCK]))
     return True
 
 
-def words_of(words):
-    """Whether it is judged, the name of the parts or None, the file for symptoms or None, and the files; or it ends with 2."""
-    is_checked, given = True, {"--parts": None, "--symptoms": None}
-    while words and words[0].startswith("--"):
+def main(words):
+    given = {"--unchecked": None, "--parts": None, "--symptoms": None}
+    while words and words[0] in given:
         option, *words = words
         if option == "--unchecked":
-            is_checked = False
-        elif option in given and words:
+            given[option] = True
+        elif words:
             given[option], *words = words
-        else:
-            words = []
     if not words or any(word.startswith("-") and word != "-" for word in words):
-        run.put(2, (__doc__ + "\n").encode())
-        raise Stop(2)
-    return is_checked, given["--parts"], given["--symptoms"], words
-
-
-def main(words):
-    is_checked, name, symptoms, paths = words_of(words)
+        run.put(2, pkgutil.get_data(__package__, "publication.txt"))
+        return 2
     lost = []
-    statements = [one for path in paths for one in statements_of(path, lost)]
-    if is_checked:
-        judged(statements)
+    statements = [one for path in words for one in statements_of(path, lost)]
+    if not given["--unchecked"]:
+        judge_all(statements)
     left = kept(statements)
     count_of_faults = report(statements, left, sum(1 for _, line in lost if line))
     run.worst = 1 if count_of_faults or lost else 0
     name_differences(left)
-    if symptoms:
-        write_symptoms(symptoms, left)
-    is_done = write_parts(name, left) if name else print_all(left)
-    return 0 if is_done and not count_of_faults and not lost else 1
+    if given["--symptoms"]:
+        write_symptoms(given["--symptoms"], left)
+    is_done = write_parts(given["--parts"], left) if given["--parts"] else print_all(left)
+    return run.worst if is_done else 1

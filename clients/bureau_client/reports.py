@@ -2,11 +2,17 @@
 
 What is printed as the desk gives it is its text. All else is read from the desk's JSON.
 """
+import csv as csv_files
+import functools
 import os
 import re
+from collections import Counter
+from contextlib import suppress
 
 from . import run
-from .desk import escaped
+from .changes import Changes
+from .desk import Unanswered, escaped, in_form, zones_in
+from .lists import rows as rows_in_list
 from .run import NoAnswer, Stop, csv_line, say
 
 KINDS = ("errsysmods", "missingfix")
@@ -19,9 +25,7 @@ COLUMNS = {
 }
 # Which columns make a row the same row.
 KEYS = {"errsysmods": ("SYSMOD", "REASON", "RESOLVER"), "missingfix": ("CATEGORY", "FMID", "REASON", "RESOLVER")}
-
-# What reading JSON of another form raises.
-NONE_OF_ITS_FORM = (ValueError, KeyError, TypeError, AttributeError)
+SYMPTOMS = ("SYSMOD", "REASON", "DATE", "CHGDT", "SYMP", "FIX")  # the columns of a file that `publication --symptoms` writes
 
 
 # --- What a desk answers ------------------------------------------------------------------------------------------------
@@ -37,25 +41,13 @@ def field(value):
 
 def report_of(desk, kind, zone):
     """The rows of a report, each a dictionary of its columns."""
-    whole = desk.ask_json("/zones/%s/%s.json" % (escaped(zone), kind))
-    try:
-        if (whole["report"], whole["zone"]) == (kind, zone):
-            return [{name: field(row[key]) for name, key in COLUMNS[kind].items()} for row in whole["rows"]]
-    except NONE_OF_ITS_FORM:
-        pass
-    raise desk.no_report()
 
+    def rows_in(whole):
+        if (whole["report"], whole["zone"]) != (kind, zone):
+            raise ValueError(whole)
+        return [{name: field(row[key]) for name, key in COLUMNS[kind].items()} for row in whole["rows"]]
 
-def zones_of(desk):
-    """The client's zones, each with the number of its SYSMODs."""
-    whole = desk.ask_json("/zones.json")
-    try:
-        zones = [(row["zone"], row["sysmods"]) for row in whole["zones"]]
-        if all(isinstance(zone, str) and isinstance(count, int) for zone, count in zones):
-            return zones
-    except NONE_OF_ITS_FORM:
-        pass
-    raise desk.no_report()
+    return desk.ask_json(f"/zones/{escaped(zone)}/{kind}.json", rows_in)
 
 
 def text_of(desk, path, first, above):
@@ -67,122 +59,140 @@ def text_of(desk, path, first, above):
 
 
 def report_text(desk, kind, zone):
-    return text_of(desk, "/zones/%s/%s" % (escaped(zone), kind), TITLES[kind] % "REPORT" + zone, 2)
+    return text_of(desk, f"/zones/{escaped(zone)}/{kind}", TITLES[kind] % "REPORT" + zone, 2)
+
+
+def tables_in(lines, fault=NoAnswer):
+    """The tables that stand one after the other: each has a title, a heading, its rows, and their number."""
+    table = []
+    for line in lines:
+        if not re.fullmatch(r"ROWS \d+", line):
+            table.append(line)
+        elif line == f"ROWS {len(table) - 2}":
+            yield table
+            table = []
+        else:
+            raise fault()
+    if table:
+        raise fault()
 
 
 class Text:
     """A report that stands as text. Its heading tells where its columns begin."""
 
     def __init__(self, kind, lines):
-        self.kind, self.zone, self.head = kind, lines[0][len(TITLES[kind] % "REPORT") :], lines[:2]
-        starts = [(found[0], found.start()) for found in re.finditer(r"\S+", lines[1])]
-        ends = [start for _, start in starts[1:]] + [None]
-        self.columns = {name: slice(start, end) for (name, start), end in zip(starts, ends)}
-        self.lines = lines[2:]
+        self.zone, self.head, self.lines, self.keys = lines[0][len(TITLES[kind] % "REPORT") :], lines[:2], lines[2:], KEYS[kind]
+        starts = {found[0]: found.start() for found in re.finditer(r"\S+", lines[1])}
+        self.columns = dict(zip(starts, map(slice, starts.values(), [*list(starts.values())[1:], None])))
 
     def column(self, line, name):
-        return line[self.columns.get(name, slice(0, 0))].rstrip()
+        return line[self.columns.get(name, slice(0))].rstrip()
 
     def by_key(self):
-        return {tuple(self.column(line, name) for name in KEYS[self.kind]): line for line in self.lines}
+        return {tuple(self.column(line, name) for name in self.keys): line for line in self.lines}
 
 
 def texts_in(data):
     """The reports that stand in a text, one after the other, by their kinds."""
     text, found = data.decode(), {}
-    lines = [line.removesuffix("\r") for line in text.removesuffix("\n").split("\n")] if text else []
-    while lines:
+    for lines in tables_in([line.removesuffix("\r") for line in text.removesuffix("\n").split("\n")] if text else ()):
         kind = next((kind for kind in KINDS if lines[0].startswith(TITLES[kind] % "REPORT")), None)
-        end = next((at for at, line in enumerate(lines) if re.fullmatch(r"ROWS \d+", line)), 0)
-        if kind is None or lines[end] != "ROWS %d" % (end - 2):
+        if kind is None:
             raise NoAnswer()
-        found[kind] = Text(kind, lines[:end])
-        lines = lines[end + 1 :]
+        found[kind] = Text(kind, lines)
     return found
 
 
-# --- One report ---------------------------------------------------------------------------------------------------------
+# --- The questions: a function for each command -------------------------------------------------------------------------
 
 
-def print_zones(desk, as_csv):
-    if as_csv:
-        run.out("ZONE,SYSMODS\n" + "".join(csv_line([zone, str(count)]) for zone, count in zones_of(desk)))
+def published(desk):
+    run.out(desk.ask("/published"))
+
+
+def last(desk):
+    run.out(f"{desk.ask_last('client')}\n")
+
+
+def last_publication(desk):
+    run.out(f"{desk.ask_last('publisher')}\n")
+
+
+def zones(desk, csv=False):
+    if csv:
+        run.out("ZONE,SYSMODS\n" + "".join(csv_line([zone, str(count)]) for zone, count in desk.zones()))
     else:
         run.out(text_of(desk, "/zones", "ZONE     SYSMODS", 1))
 
 
-def print_report(desk, kind, zone, as_csv=False, alerts=(), symptoms=None):
-    if as_csv:
+def report(kind, desk, zone, csv=False, alert=(), symptoms=None):
+    if csv:
         rows = report_of(desk, kind, zone)
         classes = {row.get("CLASS") for row in rows}
         answer = with_symptoms(rows, symptoms) if symptoms else csv_line(COLUMNS[kind]) + "".join(csv_line(row.values()) for row in rows)
     else:
         answer = report_text(desk, kind, zone)
-        report = texts_in(answer)[kind] if alerts else None
         rows = not answer.endswith((b"\nROWS 0\n", b"\nROWS 0"))
-        classes = {report.column(line, "CLASS") for line in report.lines} if alerts else ()
-    if rows and ("ANY" in alerts or any(each in classes for each in alerts)):
+        text = texts_in(answer)[kind] if alert else None
+        classes = {text.column(line, "CLASS") for line in text.lines} if alert else ()
+    if rows and ("ANY" in alert or any(each in classes for each in alert)):
         run.ends_with(4)
     run.out(answer)
     if not rows:
         tell_why_empty(desk, kind, zone)
 
 
+errsysmods, missingfix = (functools.partial(report, kind) for kind in KINDS)
+
+
 def with_symptoms(rows, path):
     """The exception SYSMODs with the symptoms of a file. A hold's are those of the last record for its SYSMOD and reason."""
-    import csv
-
-    heading = ["SYSMOD", "REASON", "DATE", "CHGDT", "SYMP", "FIX"]
-    lines = run.bytes_of(path).decode("utf-8-sig").splitlines(True)
-    records = list(csv.reader(lines))
-    if not records or records[0] != heading:
-        say("%s does not begin with %s: publication --symptoms makes such a file" % (path, ",".join(heading)))
-        run.ends_with(1)
+    first, *records = list(csv_files.reader(run.bytes_of(path).decode("utf-8-sig").splitlines(True))) or [None]
+    if first != list(SYMPTOMS):
+        run.refused(f"{path} does not begin with {','.join(SYMPTOMS)}: publication --symptoms makes such a file")
         return ""
-    plain = [[each.removeprefix("'") for each in record] for record in records[1:] if record]
+    plain = [[each.removeprefix("'") for each in record] for record in records if record]
     known = {tuple(record[:2]): record[2:] for record in plain}
     lines = [csv_line([*row.values(), *known.get((row["SYSMOD"], row["REASON"]), [""] * 4)]) for row in rows]
-    return csv_line([*COLUMNS["errsysmods"], *heading[2:]]) + "".join(lines)
+    return csv_line([*COLUMNS["errsysmods"], *SYMPTOMS[2:]]) + "".join(lines)
 
 
 # --- A report without rows ----------------------------------------------------------------------------------------------
 
 
 def categories_sent(desk, zone):
-    """How many fix categories this client sent for a zone, or None where it sent no list. No desk tells which are set."""
-    from .changes import Changes
-    from .lists import rows
-
-    path = Changes(desk).sent("categories/" + zone)
-    return rows(run.bytes_in(path)) if os.path.isfile(path) else None
+    """How many fix categories this client sent for a zone, or None if it sent no list. No desk tells which are set."""
+    copy = Changes(desk).copy("categories/" + zone)
+    return None if copy is None else rows_in_list(copy)
 
 
 def tell_why_empty(desk, kind, zone):
     """Says why a report has no rows, as far as the desk tells it and this client knows what it sent."""
-    if not desk.send("GET", "/published") or desk.status != 200:
-        return
-    level = desk.first_line()
-    if level == "PUBLISHED SYSMODS 0 HOLDS 0":
-        say("nothing is published yet, so there is nothing to report")
-    elif re.fullmatch("PUBLISHED SYSMODS .* HOLDS 0", level):
-        say("no hold is published yet, so there is nothing to report: " + level)
-    elif desk.send("GET", "/zones.json") and desk.status == 200:
-        if (zone, 0) in zones_of(desk):
-            say("the zone %s has no SYSMOD at %s: 'bureau-client zone %s FILE' sends its list" % (zone, desk.url, zone))
-        elif kind == "errsysmods":
-            say("nothing is wrong: of what is published, no ERROR hold concerns the zone %s. %s" % (zone, level))
-        else:
-            tell_of_categories(zone, categories_sent(desk, zone), level)
+    with suppress(Unanswered):
+        desk.send("GET", "/published")
+        level = desk.first_line() if desk.status == 200 else ""
+        if level == "PUBLISHED SYSMODS 0 HOLDS 0":
+            say("nothing is published yet, so there is nothing to report")
+        elif re.fullmatch("PUBLISHED SYSMODS .* HOLDS 0", level):
+            say("no hold is published yet, so there is nothing to report: " + level)
+        elif desk.status == 200:
+            desk.send("GET", "/zones.json")
+            if desk.status == 200:
+                say(why_empty(desk, kind, zone, level))
 
 
-def tell_of_categories(zone, count, level):
+def why_empty(desk, kind, zone, level):
+    if (zone, 0) in in_form(desk.reply, zones_in, desk.no_report):
+        return f"the zone {zone} has no SYSMOD at {desk.url}: 'bureau-client zone {zone} FILE' sends its list"
+    if kind == "errsysmods":
+        return f"nothing is wrong: of what is published, no ERROR hold concerns the zone {zone}. {level}"
+    count = categories_sent(desk, zone)
     if count:
-        say("nothing is wrong: no fix of the categories of the zone %s is missing. %s" % (zone, level))
-    elif count is not None:
-        say("no fix categories are set for the zone %s: the list that was sent has none" % zone)
-    else:
-        text = "no fix categories of the zone %s were sent from here, and without any the report has no rows:"
-        say((text + " 'bureau-client categories %s FILE' sends them") % (zone, zone))
+        return f"nothing is wrong: no fix of the categories of the zone {zone} is missing. {level}"
+    if count == 0:
+        return f"no fix categories are set for the zone {zone}: the list that was sent has none"
+    text = f"no fix categories of the zone {zone} were sent from here, and without any the report has no rows:"
+    return f"{text} 'bureau-client categories {zone} FILE' sends them"
 
 
 # --- The overview -------------------------------------------------------------------------------------------------------
@@ -200,46 +210,33 @@ def holds_of(kind, rows):
     return found
 
 
-def best_of(rows):
-    """What can be done for a hold: GOOD if one of its resolvers is, else HELD if one is, else NONE."""
-    statuses = {row["STATUS"] for row in rows}
-    return next((status for status in ("GOOD", "HELD") if status in statuses), "NONE")
-
-
-def class_of(rows):
-    return rows[0]["CLASS"] if rows[0]["CLASS"] in ("HIPER", "PE") else "OTHER"
-
-
 def counts_of(zone, sysmods, errors, fixes):
-    holds, counts = holds_of("errsysmods", errors), dict.fromkeys(OVERVIEW, 0)
-    counts.update({"ZONE": zone, "SYSMODS": sysmods, "IN-ERROR": len({sysmod for sysmod, _ in holds}), "HOLDS": len(holds)})
+    holds, counts = holds_of("errsysmods", errors), Counter()
     for rows in holds.values():
-        counts[class_of(rows)] += 1
-        counts[best_of(rows)] += 1
-    counts["FIXES"] = len(holds_of("missingfix", fixes))
-    return [str(counts[name]) for name in OVERVIEW]
+        statuses, kind = {row["STATUS"] for row in rows}, rows[0]["CLASS"]
+        counts["GOOD" if "GOOD" in statuses else "HELD" if "HELD" in statuses else "NONE"] += 1
+        counts[kind if kind in ("HIPER", "PE") else "OTHER"] += 1
+    in_error = len({sysmod for sysmod, _ in holds})
+    told = {"ZONE": zone, "SYSMODS": sysmods, "IN-ERROR": in_error, "HOLDS": len(holds), "FIXES": len(holds_of("missingfix", fixes))}
+    return [str(told.get(name, counts[name])) for name in OVERVIEW]
 
 
-def overview(desk, as_csv):
-    if not desk.send("GET", "/zones.json"):
-        raise desk.no_answer()
+def overview(desk, csv=False):
+    desk.send("GET", "/zones.json")
     if desk.status == 403:  # the publisher has no zones
         run.out(desk.ask("/published"))
-        last = desk.ask_last("publisher")
-        if last is None:
-            raise desk.no_answer()
-        return run.out("LAST PUBLICATION %d\n" % last)
+        return run.out(f"LAST PUBLICATION {desk.ask_last('publisher')}\n")
     lines, without = [list(OVERVIEW)], []
-    for zone, sysmods in zones_of(desk):
+    for zone, sysmods in in_form(desk.need_200(), zones_in, desk.no_report):
         errors, fixes = (report_of(desk, kind, zone) for kind in KINDS)
         if not fixes and not categories_sent(desk, zone):
             without.append(zone)
         lines.append(counts_of(zone, sysmods, errors, fixes))
-    if as_csv:
+    if csv:
         run.out("".join(map(csv_line, lines)))
     else:
-        padded = ["".join(field.ljust(width) for field, width in zip(line, OVERVIEW.values())).rstrip() for line in lines]
-        run.out("\n".join([*padded, "ROWS %d\n" % (len(lines) - 1)]).encode() + desk.ask("/published"))
+        padded = ["".join(map(str.ljust, line, OVERVIEW.values())).rstrip() for line in lines]
+        run.out("\n".join([*padded, f"ROWS {len(lines) - 1}\n"]).encode() + desk.ask("/published"))
     if without:
         say("no fix categories were sent from here, so that FIXES may be 0 for that: " + " ".join(without))
 
@@ -250,25 +247,23 @@ def overview(desk, as_csv):
 def changes_of(old, new):
     """The lines on what came, went and changed from one report to another, each with a word in front."""
     before, after = old.by_key(), new.by_key()
-    came = [line for key, line in after.items() if key not in before]
-    went = [line for key, line in before.items() if key not in after]
-    changed = [(before[key], line) for key, line in after.items() if before.get(key, line) != line]
-    lines = ["CAME " + line for line in came] + ["WENT " + line for line in went]
-    lines += [word + line for pair in changed for word, line in zip(("WAS  ", "NOW  "), pair)]
-    counts = "CAME %d WENT %d CHANGED %d" % (len(came), len(went), len(changed))
-    return "".join(line + "\n" for line in [new.head[0], "     " + new.head[1], *lines, counts]) if lines else ""
+    came = ["CAME " + line for key, line in after.items() if key not in before]
+    went = ["WENT " + line for key, line in before.items() if key not in after]
+    changed = [f"WAS  {before[key]}\nNOW  {line}" for key, line in after.items() if before.get(key, line) != line]
+    if not came + went + changed:
+        return ""
+    counts = f"CAME {len(came)} WENT {len(went)} CHANGED {len(changed)}"
+    return "\n".join([new.head[0], "     " + new.head[1], *came, *went, *changed, counts]) + "\n"
 
 
-def news(desk, zone, since):
+def news(desk, zone, since=""):
     """Prints what came, went or changed since the last news, or since the report in a file. The reports of the last news stand in the
     folder of the desk. They are replaced once the news is told."""
-    from .changes import Changes
-
-    kept = "%s/news/%s" % (Changes(desk).folder, zone)
+    kept = f"{Changes(desk).folder}/news/{zone}"
     old = run.bytes_of(since) if since else run.bytes_in(kept) if os.path.isfile(kept) else None
     new = b"".join(report_text(desk, kind, zone) for kind in KINDS)
     if old is None:
-        say("this is the first news of the zone %s: the next tells what came, went or changed from now on" % zone)
+        say(f"this is the first news of the zone {zone}: the next tells what came, went or changed from now on")
     else:
         run.out(what_is_new(zone, old, new, since or kept))
     if not since:
@@ -277,12 +272,10 @@ def news(desk, zone, since):
 
 
 def what_is_new(zone, old, new, path):
-    new = texts_in(new)
-    try:
-        old = texts_in(old)
-    except (NoAnswer, UnicodeDecodeError):
-        old = {}
-    if not old or any(report.zone != zone for report in old.values()):
-        say("what was kept is no report on the zone %s" % zone)
+    new, reports = texts_in(new), {}
+    with suppress(NoAnswer, UnicodeDecodeError):
+        reports = texts_in(old)
+    if not reports or any(report.zone != zone for report in reports.values()):
+        say(f"what was kept is no report on the zone {zone}")
         raise Stop(1, "nothing can be told of " + path)
-    return "".join(changes_of(old[kind], report) for kind, report in new.items() if kind in old)
+    return "".join(changes_of(reports[kind], report) for kind, report in new.items() if kind in reports)

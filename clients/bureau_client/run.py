@@ -1,5 +1,11 @@
-"""What a run says, what it prints, and how it ends."""
+"""What a run says, what it prints and writes, and how it ends."""
 import os
+import re
+import subprocess
+from contextlib import contextmanager, suppress
+from pathlib import Path
+
+ID = re.compile("[A-Z0-9@#$]{1,7}")
 
 name = "bureau-client"
 worst = 0  # the status of a run that goes on to its end
@@ -17,15 +23,21 @@ class Stop(Exception):
 class Closed(Stop):
     """Whoever reads what is printed has gone, as `head` does. A question ends there without a word."""
 
-    def __init__(self):
-        super().__init__(3, "the answer can't be written")
-
 
 class NoAnswer(Stop):
     """What came is no answer of a desk."""
 
     def __init__(self):
         super().__init__(3, "what came is no answer of a desk")
+
+
+@contextmanager
+def or_stop(text):
+    """If the system refuses what is done inside, the run stops and says this."""
+    try:
+        yield
+    except OSError:
+        raise Stop(3, text) from None
 
 
 def put(number, data):
@@ -35,10 +47,8 @@ def put(number, data):
 
 def say(text):
     """Tells the user something, on standard error."""
-    try:
+    with suppress(OSError):  # nobody listens
         put(2, os.fsencode("%s: %s\n" % (name, text)))
-    except OSError:
-        pass  # nobody listens
 
 
 def ends_with(status):
@@ -58,15 +68,12 @@ def out(data):
     data = data.encode("utf-8", "surrogateescape") if isinstance(data, str) else data
     try:
         put(1, memoryview(converted(data, "UTF-8", code) if code else data))
-    except BrokenPipeError:
-        raise Closed() from None
-    except OSError:
-        raise Stop(3, "the answer can't be written") from None
+    except OSError as fault:
+        kind = Closed if isinstance(fault, BrokenPipeError) else Stop
+        raise kind(3, "the answer can't be written") from None
 
 
 def converted(data, before, after):
-    import subprocess
-
     made = subprocess.run(["iconv", "-f", before, "-t", after], input=data, stdout=subprocess.PIPE)
     if made.returncode:
         raise OSError("iconv ended with %d" % made.returncode)
@@ -80,54 +87,42 @@ def bytes_in(path):
 
 def bytes_of(path, text=None):
     """The bytes of a user's file as a desk reads them. TEXT is said where that fails."""
-    try:
+    with or_stop(text or "'%s' can't be read" % path):
         data = bytes_in(path)
         return converted(data, code, "UTF-8") if code else data
-    except OSError:
-        raise Stop(3, text or "'%s' can't be read" % path) from None
 
 
 def write(path, data):
     """Writes a file. It is whole at each moment."""
-    try:
+    with or_stop("%s can't be written" % path):
         with open(path + ".new", "wb") as file:
             file.write(data)
         os.replace(path + ".new", path)
-    except OSError:
-        raise Stop(3, "%s can't be written" % path) from None
 
 
 def remove(*paths):
     for path in paths:
-        try:
+        with suppress(FileNotFoundError):
             os.remove(path)
-        except FileNotFoundError:
-            pass
 
 
-def make_folder(*paths):
-    for path in paths:
-        try:
-            os.makedirs(path, exist_ok=True)
-        except OSError:
-            raise Stop(3, "%s can't be made" % path) from None
+def make_folder(path, text=None):
+    with or_stop(text or "%s can't be made" % path):
+        os.makedirs(path, exist_ok=True)
 
 
-def field_of(text):
-    """A field of CSV. A text that a spreadsheet would take for a formula gets an apostrophe in front."""
-    safe = "'" + text if text[:1] in tuple("=+-@") else text
-    return '"%s"' % safe.replace('"', '""') if '"' in safe or "," in safe else safe
+def need_file(path):
+    if not os.path.isfile(path) or not os.access(path, os.R_OK):
+        raise Stop(2, f"the file '{path}' is not there, or may not be read")
 
 
 def csv_line(fields):
-    return ",".join(map(field_of, fields)) + "\n"
+    """A line of CSV. A text that a spreadsheet would take for a formula gets an apostrophe in front."""
+    safe = ["'" + text if text.startswith(tuple("=+-@")) else text for text in fields]
+    return ",".join('"%s"' % text.replace('"', '""') if '"' in text or "," in text else text for text in safe) + "\n"
 
 
 def program():
-    """The program `bureau` that stands beside the clients."""
-    here = os.path.realpath(__file__)
-    return os.path.join(os.path.dirname(os.path.dirname(os.path.dirname(here))), "bureau")
-
-
-def is_program(path):
-    return os.access(path, os.X_OK) and not os.path.isdir(path)
+    """The program `bureau`, or None: BUREAU_PROGRAM names it, or it stands in the folder above the clients."""
+    path = os.environ.get("BUREAU_PROGRAM") or str(Path(__file__).resolve().parents[2] / "bureau")
+    return path if os.access(path, os.X_OK) and not os.path.isdir(path) else None

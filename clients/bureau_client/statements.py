@@ -1,6 +1,7 @@
 """The statements of HOLDDATA and SMPPTFIN, as the files come: each to its period, in columns 1 to 72."""
 import itertools
 import re
+from dataclasses import dataclass
 
 from .run import say
 
@@ -15,12 +16,16 @@ LIST = re.compile(rb"([A-Za-z0-9@#$]*)[ \t,]*\(([^()]*)\)")
 FRONT = 64000  # bytes that tell what a file is: a whole number of 80-byte records
 
 
+@dataclass(eq=False)
 class Statement:
     """One statement: where it stands, and its lines, cut at column 72 and after its period."""
 
-    def __init__(self, place, verb, lines, is_open):
-        self.place, self.verb, self.lines, self.is_open = place, verb, lines, is_open
-        self.fault = self.header = None
+    place: str
+    verb: bytes
+    lines: list
+    is_open: bool  # no period ends it
+    fault: int = 0
+    header: "Statement" = None
 
     def is_header(self):
         return self.verb in HEADERS
@@ -94,7 +99,7 @@ def statement_of(path, first, verb, lines, lost):
         for more, line in enumerate(lines[number + 1 :], first + number + 1):
             name_lost(path, more, line, lost)
         lines = lines[:number] + [lines[number][:column]]
-    return Statement((path, first), verb, [line.rstrip() for line in lines], end is None)
+    return Statement(f"{path}, line {first}", verb, [line.rstrip() for line in lines], end is None)
 
 
 def name_lost(path, number, text, lost):

@@ -6,25 +6,21 @@ FILE is the text that LIST SYSMODS prints (SMPLIST), or the JSON of z/OSMF's que
     APPLIED      is one with STATUS APP; in JSON one with INSTALLDATE
     ACCEPTED     is one with STATUS ACC and not APP
 
-Left out, and named on standard error, are those in error (an APPLY or ACCEPT did not end), those with RESTORE = YES (a RESTORE did
-not end), those that a function deleted, and those of which nothing of this is said.
-
-Exit status: 0 done; 1 the zone is not in FILE, or its list has no row or over 40,000, or FILE is EBCDIC, or no answer of z/OSMF yet;
-2 the command line is wrong; 3 a file can't be read. Only with 0 is anything printed: a list with its header alone would empty the
+Others are left out, and named on standard error. The exit status is 1 if the zone is not in FILE, or its list has no row or over
+40,000, or FILE is EBCDIC, or no answer of z/OSMF yet. Only with 0 is anything printed: a list with its header alone would empty the
 zone at the desk. (A received list may have no row.)
 """
+import json
 import os
+import pkgutil
 import re
+import shutil
+import tempfile
 from collections import Counter
 
 from . import run
-from .run import Stop, say
+from .run import Stop
 
-USAGE = """\
-zone-csv zone ZONE FILE               prints the zone's list: SYSMOD,STATE
-zone-csv received FILE                prints the list of received SYSMODs: those of the zone GLOBAL
-zone-csv --accepted zone ZONE FILE    the same of a distribution zone, where FILE is JSON
-"""
 HEADING = re.compile(r"[01+-]? *[A-Z@#$][A-Z0-9@#$]* +[A-Z/ ]+ENTRIES *")
 PAGE = re.compile(r"1? *PAGE +[0-9]+ ")
 NAME = re.compile("[A-Z0-9@#$]+")
@@ -50,6 +46,19 @@ FIELDS = """TYPE STATUS FMID DATE/TIME REC INS APP ACC SREL DELETE DELBY SUPBY S
   RSZAP RXZAP HOLDERROR HOLDSYSTEM HOLDUSER HOLDFIXCAT HOLDCLASS BYPASS REGEN ACCEPT APPLY SOURCEID DESCRIPTION UCLDATE HFS JAR PROGRAM
   PROGRAMS RECDATE INSTALLDATE SMODTYPE RFMID FILE DATA ELEMENT XREF CATEGORY RESOLVER LEPARM SHELLSCR SYMLINK""".split()
 STATUS = ("REC", "APP", "ACC", "RES", "DEL", "SUP", "NOT", "IDR", "BYP", "CRQ", "REGEN", "JCLIN", "RESTORE")
+
+
+def tell(text):
+    """Says what has names of a file, which may be no text at all."""
+    run.put(2, f"zone-csv: {text}\n".encode("latin-1", "surrogateescape"))
+
+
+def some(names):
+    """How many names there are, and the first of them."""
+    return f"({' '.join(list(names)[:20])}{' ..' if len(names) > 20 else ''})"
+
+
+# --- SMPLIST ------------------------------------------------------------------------------------------------------------
 
 
 def words_of(text):
@@ -79,32 +88,36 @@ def lines_of(source, zone):
             is_ours = words_of(without_control(line))[:2] == [zone, "SYSMOD"]
             if not is_ours:
                 yield None
-            continue
-        line = without_control(line) if has_control else line
-        bare = line.strip(" ")
-        if is_ours and bare and not ("PAGE" in line and PAGE.match(line)) and bare != "NAME":
-            yield line
+        elif is_ours:
+            line = without_control(line) if has_control else line
+            bare = line.strip(" ")
+            if bare and not ("PAGE" in line and PAGE.match(line)) and bare != "NAME":
+                yield line
+
+
+def entry_of(line):
+    """The name that begins an entry, or None where none begins, and what is said of it. It begins in the first columns, and what is said of
+    it stands further right. A name may have a character that none has, such as one of another code page."""
+    found = ENTRY.match(line) if line[:2] != "  " else None
+    if not found:
+        return None, line
+    name, text = found[1], line[found.end() :]
+    if re.match(" +[A-Z]", text) and (NAME.fullmatch(name) or "=" in text):
+        return name, text
+    tell("no entry begins with this line, and it is passed over: " + line)
+    return None, None
 
 
 def from_text(source, zone):
     """Each SYSMOD of a zone, with what a listing says of it."""
     said, name, field, unknown = {}, None, "", {"fields": Counter(), "words of STATUS": Counter()}
     for line in lines_of(source, zone):
-        if line is None:
-            name = None
-            continue
-        text = line
-        # An entry begins with its name in the first columns; what is said of it stands further right. A name may have a character that
-        # none has, such as one of another code page.
-        if line[:2] != "  " and (found := ENTRY.match(line)):
-            name, text, field = found[1], line[found.end() :], ""
-            if not re.match(" +[A-Z]", text) or not NAME.fullmatch(name) and "=" not in text:
-                run.put(2, b"zone-csv: no entry begins with this line, and it is passed over: " + line.encode("latin-1") + b"\n")
-                name = None
-                continue
-            said.setdefault(name, [])
+        begun, text = entry_of(line) if line is not None else (None, None)
+        if begun or text is None:
+            name, field = begun, ""
         if name is None:
             continue
+        words = said.setdefault(name, [])
         if "=" in text:
             field, text = text.split("=", 1)
             field = field.strip(" ").partition(" ")[0].partition("(")[0]  # such as SUPBY of `SUPBY  (IMM)`
@@ -113,12 +126,12 @@ def from_text(source, zone):
         for word in words_of(text) if field in SAYING else ():
             if field == "STATUS" and word not in STATUS and not word.startswith("ERR"):
                 unknown["words of STATUS"][word] += 1
-            if (what := said_of(field, word)) and what not in said[name]:
-                said[name].append(what)
+            if (what := said_of(field, word)) and what not in words:
+                words.append(what)
     for kind, count in unknown.items():
         if count:
-            tell("passed over, unknown %s: %d (%s)" % (kind, sum(count.values()), some(list(count))))
-    return [(name, words) for name, words in said.items()]
+            tell(f"passed over, unknown {kind}: {sum(count.values())} {some(count)}")
+    return list(said.items())
 
 
 # --- JSON ---------------------------------------------------------------------------------------------------------------
@@ -132,56 +145,65 @@ def small(thing):
 def texts(value):
     if isinstance(value, list):
         return [text for one in value for text in texts(one)]
-    return [str(value).strip()] if value not in (None, "") else []
+    text = "" if value is None else str(value).strip()
+    return [text] if text else []
 
 
 def fields_of(entry):
     """What is said of an entry: an object, or a list of objects; each value a text or a list of texts."""
-    parts = entry.get("subentries", entry)
-    found = {}
-    for part in parts if isinstance(parts, list) else [parts]:
-        part = small(part)
+    parts, found = entry.get("subentries", entry), {}
+    for part in map(small, parts if isinstance(parts, list) else [parts]):
         if "name" in part or "subentry" in part:
-            name = str(part.get("name", part.get("subentry"))).lower()
-            part = {name: part.get("values", part.get("value", part.get("data")))}
+            part = {str(part.get("name", part.get("subentry"))).lower(): part.get("values", part.get("value", part.get("data")))}
         for name, value in part.items():
-            found.setdefault(name, []).extend(text for text in texts(value) if text)
+            found.setdefault(name, []).extend(texts(value))
     return found
 
 
-def from_json(data, zone, installed):
-    """Each SYSMOD of a zone, with what JSON says of it. INSTALLED is APP or ACC."""
-    import json
+def said_in(what, installed):
+    """What the fields of an entry say of a SYSMOD. INSTALLED is APP or ACC."""
+    if what.get("installdate"):
+        yield installed
+    if what.get("recdate"):
+        yield "REC"
+    for name in ("error", "restore"):
+        if "YES" in [text.upper() for text in what.get(name, ())]:
+            yield name.upper()
+    if what.get("supby") or what.get("lastsup"):
+        yield "SUPBY"
+    if what.get("delby"):
+        yield "DELBY"
 
+
+def from_json(data, zone, installed):
+    """Each SYSMOD of a zone, with what JSON says of it."""
     try:
         answer = json.loads(data.decode("utf-8", "surrogateescape"))
     except (ValueError, RecursionError) as fault:
-        raise Stop(3, "the file is no JSON: %s" % fault) from None
+        raise Stop(3, f"the file is no JSON: {fault}") from None
     whole = small(answer)
     if "entries" not in whole and "statusurl" in whole:
         text = "z/OSMF is still at work: it answered 202, and an address to ask again. Ask there until it answers 200 with entries, and"
-        more = " take that answer: curl --user USER --header X-CSRF-ZOSMF-HEADER:bureau %s"
-        raise Stop(1, (text + more) % whole["statusurl"])
-    entries = whole.get("entries", answer) if isinstance(answer, dict) else answer
-    found = []
+        raise Stop(1, f"{text} take that answer: curl --user USER --header X-CSRF-ZOSMF-HEADER:bureau {whole['statusurl']}")
+    entries, found = whole.get("entries", answer), []
     for entry in map(small, entries if isinstance(entries, list) else []):
-        is_sysmod = str(entry.get("entrytype", "SYSMOD")).upper() == "SYSMOD"
-        if not is_sysmod or str(entry.get("zonename", zone)).upper() != zone:
-            continue
-        what = fields_of(entry)
-        is_yes = lambda name: "YES" in [text.upper() for text in what.get(name, [])]
-        words = [(installed, what.get("installdate")), ("REC", what.get("recdate")), ("ERROR", is_yes("error")), ("RESTORE", is_yes("restore"))]
-        words += [("SUPBY", what.get("supby") or what.get("lastsup")), ("DELBY", what.get("delby"))]
-        name = str(entry.get("entryname", "")).strip().encode("utf-8", "replace").decode("latin-1")
-        found.append((name, [word for word, is_said in words if is_said]))
+        if str(entry.get("entrytype", "SYSMOD")).upper() == "SYSMOD" and str(entry.get("zonename", zone)).upper() == zone:
+            name = str(entry.get("entryname", "")).strip().encode("utf-8", "replace").decode("latin-1")
+            found.append((name, list(said_in(fields_of(entry), installed))))
     return found
 
 
 # --- The list -----------------------------------------------------------------------------------------------------------
 
-# What is said of a SYSMOD, in the order in which it counts, with its state in the list or with why it is left out.
-STATES = {"DELBY": None, "SUPBY": "SUPERSEDED", "ERROR": None, "RESTORE": None, "APP": "APPLIED", "ACC": "ACCEPTED"}
-WHY = {"ERROR": "in error", "DELBY": "deleted by a function", "RESTORE": "whose RESTORE did not end"}
+# What is said of a SYSMOD, in the order in which it counts, with its state in the list, and with why it is left out if it has none.
+STATES = {
+    "DELBY": (None, "deleted by a function"),
+    "SUPBY": ("SUPERSEDED", "not installed"),
+    "ERROR": (None, "in error"),
+    "RESTORE": (None, "whose RESTORE did not end"),
+    "APP": ("APPLIED", "not installed"),
+    "ACC": ("ACCEPTED", "not installed"),
+}
 NO_NAME = "without a name that is 1 to 7 of A-Z 0-9 @ # $"
 # The order in which they are told.
 TOLD = ("ACCEPTED", "SUPERSEDED", "APPLIED", "RECEIVED")
@@ -189,45 +211,32 @@ TOLD_LEFT_OUT = ("in error", "not received", NO_NAME, "deleted by a function", "
 
 
 def state_of(words, what):
-    """The state of a SYSMOD in a list and None, or None and why it is left out."""
+    """The state of a SYSMOD in a list, or None, and why it is left out."""
     if what == "received":
         return ("RECEIVED", None) if "REC" in words else (None, "not received")
-    first = next((word for word in STATES if word in words), None)
-    return STATES.get(first), WHY.get(first, "not installed")
+    return next((STATES[word] for word in STATES if word in words), (None, "not installed"))
 
 
 def as_list(said, zone, what):
     """The rows of a list. On standard error stands what it has, and what it leaves out."""
     listed, left_out = {}, {}
     for name, words in sorted({(name, tuple(words)) for name, words in said}):
-        is_name = NAME.fullmatch(name) and len(name) <= 7
-        state, why = state_of(words, what) if is_name else (None, NO_NAME)
+        state, why = state_of(words, what) if run.ID.fullmatch(name) else (None, NO_NAME)
         if state is None:
             left_out.setdefault(why, []).append(name)
         else:
             listed.setdefault(name, state)
-    states = list(listed.values())
-    counts = [" %d %s" % (states.count(state), state) for state in TOLD if state in states]
-    tell("%s:%s" % (zone, "".join(counts) or " no rows"))
-    for why, names in sorted(left_out.items(), key=lambda item: TOLD_LEFT_OUT.index(item[0])):
-        tell("left out, %s: %d (%s)" % (why, len(names), some(names)))
+    count = Counter(listed.values())
+    tell(f"{zone}:" + ("".join(f" {count[state]} {state}" for state in TOLD if count[state]) or " no rows"))
+    for why in filter(left_out.get, TOLD_LEFT_OUT):
+        tell(f"left out, {why}: {len(left_out[why])} {some(left_out[why])}")
     if not said:
-        raise Stop(1, "FILE says nothing of SYSMODs of the zone %s" % zone)
+        raise Stop(1, f"FILE says nothing of SYSMODs of the zone {zone}")
     if len(listed) > 40000:
         raise Stop(1, "the list has over 40,000 rows, which no desk takes")
     if not listed and what != "received":
-        raise Stop(1, "nothing is installed in the zone %s, as FILE has it" % zone)
+        raise Stop(1, f"nothing is installed in the zone {zone}, as FILE has it")
     return listed
-
-
-def some(names):
-    """The first of many names."""
-    return " ".join(names[:20]) + (" .." if len(names) > 20 else "")
-
-
-def tell(text):
-    """Says what has names of a file, which may be no text at all."""
-    run.put(2, ("zone-csv: %s\n" % text).encode("latin-1", "surrogateescape"))
 
 
 def source_of(path):
@@ -235,10 +244,7 @@ def source_of(path):
     if path != "-":
         if os.path.isfile(path):
             return open(path, "rb")
-        raise Stop(3, "the file '%s' can't be read" % path)
-    import shutil
-    import tempfile
-
+        raise Stop(3, f"the file '{path}' can't be read")
     source = tempfile.TemporaryFile()
     with open(0, "rb", closefd=False) as given:
         shutil.copyfileobj(given, source)
@@ -261,16 +267,14 @@ def main(words):
     installed = "APP"
     if words[:1] == ["--accepted"]:
         installed, words = "ACC", words[1:]
-    if words[:1] == ["zone"] and len(words) == 3:
-        what, zone, path = words
-    elif words[:1] == ["received"] and len(words) == 2:
-        what, zone, path = "received", "GLOBAL", words[1]
-    else:
-        run.put(2, USAGE.encode())
+    what, *named = words or [""]
+    if {"zone": 2, "received": 1}.get(what) != len(named):
+        run.put(2, pkgutil.get_data(__package__, "zone-csv.txt"))
         return 2
+    zone, path = ["GLOBAL", *named][-2:]
     with source_of(path) as source:
         if is_ebcdic(source):
-            raise Stop(1, "%s is EBCDIC. Transfer it as text, or convert it: iconv -f IBM-1047 -t UTF-8 <FILE >NEW" % path)
+            raise Stop(1, f"{path} is EBCDIC. Transfer it as text, or convert it: iconv -f IBM-1047 -t UTF-8 <FILE >NEW")
         source.seek(0)
         front = next((line.lstrip(b" \t\r\n") for line in source if line.strip(b" \t\r\n")), b"")
         source.seek(0)
