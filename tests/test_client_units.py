@@ -179,9 +179,22 @@ class Jobs(unittest.TestCase):
         self.assertLessEqual(max(map(len, jobs.list_of(ids))), 71)
 
     def test_no_id(self):
+        self.assertTrue(desk.fits([], [run.ID]) and desk.fits(["UJ1", "A#$@"], [run.ID]))
         for value in (["a"], ["UJ1 */"], [7], [None], "UJ1", None):
-            with self.assertRaises(run.NoAnswer):
-                jobs.ids_of(value)
+            self.assertFalse(desk.fits(value, [run.ID]), value)
+
+    def test_forms(self):
+        """An object has the keys of its form, and may have more."""
+        for value, form, wanted in (
+            ({"a": True, "b": 1}, {"a": bool}, True),
+            ({"a": 1}, {"a": bool}, False),
+            ({}, {"a": bool}, False),
+            ([{"a": []}], [{"a": [run.ID]}], True),
+            ({"a": {}}, {"a": [run.ID]}, False),
+            ({"a": None}, {"a": (str, type(None))}, True),
+            ({"a": "x"}, {"a": "y"}, False),
+        ):
+            self.assertEqual(desk.fits(value, form), wanted, (value, form))
 
 
 class Statements(unittest.TestCase):

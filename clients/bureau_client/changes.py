@@ -231,9 +231,9 @@ class Changes:
         run.remove(self.sent(sent))
         if got != expected:
             self.is_known = False
-            text = f"number {number} of {self.desk.url} was answered '{got}', and this change should get '{expected}'. The kept reply is"
-            more = "that of another change, so another program sends with this token. This change was probably not made: look, and send it again"
-            refused(f"{text} {more}")
+            text = f"number {number} of {self.desk.url} was answered '{got}', and this change should get '{expected}'. The kept reply is that"
+            more = "of another change, so another program sends with this token. This change was probably not made: look, and send it"
+            refused(f"{text} {more} again")
             return False
         if body is not None:
             run.write(self.sent(sent), body)

@@ -11,12 +11,12 @@ from http.client import HTTPConnection, HTTPException, HTTPSConnection, InvalidU
 from urllib.parse import unquote, urlsplit
 
 from . import faults
-from .run import Stop, refused, say
+from .run import ID, Stop, refused, say
 
 GREATEST = 9223372036854775807
 PIECE = 1 << 16
 HEAD = 1 << 20  # bytes, which no head has
-NONE_OF_ITS_FORM = (ValueError, KeyError, TypeError, AttributeError, RecursionError)  # what reading JSON of another form raises
+ZONES = {"zones": [{"zone": str, "sysmods": int}]}
 
 # What a status says. Each other is told with the answer.
 SAID = {
@@ -40,20 +40,30 @@ def escaped(name):
     return name.replace("#", "%23")
 
 
-def zones_in(whole):
-    """The client's zones, each with the number of its SYSMODs."""
-    zones = [(row["zone"], row["sysmods"]) for row in whole["zones"]]
-    if not all(isinstance(zone, str) and isinstance(count, int) for zone, count in zones):
-        raise TypeError(zones)
-    return zones
+def fits(value, form):
+    """Whether JSON has a form: an object with these keys and perhaps more, a list of one form, an id, a value of a type, or this value."""
+    if isinstance(form, dict):
+        return isinstance(value, dict) and all(key in value and fits(value[key], each) for key, each in form.items())
+    if isinstance(form, list):
+        return isinstance(value, list) and all(fits(each, form[0]) for each in value)
+    if form is ID:
+        return isinstance(value, str) and bool(ID.fullmatch(value))
+    return isinstance(value, form) if isinstance(form, (type, tuple)) else value == form
 
 
 def in_form(data, form, fault):
-    """What FORM makes of JSON, which has to be of its form."""
+    """What JSON has, which has to be of a form."""
     try:
-        return form(json.loads(data))
-    except NONE_OF_ITS_FORM:
+        value = json.loads(data)
+    except (ValueError, RecursionError):
         raise fault() from None
+    if not fits(value, form):
+        raise fault()
+    return value
+
+
+def zones_in(whole):
+    return [(row["zone"], row["sysmods"]) for row in whole["zones"]]
 
 
 def why(fault):
@@ -180,7 +190,8 @@ class Desk:
         return in_form(self.ask(path), form, self.no_report)
 
     def zones(self):
-        return self.ask_json("/zones.json", zones_in)
+        """The client's zones, each with the number of its SYSMODs."""
+        return zones_in(self.ask_json("/zones.json", ZONES))
 
     def ask_last(self, caller, more=""):
         """The number of the last change. A change with the greatest number changes nothing: the desk answers with the last number."""

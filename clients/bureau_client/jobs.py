@@ -6,7 +6,7 @@ import time
 
 from . import run
 from .changes import Changes
-from .desk import escaped, in_form
+from .desk import escaped, fits, in_form
 from .reports import KINDS, TITLES, holds_of, report_of, tables_in, tell_why_empty
 from .run import ID, NoAnswer, Stop, say
 
@@ -23,7 +23,7 @@ def chain(desk, zone, sysmod):
 
 
 def plan(desk, zone, fixes=False):
-    report = KINDS[fixes]
+    report = report_for(fixes)
     data = ask_plan(desk, zone, report, "plan")
     tables = list(tables_in(data.decode("latin-1").removesuffix("\n").split("\n"), desk.no_report))
     if tables[0][0] != TITLES[report] % "PLAN" + zone:
@@ -37,7 +37,11 @@ def job(desk, zone, *sysmods, fixes=False):
     if sysmods:
         job_of_chains(desk, zone, list(dict.fromkeys(sysmods)))
     else:
-        job_of_plan(desk, zone, KINDS[fixes])
+        job_of_plan(desk, zone, report_for(fixes))
+
+
+def report_for(fixes):
+    return "missingfix" if fixes else "errsysmods"
 
 
 def path_of_chain(zone, sysmod):
@@ -117,49 +121,22 @@ def job_of(zone, members, left_over, title):
 # --- What a desk answers ------------------------------------------------------------------------------------------------
 
 
-def items_of(value):
-    if not isinstance(value, list):
+# What stands in a job goes to SMP/E as statements: so each id has to be one.
+MEMBER = {"id": ID, "system": [ID], "user": [ID]}
+HOLD = {"sysmod": ID, "reason": ID}
+PLAN = {"members": [{**MEMBER, "received": bool, "needed_by": [ID], "holds": [HOLD]}], "unresolved": [HOLD], "held": [HOLD]}
+CHAINS = ({"status": "LACK"}, {"status": "HELD", "blocked": ID}, {"status": "GOOD", "plan": [MEMBER]})
+
+
+def ask_chain(desk, zone, sysmod):
+    chain = in_form(desk.ask(path_of_chain(zone, sysmod)), {"zone": zone, "sysmod": sysmod}, NoAnswer)
+    if not any(fits(chain, form) for form in CHAINS) or chain["status"] == "GOOD" and sysmod not in [each["id"] for each in chain["plan"]]:
         raise NoAnswer()
-    return value
+    return chain
 
 
-def ids_of(value):
-    """A list of ids, and of nothing else: what stands in a job goes to SMP/E as statements."""
-    if not all(isinstance(item, str) and ID.fullmatch(item) for item in items_of(value)):
-        raise NoAnswer()
-    return value
-
-
-def chain_in(chain, zone, sysmod):
-    if (chain["zone"], chain["sysmod"]) == (zone, sysmod):
-        if chain["status"] == "LACK" or chain["status"] == "HELD" and ids_of([chain["blocked"]]):
-            return chain
-        if chain["status"] == "GOOD" and sysmod in [ids_of([member["id"], *holds_to_heed(member)])[0] for member in items_of(chain["plan"])]:
-            return chain
-    raise NoAnswer()
-
-
-def holds_to_heed(member):
-    return [*ids_of(member["system"]), *ids_of(member["user"])]
-
-
-def holds_in(value):
-    return [tuple(ids_of([hold["sysmod"], hold["reason"]])) for hold in items_of(value)]
-
-
-def member_in(item):
-    """A member of a plan, as a job takes it."""
-    if not isinstance(item["received"], bool):
-        raise NoAnswer()
-    ids_of([item["id"], *ids_of(item["needed_by"]), *holds_to_heed(item)])
-    return {**item, "holds": holds_in(item["holds"])}
-
-
-def plan_in(plan, report, zone):
-    """The members of a plan in their order, the holds that nothing resolves, and those of which all resolvers are held."""
-    if (plan["report"], plan["zone"]) != (report, zone):
-        raise NoAnswer()
-    return [member_in(item) for item in items_of(plan["members"])], holds_in(plan["unresolved"]), holds_in(plan["held"])
+def pairs_of(holds):
+    return [(hold["sysmod"], hold["reason"]) for hold in holds]
 
 
 def age_of(desk, asked):
@@ -203,7 +180,8 @@ def resolvers_of(reports):
     resolved, received = {}, set()
     for kind, all_rows in reports.items():
         for hold, rows in holds_of(kind, all_rows).items():
-            ids_of(list(hold))
+            if not fits(list(hold), [ID]):
+                raise NoAnswer()
             for row in rows:
                 resolved.setdefault(row["RESOLVER"], {})[hold] = True
                 received |= {row["RESOLVER"]} if row["RECEIVED"] == "YES" else set()
@@ -221,7 +199,7 @@ def job_of_chains(desk, zone, sysmods):
     asked = now()
     reports = {kind: report_of(desk, kind, zone) for kind in KINDS}
     age = age_of(desk, asked)
-    chains = [in_form(desk.ask(path_of_chain(zone, each)), lambda chain: chain_in(chain, zone, each), NoAnswer) for each in sysmods]
+    chains = [ask_chain(desk, zone, each) for each in sysmods]
     resolved, received = resolvers_of(reports)
     good = [chain for chain in chains if chain["status"] == "GOOD"]
     left_over = [why_not(chain) for chain in chains if chain["status"] != "GOOD"]
@@ -243,7 +221,9 @@ def job_of_plan(desk, zone, report):
     asked = now()
     data = ask_plan(desk, zone, report, "plan.json")
     age = age_of(desk, asked)
-    members, unresolved, held = in_form(data, lambda plan: plan_in(plan, report, zone), NoAnswer)
+    plan = in_form(data, {**PLAN, "report": report, "zone": zone}, NoAnswer)
+    unresolved, held = pairs_of(plan["unresolved"]), pairs_of(plan["held"])
+    members = [{**member, "holds": pairs_of(member["holds"])} for member in plan["members"]]
     left_over = [f"nothing resolves {named(unresolved)}"] if unresolved else []
     left_over += [f"all resolvers are held of {named(held)}"] if held else []
     subject, option = ("exception SYSMODs", "") if report == "errsysmods" else ("missing fixes", "--fixes ")

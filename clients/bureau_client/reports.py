@@ -11,7 +11,7 @@ from contextlib import suppress
 
 from . import run
 from .changes import Changes
-from .desk import Unanswered, escaped, in_form, zones_in
+from .desk import ZONES, Unanswered, escaped, in_form, zones_in
 from .lists import rows as rows_in_list
 from .run import NoAnswer, Stop, csv_line, say
 
@@ -31,23 +31,12 @@ SYMPTOMS = ("SYSMOD", "REASON", "DATE", "CHGDT", "SYMP", "FIX")  # the columns o
 # --- What a desk answers ------------------------------------------------------------------------------------------------
 
 
-def field(value):
-    """A value of a row as a text: an absent one is empty."""
-    texts = {None: "", True: "YES", False: "NO"}
-    if not isinstance(value, str) and value not in texts:
-        raise TypeError(value)
-    return value if isinstance(value, str) else texts[value]
-
-
 def report_of(desk, kind, zone):
-    """The rows of a report, each a dictionary of its columns."""
-
-    def rows_in(whole):
-        if (whole["report"], whole["zone"]) != (kind, zone):
-            raise ValueError(whole)
-        return [{name: field(row[key]) for name, key in COLUMNS[kind].items()} for row in whole["rows"]]
-
-    return desk.ask_json(f"/zones/{escaped(zone)}/{kind}.json", rows_in)
+    """The rows of a report, each a dictionary of its columns. An absent value is empty."""
+    columns, texts = COLUMNS[kind], {None: "", True: "YES", False: "NO"}
+    form = {"report": kind, "zone": zone, "rows": [dict.fromkeys(columns.values(), (str, bool, type(None)))]}
+    rows = desk.ask_json(f"/zones/{escaped(zone)}/{kind}.json", form)["rows"]
+    return [{name: texts.get(row[key], row[key]) for name, key in columns.items()} for row in rows]
 
 
 def text_of(desk, path, first, above):
@@ -182,7 +171,7 @@ def tell_why_empty(desk, kind, zone):
 
 
 def why_empty(desk, kind, zone, level):
-    if (zone, 0) in in_form(desk.reply, zones_in, desk.no_report):
+    if (zone, 0) in zones_in(in_form(desk.reply, ZONES, desk.no_report)):
         return f"the zone {zone} has no SYSMOD at {desk.url}: 'bureau-client zone {zone} FILE' sends its list"
     if kind == "errsysmods":
         return f"nothing is wrong: of what is published, no ERROR hold concerns the zone {zone}. {level}"
@@ -227,7 +216,7 @@ def overview(desk, csv=False):
         run.out(desk.ask("/published"))
         return run.out(f"LAST PUBLICATION {desk.ask_last('publisher')}\n")
     lines, without = [list(OVERVIEW)], []
-    for zone, sysmods in in_form(desk.need_200(), zones_in, desk.no_report):
+    for zone, sysmods in zones_in(in_form(desk.need_200(), ZONES, desk.no_report)):
         errors, fixes = (report_of(desk, kind, zone) for kind in KINDS)
         if not fixes and not categories_sent(desk, zone):
             without.append(zone)

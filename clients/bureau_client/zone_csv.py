@@ -10,12 +10,11 @@ Others are left out, and named on standard error. The exit status is 1 if the zo
 40,000, or FILE is EBCDIC, or no answer of z/OSMF yet. Only with 0 is anything printed: a list with its header alone would empty the
 zone at the desk. (A received list may have no row.)
 """
+import io
 import json
 import os
 import pkgutil
 import re
-import shutil
-import tempfile
 from collections import Counter
 
 from . import run
@@ -239,28 +238,13 @@ def as_list(said, zone, what):
     return listed
 
 
-def source_of(path):
-    """A file that can be read more than once."""
-    if path != "-":
-        if os.path.isfile(path):
-            return open(path, "rb")
+def bytes_of(path):
+    if path == "-":
+        with open(0, "rb", closefd=False) as given:
+            return given.read()
+    if not os.path.isfile(path):
         raise Stop(3, f"the file '{path}' can't be read")
-    source = tempfile.TemporaryFile()
-    with open(0, "rb", closefd=False) as given:
-        shutil.copyfileobj(given, source)
-    source.seek(0)
-    return source
-
-
-def is_ebcdic(source):
-    """ENTRIES in EBCDIC, or a brace in front, and nowhere ENTRIES as it is."""
-    front, found = source.read(1), False
-    source.seek(0)
-    for line in source:
-        if b"ENTRIES" in line:
-            return False
-        found = found or ENTRIES in line
-    return found or front == b"\xc0"
+    return run.bytes_in(path)
 
 
 def main(words):
@@ -272,13 +256,11 @@ def main(words):
         run.put(2, pkgutil.get_data(__package__, "zone-csv.txt"))
         return 2
     zone, path = ["GLOBAL", *named][-2:]
-    with source_of(path) as source:
-        if is_ebcdic(source):
-            raise Stop(1, f"{path} is EBCDIC. Transfer it as text, or convert it: iconv -f IBM-1047 -t UTF-8 <FILE >NEW")
-        source.seek(0)
-        front = next((line.lstrip(b" \t\r\n") for line in source if line.strip(b" \t\r\n")), b"")
-        source.seek(0)
-        said = from_json(source.read(), zone, installed) if front[:1] in (b"{", b"[") else from_text(source, zone)
+    data = bytes_of(path)
+    if b"ENTRIES" not in data and (ENTRIES in data or data.startswith(b"\xc0")):  # a brace in EBCDIC
+        raise Stop(1, f"{path} is EBCDIC. Transfer it as text, or convert it: iconv -f IBM-1047 -t UTF-8 <FILE >NEW")
+    is_json = data.lstrip(b" \t\r\n").startswith((b"{", b"["))
+    said = from_json(data, zone, installed) if is_json else from_text(io.BytesIO(data), zone)
     rows = as_list(said, zone, what)
     lines = ["SYSMOD", *rows] if what == "received" else ["SYSMOD,STATE", *map(",".join, rows.items())]
     run.out("\n".join(lines) + "\n")
