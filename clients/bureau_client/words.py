@@ -22,7 +22,7 @@ QUESTIONS = {
     "job": ("ZONE, or ZONE SYSMOD..", "jobs", "fixes"),
     "last-publication": ("", "reports", ""),
 }
-# A change is a method of a class that holds the lock.
+# A change is a method of a class, which is called while this run has the lock.
 CHANGES = {
     "zone": ("ZONE FILE", "lists.Lists", ""),
     "drop-zone": ("ZONE", "lists.Lists", ""),
