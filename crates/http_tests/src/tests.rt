@@ -1,10 +1,8 @@
 //! The parts of the tests.
-mod closing;
-mod conditional;
 mod cuts;
 mod devices;
 mod echo;
 mod lists;
+mod lost;
 mod replies;
 mod tableless;
-mod tokens;

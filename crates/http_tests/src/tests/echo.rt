@@ -109,9 +109,6 @@ pub(crate) fn bureau_of(alloc: Global, text: &[u8]) -> Result<Bureau<ListStore, 
 /// The head line of the one caller that the desk knows.
 pub(crate) const TOKEN: &[u8] = b"bureau-token: publisher-token\r\n";
 
-/// The same, and the connection is closed after the request.
-pub(crate) const LAST: &[u8] = b"bureau-token: publisher-token\r\nconnection: close\r\n";
-
 /// A request with these lines and this body.
 pub(crate) fn request(
     alloc: Global,
