@@ -45,8 +45,8 @@ link_module() {
     local parts tools=$kit/toolchain
     parts=$(nproc)
     [ "$parts" -le 8 ] || parts=8
-    run_beside "$tools/bin/ld.lld" -m elf_x86_64 -pie -o "$room/program" --lto-newpm-passes="$passes" --lto-CGO1 \
-        --lto-partitions="$parts" --threads="$parts" --gc-sections -mllvm -no-trap-after-noreturn "$tools"/lib/{Scrt1,crti,crtbeginS}.o \
+    run_beside "$tools/bin/ld.lld" -m elf_x86_64 -pie -o "$room/program" --lto-newpm-passes="$passes" --lto-CGO1 --disable-verify \
+        --lto-partitions="$parts" --threads="$parts" --gc-sections --as-needed -mllvm -no-trap-after-noreturn "$tools"/lib/{Scrt1,crti,crtbeginS}.o \
         "$room/module.bc" --start-group "$kit/c/libos_c.a" "$kit/c/liblibc_c.a" --end-group "$tools"/lib/{libm.so.6,libc.so.6} \
         "$tools"/lib/{libgcc.a,libc_nonshared.a} "$tools"/lib/{crtendS,crtn}.o -dynamic-linker /lib64/ld-linux-x86-64.so.2
 }
