@@ -1,6 +1,5 @@
 //! A desk of a publisher and two clients, from the bytes of connections to the bytes of replies: worked requests,
-//! each with its reply, also where the connection is cut after any byte and where the output takes any part of the
-//! replies.
+//! where the connection is cut after any byte and where the output takes any part of the replies.
 use bureau_program::run_replay;
 use std::alloc::Global;
 use std::fmt::Debug;
@@ -180,16 +179,6 @@ static JSON_REQUESTS: [Exchange; 7] = [
     ((ALPHA, "PUT /zones.json", "", ""), ONLY_GET),
 ];
 
-// A connection for each of the requests.
-fn connections(alloc: Global, exchanges: &[Exchange]) -> Result<Vec<Vec<u8>>, Fail> {
-    let mut files = Vec::new(alloc);
-    for (asked, _) in exchanges {
-        let text = request_text(alloc, *asked)?;
-        files.push(Vec::from_slice(alloc, text.as_bytes())?)?;
-    }
-    Ok(files)
-}
-
 // The requests one after the other, and the replies so.
 fn texts(alloc: Global, exchanges: &[Exchange]) -> Result<(Vec<u8>, Vec<u8>), Fail> {
     let mut requests = Vec::new(alloc);
@@ -252,20 +241,6 @@ fn files_of(alloc: Global, texts: &[&[u8]]) -> Result<Vec<Vec<u8>>, Fail> {
         files.push(Vec::from_slice(alloc, *text)?)?;
     }
     Ok(files)
-}
-
-#[test]
-fn script_in_one_connection_and_in_ten(rt: HostRuntime) -> Result<(), Fail> {
-    let alloc = rt.alloc();
-    let (requests, replies) = texts(alloc, &SCRIPT)?;
-    let keys = keys_of(&rt)?;
-    let one = files_of(alloc, &[requests.as_slice()])?;
-    assert_replayed("whole", alloc, keys, 1_024, one, replies.as_slice())?;
-    for cache in [1, 2, 65_536] {
-        let ten = connections(alloc, &SCRIPT)?;
-        assert_replayed(cache, alloc, keys, cache, ten, replies.as_slice())?;
-    }
-    Ok(())
 }
 
 // A connection and the next one have these replies.
@@ -357,43 +332,4 @@ fn assert_part_taken(
     assert_equal_at(room, status, 3)?;
     assert_equal_at(room, writer.taken.as_slice(), part)?;
     assert_equal_at(room, errors.as_slice(), b"FAULT 72\n".as_slice())
-}
-
-// A file of callers, and its fault.
-static REFUSED: [(&[u8], &[u8]); 4] = [
-    (b"NAME\n", b"FAULT 46\n"),
-    (
-        b"NAME,TOKEN\nPUBLISH,publisher-token\nALPHA,alpha-t\n",
-        b"FAULT 47 2\n",
-    ),
-    (
-        b"NAME,TOKEN\nPUBLISH,same-token\nALPHA,alpha-token\nBETA,same-token\n",
-        b"FAULT 47 3\n",
-    ),
-    (b"NAME,TOKEN\nALPHA,alpha-token\n", b"FAULT 48\n"),
-];
-
-#[test]
-fn a_callers_file_with_a_fault(rt: HostRuntime) -> Result<(), Fail> {
-    let keys = keys_of(&rt)?;
-    for &(callers, told) in &REFUSED {
-        assert_callers_refused(rt.alloc(), keys, callers, told)?;
-    }
-    Ok(())
-}
-
-fn assert_callers_refused(
-    alloc: Global,
-    keys: RandomState,
-    callers: &[u8],
-    told: &[u8],
-) -> Result<(), Fail> {
-    let mut output = Vec::new(alloc);
-    let (status, errors) = run_over(alloc, keys, 1_024, callers, Vec::new(alloc), &mut output);
-    assert_equal_at(told, status, 1)?;
-    assert_equal_at(
-        told,
-        (output.as_slice(), errors.as_slice()),
-        (b"".as_slice(), told),
-    )
 }

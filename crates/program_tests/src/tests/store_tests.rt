@@ -1,4 +1,4 @@
-//! Stores in files in memory: made, refused, and served.
+//! A desk over a store in files in memory: connections that pass, rounds that fail, and sockets.
 ghost use Rattle.std.specs.Prelude.{◌≡◌, IfOk, IsTrue, false};
 ghost use Rattle.sqlite_disk.specs.Memory.{memory_is_usable};
 
@@ -15,7 +15,7 @@ use std::io::{Read, Write};
 use std::net::{Ipv4Addr, SocketAddr, TcpStream};
 use std::str;
 use std::test::Fail;
-use store_runs::{callers_in, run_callers, run_init, run_migrate, run_open};
+use store_runs::run_init;
 use testing::{Ticking, assert_equal, assert_equal_at};
 
 // A connection to the file that is kept in memory, with an empty log.
@@ -31,193 +31,27 @@ fn connected(alloc: Global, db: Memory) -> Result<Connection<FileStore<Memory>>,
 }
 
 // A connection to a new file.
-pub(super) fn fresh(alloc: Global) -> Result<Connection<FileStore<Memory>>, Fail>
+fn fresh(alloc: Global) -> Result<Connection<FileStore<Memory>>, Fail>
     ensures { IfOk result (λ conn. conn.in_transaction ≡ false) }
 {
     connected(alloc, Memory::new(alloc))
 }
 
 // A status, and what was written to standard output and standard error.
-pub(super) fn told(
-    alloc: Global,
-    status: u8,
-    output: &[u8],
-    errors: &[u8],
-) -> Result<String, Fail> {
+fn told(alloc: Global, status: u8, output: &[u8], errors: &[u8]) -> Result<String, Fail> {
     let output = str::from_utf8(output).ok().ok_or("a text")?;
     let errors = str::from_utf8(errors).ok().ok_or("a text")?;
     Ok(format!(in alloc; "{status} {output}{errors}")?)
 }
 
 // What `init` tells.
-pub(super) fn init<S: Alter>(
-    alloc: Global,
-    conn: &mut Connection<S>,
-    callers: &[u8],
-) -> Result<String, Fail>
+fn init<S: Alter>(alloc: Global, conn: &mut Connection<S>, callers: &[u8]) -> Result<String, Fail>
     requires { conn.old.in_transaction ≡ false }
     ensures { conn.new.in_transaction ≡ false }
 {
     let (mut output, mut errors) = (Vec::new(alloc), Vec::new(alloc));
     let status = run_init(alloc, conn, callers, &mut output, &mut errors);
     told(alloc, status, &output, &errors)
-}
-
-// What is told of an opening that is refused, and the connection.
-fn refused<S: Alter + Drop>(
-    alloc: Global,
-    conn: Connection<S>,
-) -> Result<(String, Connection<S>), Fail>
-    requires { conn.in_transaction ≡ false }
-    ensures { IfOk result (λ both. both.1.in_transaction ≡ false) }
-{
-    let mut errors = Vec::new(alloc);
-    match run_open(alloc, conn, &mut errors) {
-        Ok(_) => Err("a refusal".into()),
-        Err((status, conn)) => Ok((told(alloc, status, b"", &errors)?, conn)),
-    }
-}
-
-// A file of callers, and what `init` tells of it.
-static REFUSED: [(&[u8], &str); 3] = [
-    (b"NAME\n", "1 FAULT 46\n"),
-    (
-        b"NAME,TOKEN\nPUBLISH,publisher-token\nALPHA,short\n",
-        "1 FAULT 47 2\n",
-    ),
-    (b"NAME,TOKEN\nALPHA,alpha-token\n", "1 FAULT 48\n"),
-];
-
-// These callers are refused so, and leave a new file without tables.
-fn assert_no_tables<S: Alter + Drop>(
-    alloc: Global,
-    conn: Connection<S>,
-    callers: &[u8],
-    wanted: &str,
-) -> Result<(), Fail>
-    requires { conn.in_transaction ≡ false }
-{
-    let mut conn = conn;
-    assert_equal(init(alloc, &mut conn, callers)?.as_str(), wanted)?;
-    let (told, mut conn) = refused(alloc, conn)?;
-    assert_equal_at(wanted, told.as_str(), "1 FAULT 44\n")?;
-    let told = init(alloc, &mut conn, CALLERS)?;
-    assert_equal_at(wanted, told.as_str(), "0 CALLERS 3\n")
-}
-
-#[test]
-fn a_fault_of_the_callers_leaves_no_tables(rt: HostRuntime) -> Result<(), Fail> {
-    for (callers, wanted) in &REFUSED {
-        assert_no_tables(rt.alloc(), fresh(rt.alloc())?, callers, wanted)?;
-    }
-    Ok(())
-}
-
-// What `migrate` tells.
-fn migrate<S: Alter>(alloc: Global, conn: &mut Connection<S>) -> Result<String, Fail>
-    requires { conn.old.in_transaction ≡ false }
-    ensures { conn.new.in_transaction ≡ false }
-{
-    let (mut output, mut errors) = (Vec::new(alloc), Vec::new(alloc));
-    let status = run_migrate(conn, &mut output, &mut errors);
-    told(alloc, status, &output, &errors)
-}
-
-// What makes of a store what version 1 had.
-pub(super) static EARLIER: [&str; 2] = [
-    "DROP TABLE sysmod_cond",
-    "UPDATE bureau_version SET version = 1",
-];
-
-// Makes a store in a new file, and writes this into it.
-pub(super) fn write<S: Alter>(
-    alloc: Global,
-    conn: &mut Connection<S>,
-    texts: &[&str],
-) -> Result<(), Fail>
-    requires { conn.old.in_transaction ≡ false }
-    ensures { IfOk result (λ _. conn.new.in_transaction ≡ false) }
-{
-    init(alloc, conn, CALLERS)?;
-    for text in texts {
-        conn.execute(text, &[])?;
-    }
-    if !conn.is_autocommit() {
-        return Err("a connection at rest".into());
-    }
-    Ok(())
-}
-
-// A store of version 1 is refused, migrated, and then opened. It is not migrated again.
-fn assert_migrated_once<S: Alter + Drop>(alloc: Global, conn: Connection<S>) -> Result<(), Fail>
-    requires { conn.in_transaction ≡ false }
-{
-    let (told, mut conn) = refused(alloc, conn)?;
-    assert_equal(told.as_str(), "1 FAULT 45\n")?;
-    let told = migrate(alloc, &mut conn)?;
-    assert_equal(told.as_str(), "0 MIGRATED VERSION 2\n")?;
-    let told = migrate(alloc, &mut conn)?;
-    assert_equal(told.as_str(), "1 FAULT 45\n")?;
-    let mut errors = Vec::new(alloc);
-    match run_open(alloc, conn, &mut errors) {
-        Ok(_) => Ok(()),
-        Err(_) => Err("what is migrated is not opened".into()),
-    }
-}
-
-#[test]
-fn a_store_of_version_1_is_migrated_once(rt: HostRuntime) -> Result<(), Fail> {
-    let alloc = rt.alloc();
-    let mut conn = fresh(alloc)?;
-    write(alloc, &mut conn, &EARLIER)?;
-    assert_migrated_once(alloc, conn)?;
-    let told = migrate(alloc, &mut fresh(alloc)?)?;
-    assert_equal(told.as_str(), "1 FAULT 44\n")
-}
-
-// What `callers` tells of these callers, and the connection.
-fn set<S: Alter + Drop>(
-    alloc: Global,
-    conn: Connection<S>,
-    callers: &[u8],
-) -> Result<(String, Connection<S>), Fail>
-    requires { conn.in_transaction ≡ false }
-    ensures { IfOk result (λ both. both.1.in_transaction ≡ false) }
-{
-    let rows = match callers_in(alloc, callers) {
-        Ok(rows) => rows,
-        Err(_) => return Err("callers".into()),
-    };
-    let (mut output, mut errors) = (Vec::new(alloc), Vec::new(alloc));
-    let (status, conn) = run_callers(alloc, conn, &rows, &mut output, &mut errors);
-    if !conn.is_autocommit() {
-        return Err("a connection at rest".into());
-    }
-    Ok((told(alloc, status, &output, &errors)?, conn))
-}
-
-// A store that has three callers gets two of them with other tokens, and a new one that has the token of one of those.
-fn assert_set<S: Alter + Drop>(alloc: Global, conn: Connection<S>) -> Result<(), Fail>
-    requires { conn.in_transaction ≡ false }
-{
-    let first = b"NAME,TOKEN\nPUBLISH,publisher-token\nALPHA,alpha-token\nBRAVO,bravo-token\n";
-    let then = b"NAME,TOKEN\nPUBLISH,another-token\nALPHA,bravo-token\nGAMMA,alpha-token\n";
-    let mut conn = conn;
-    assert_equal(init(alloc, &mut conn, first)?.as_str(), "0 CALLERS 3\n")?;
-    let (told, conn) = set(alloc, conn, first)?;
-    assert_equal(told.as_str(), "0 CALLERS 3 ADDED 0 REMOVED 0 TOKENS 0\n")?;
-    let (told, conn) = set(alloc, conn, then)?;
-    assert_equal(told.as_str(), "0 CALLERS 3 ADDED 1 REMOVED 1 TOKENS 2\n")?;
-    let (told, _) = set(alloc, conn, then)?;
-    assert_equal(told.as_str(), "0 CALLERS 3 ADDED 0 REMOVED 0 TOKENS 0\n")
-}
-
-#[test]
-fn a_store_gets_other_callers(rt: HostRuntime) -> Result<(), Fail> {
-    let alloc = rt.alloc();
-    assert_set(alloc, fresh(alloc)?)?;
-    let (told, _) = set(alloc, fresh(alloc)?, CALLERS)?;
-    assert_equal(told.as_str(), "1 FAULT 44\n")
 }
 
 // What `serve` tells over a new store in this file, where so many connections are served, and what it tells of a fault.
