@@ -43,8 +43,8 @@ passes="globaldce,$small,cgscc(inline,function(sroa,early-cse,instcombine<no-ver
 # The words of the link are those of the kit's own.
 link_module() {
     local parts tools=$kit/toolchain
-    parts=$(nproc)
-    [ "$parts" -le 8 ] || parts=8
+    parts=$((3 * $(nproc))) # more than there are processors, since some take longer than others
+    [ "$parts" -le 16 ] || parts=16
     run_beside "$tools/bin/ld.lld" -m elf_x86_64 -pie -o "$room/program" --lto-newpm-passes="$passes" --lto-CGO1 --disable-verify \
         --lto-partitions="$parts" --threads="$parts" --gc-sections --as-needed -mllvm -no-trap-after-noreturn "$tools"/lib/{Scrt1,crti,crtbeginS}.o \
         "$room/module.bc" --start-group "$kit/c/libos_c.a" "$kit/c/liblibc_c.a" --end-group "$tools"/lib/{libm.so.6,libc.so.6} \
