@@ -104,11 +104,13 @@ class Served:
     """`bureau serve` over the file `store` of a folder, until its end. `port` is None where it refuses to serve, and `line` says why."""
 
     def __init__(self, program, room, *words):
-        self.line = PORT_TAKEN
-        while self.line == PORT_TAKEN:
+        for _ in range(20):
             self.process = subprocess.Popen([program, "serve", *words, "--port", str(free_port()), "store"], cwd=room,
                                             stdout=subprocess.PIPE, stderr=subprocess.STDOUT, text=True)
             self.line = self.process.stdout.readline().removesuffix("\n")
+            if self.line != PORT_TAKEN:
+                break
+            self.process.communicate()
         self.port = int(self.line.rpartition(":")[2]) if self.line.startswith("LISTENING 127.0.0.1:") else None
 
     def __enter__(self):
