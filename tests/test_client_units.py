@@ -11,12 +11,13 @@ import tempfile
 import threading
 import time
 import unittest
+import unittest.mock
 
 TOP = os.path.dirname(os.path.dirname(os.path.abspath(__file__)))
 sys.path.insert(0, os.path.join(TOP, "clients"))
 sys.dont_write_bytecode = True
 
-from bureau_client import changes, desk, faults, jobs, lists, reports, run, statements, zone_csv
+from bureau_client import changes, desk, faults, holddata, jobs, lists, reports, run, statements, zone_csv
 
 
 class Checksums(unittest.TestCase):
@@ -42,16 +43,16 @@ class Lists(unittest.TestCase):
 
 class Faults(unittest.TestCase):
     def test_table(self):
-        """Each number once, in order, with a meaning."""
+        """Each number once, in order, with a meaning and with what to do."""
         numbers = [int(number) for number in faults.table()]
         self.assertEqual(numbers, sorted(set(numbers)))
-        self.assertTrue(all(row["MEANING"] and None not in row.values() for row in faults.table().values()))
+        self.assertTrue(all(row["MEANING"] and row["DO"] and None not in row.values() for row in faults.table().values()))
 
     def test_meaning(self):
         self.assertEqual(faults.meaning("33"), "the SYSMOD is no id: 1 to 7 characters of A-Z 0-9 @ # $, in upper case")
-        self.assertEqual(faults.meaning("13"), "the hold or release has no REASON with a value")
+        self.assertEqual(faults.meaning("13"), "the hold or release has no REASON with a value: add REASON(..)")
         self.assertEqual(faults.brief(13), "no REASON with a value")
-        self.assertEqual((faults.meaning("99"), faults.brief(99)), ("docs/API.md has the faults", "see docs/API.md"))
+        self.assertEqual((faults.meaning("99"), faults.brief(99)), ("docs/FAULTS.md has the faults", "see docs/FAULTS.md"))
 
     def test_place(self):
         """From 31 on the place is a record: the header and empty lines are none."""
@@ -61,6 +62,74 @@ class Faults(unittest.TestCase):
         for words in (["FAULT"], ["FAULT", "37"], ["FAULT", "x", "1"], ["FAULT", "34", "9"]):
             self.assertIsNone(faults.place_of(words, data))
         self.assertEqual((faults.shown(b"a\nb" + b"c" * 200, 2), faults.shown(b"a", 5)), ("b" + "c" * 99, ""))
+
+
+class Starters(unittest.TestCase):
+    def test_safe_path(self):
+        """Each command begins where Python is told not to look into the folder of what it runs."""
+        for name, words, status in (("bureau-client", ["fault", "13"], 0), ("zone-csv", [], 2), ("publication", [], 2)):
+            for options, more in ((["-I"], {}), ([], {"PYTHONSAFEPATH": "1"})):
+                line = [sys.executable, *options, os.path.join(TOP, "clients", name), *words]
+                made = subprocess.run(line, capture_output=True, text=True, cwd="/", env={**os.environ, **more})
+                self.assertEqual((made.returncode, "Traceback" in made.stderr), (status, False), (line, more, made.stderr))
+
+
+class HoldData(unittest.TestCase):
+    """What needs HOLDDATA alone."""
+
+    TEXT = (
+        "++HOLD(UJ1) FIXCAT REASON(A)\n CATEGORY(IBM.X.Y,\n  IBM.Z).\n++HOLD(UJ2) ERROR REASON(A) COMMENT(A (B) FIXCAT) CATEGORY(IBM.NOT).\n"
+        "++HOLD(UJ3) FIXCAT REASON(B) CATEGORY(IBM.GONE).\n++RELEASE(UJ3) FIXCAT REASON(B).\n"
+        "++HOLD(UJ4) FIXCAT REASON(C) CATEGORY(IBM.A).\n++HOLD(UJ4) FIXCAT REASON(C) CATEGORY(IBM.C /* X */).\n"
+    )
+
+    def run_client(self, *words, **settings):
+        """The status, the output and what is said. The program is one that prints its words and what it is given."""
+        with tempfile.TemporaryDirectory() as place:
+            for name, text in (("program", '#!/bin/sh\necho "$@" && exec cat\n'), ("holddata", self.TEXT), *settings.items()):
+                with open(f"{place}/{name}", "wb") as file:
+                    file.write(text if isinstance(text, bytes) else text.encode())
+            os.chmod(place + "/program", 0o755)
+            environment = {"PATH": os.environ["PATH"], "BUREAU_PROGRAM": place + "/program"}
+            line = [sys.executable, os.path.join(TOP, "clients", "bureau-client"), *words]
+            made = subprocess.run(line, capture_output=True, text=True, cwd=place, env=environment)
+            return made.returncode, made.stdout, made.stderr
+
+    def test_categories(self):
+        """Those that are in force, once each, as a list."""
+        self.assertEqual(self.run_client("categories", "--published", "holddata"), (0, "CATEGORY\nIBM.C\nIBM.X.Y\nIBM.Z\n", ""))
+        self.assertEqual(self.run_client("categories", "--published", "none", none="++PTF(A).\n")[0], 1)
+        for words in (["categories"], ["categories", "--published", "nowhere"], ["holds", "--published", "holddata", "holddata"]):
+            self.assertEqual(self.run_client(*words)[0], 2, words)
+
+    def test_patterns(self):
+        """What matches no category is named."""
+        with tempfile.NamedTemporaryFile() as file:
+            file.write(self.TEXT.encode())
+            file.flush()
+            patterns, told = ["IBM.X.Y", "IBM.X", "IBM.X*", "*", "ibm*", "IBM.NOT"], []
+            with unittest.mock.patch.object(holddata, "say", told.append):
+                holddata.name_unmatched(patterns, "list", file.name)
+            self.assertEqual([text.split()[1] for text in told], ["IBM.X", "ibm*", "IBM.NOT"])
+
+    def test_holds(self):
+        """A hold book is of the lines that `publication` reads. What is none, or is lost, is told, and the status says so."""
+        whole = "".join(f"{line:<80}" for line in self.TEXT.splitlines())
+        for name, given, status, wanted, said in (
+            ("as it is", self.TEXT, 0, self.TEXT, ""),
+            ("with a mark and CR LF", "\ufeff" + self.TEXT.replace("\n", "\r\n"), 0, self.TEXT, "begins with a UTF-8 mark"),
+            ("records of 80 bytes", whole, 0, "\n".join(f"{line:<80}" for line in self.TEXT.splitlines()), "it is cut into records of 80 bytes"),
+            ("a lost statement", "++PTF(A). ++HOLD(A) ERROR REASON(B).\n", 1, "++PTF(A). ++HOLD(A) ERROR REASON(B).\n", "line 1: left out, since its ++ is not in column 1"),
+        ):
+            with self.subTest(name):
+                result = self.run_client("holds", "given", given=given)
+                self.assertEqual(result[:2], (status, "holds -\n" + wanted))
+                self.assertIn(said, result[2])
+        for name, given, said in (("EBCDIC", self.TEXT.encode("cp037"), "seems to be EBCDIC"), ("CSV", "SYSMOD\n", "has no statement"), ("empty", "", "has no statement")):
+            with self.subTest(name):
+                status, out, err = self.run_client("holds", "given", given=given)
+                self.assertEqual((status, out), (1, ""))
+                self.assertIn(said, err)
 
 
 class Fields(unittest.TestCase):

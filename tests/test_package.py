@@ -195,7 +195,7 @@ if has_pip:
 else:
     zipfile.ZipFile(wheel).extractall(alone + "/at")
 line = "PYTHONPATH=at at/bin/%s 2>/dev/null" if has_pip else "PYTHONPATH=at python3 -m bureau_client %s 2>/dev/null"
-same("with the client", hidden(alone, line % "bureau-client fault 13"), (0, b"the hold or release has no REASON with a value\n"))
+same("with the client", hidden(alone, line % "bureau-client fault 13"), (0, b"the hold or release has no REASON with a value: add REASON(..)\n"))
 same("and zone-csv", hidden(alone, line % "zone-csv zone TGT1 tgt1.smplist.txt"), (0, read(TOP + "/examples/lists/tgt1.csv")))
 if has_pip:
     words = ["pip", "wheel", "--quiet", "--no-index", "--no-deps", "--wheel-dir", alone + "/made", place + "/clients"]

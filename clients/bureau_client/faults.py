@@ -1,14 +1,11 @@
-"""What a FAULT of `bureau` or of a desk means: the rows of faults.csv."""
+"""What a FAULT of `bureau` or of a desk means, and what to do about it: the rows of faults.csv. docs/FAULTS.md has the same rows."""
 import csv
 import functools
 import os
 import pkgutil
-import re
-import shutil
-import subprocess
 
 from . import run
-from .run import Stop, say
+from .run import Stop
 
 
 @functools.lru_cache(None)
@@ -20,12 +17,12 @@ def table():
 
 def meaning(fault):
     row = table().get(fault)
-    return ": ".join(filter(None, (row["MEANING"], row["DO"]))) if row else "docs/API.md has the faults"
+    return ": ".join(filter(None, (row["MEANING"], row["DO"]))) if row else "docs/FAULTS.md has the faults"
 
 
 def brief(fault):
     row = table().get(str(fault), {})
-    return row.get("BRIEF") or row.get("MEANING") or "see docs/API.md"
+    return row.get("BRIEF") or row.get("MEANING") or "see docs/FAULTS.md"
 
 
 def shown(data, line):
@@ -46,25 +43,8 @@ def place_of(words, data):
     return lines[place] if place < len(lines) else None
 
 
-# --- The commands that need no desk
-
-
 def fault(number):
+    """The command: it needs no desk."""
     if number not in table():
-        raise Stop(2, f"there is no FAULT {number}: docs/API.md has the faults")
+        raise Stop(2, f"there is no FAULT {number}: docs/FAULTS.md has the faults")
     run.out(meaning(number) + "\n")
-
-
-def holds(path):
-    """The hold book that a file leaves, by the program `bureau`. A refusal comes with its meaning, and with the line that has it."""
-    run.need_file(path)
-    program = run.program() or shutil.which("bureau")
-    if not program:
-        raise Stop(2, "the program bureau is not there: set BUREAU_PROGRAM")
-    made = subprocess.run([program, "holds", path], stderr=subprocess.PIPE)
-    run.put(2, made.stderr)
-    if found := re.search(r"^FAULT (\d+)(?: (\d+))?", os.fsdecode(made.stderr), re.M):
-        say(f"FAULT {found[1]}: {meaning(found[1])}")
-        if found[2]:
-            say(f"{path}, line {found[2]}: {shown(run.bytes_in(path), int(found[2]))}")
-    return made.returncode

@@ -1,17 +1,22 @@
 """The lists of a client, each alone or a folder of them."""
 import os
 
-from . import run
+from . import holddata, run
 from .changes import Changes
 from .desk import escaped
 from .run import ID, Stop, refused, say
 
 
-def rows(data):
-    """How many rows a desk keeps of a list: each SYSMOD or pattern once."""
+def names_in(data):
+    """The SYSMODs or patterns of a list, each once."""
     lines = (line.removesuffix(b"\r") for line in data.removeprefix(b"\xef\xbb\xbf").split(b"\n"))
     records = [line for line in lines if line][1:]
-    return len({record.split(b",", 1)[0].replace(b'"', b"").strip(b" \t") for record in records})
+    return list(dict.fromkeys(os.fsdecode(record.split(b",", 1)[0].replace(b'"', b"").strip(b" \t")) for record in records))
+
+
+def rows(data):
+    """How many rows a desk keeps of a list."""
+    return len(names_in(data))
 
 
 class Lists:
@@ -28,8 +33,14 @@ class Lists:
     def zone(self, zone, name):
         self.put("/zones/" + escaped(zone), name, f"ZONE {zone} ROWS", "zones/" + zone)
 
-    def categories(self, zone, name):
+    def categories(self, zone, name, published=""):
+        self.name_unmatched(name, published)
         self.put(f"/zones/{escaped(zone)}/categories", name, f"ZONE {zone} PATTERNS", "categories/" + zone)
+
+    def name_unmatched(self, name, published):
+        """Names the patterns of a list that match no category of HOLDDATA, where that is given."""
+        if published:
+            holddata.name_unmatched(names_in(run.bytes_of(name)), name, published)
 
     def received(self, name):
         self.put("/received", name, "RECEIVED ROWS", "received")
@@ -42,7 +53,7 @@ class Lists:
         copy = self.changes.copy(sent)
         return copy is not None and copy == run.bytes_of(name)
 
-    def sync(self, folder, all=False):
+    def sync(self, folder, all=False, published=""):
         """Sends what changed of a folder, or all of it."""
         if not os.path.isdir(folder):
             raise Stop(2, f"the folder '{folder}' is not there")
@@ -53,6 +64,8 @@ class Lists:
             self.changes.forget_sent()
         self.changes.number_next()
         for send, kind, zone, name in self.in_folder(folder):
+            if kind == "categories":
+                self.name_unmatched(name, published)
             if not ID.fullmatch(zone):
                 refused(f"{name} is passed over: '{zone}' is no name of a zone")
             elif not self.is_sent(name, f"{kind}/{zone}"):

@@ -117,8 +117,12 @@ def shown(line):
 def statements_of(path, lost):
     """The statements of a file that a desk reads. `lost` gets what is no statement and looks like one, and the
     file where it has no statement at all."""
+    return statements_in(path, lines_of(path), lost)
+
+
+def statements_in(path, all_lines, lost):
     first, verb, lines, found = 0, None, [], 0
-    for number, line in enumerate(lines_of(path), 1):
+    for number, line in enumerate(all_lines, 1):
         line = line[:72]
         if line.startswith(b"++"):
             found += 1

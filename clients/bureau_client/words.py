@@ -27,16 +27,20 @@ CHANGES = {
     "zone": ("ZONE FILE", "lists.Lists", ""),
     "drop-zone": ("ZONE", "lists.Lists", ""),
     "received": ("FILE", "lists.Lists", ""),
-    "categories": ("ZONE FILE", "lists.Lists", ""),
-    "sync": ("FOLDER", "lists.Lists", "all"),
+    "categories": ("ZONE FILE", "lists.Lists", "published"),
+    "sync": ("FOLDER", "lists.Lists", "all published"),
     "publish": ("FILE", "publisher.Publisher", ""),
     "catch-up": ("URL", "publisher.Publisher", ""),
 }
-# These need no desk.
-LOCAL = {"fault": ("NUMBER", "faults", ""), "holds": ("FILE", "faults", "")}
+# These need no desk. The last is `categories --published FILE` without more words.
+LOCAL = {
+    "fault": ("NUMBER", "faults", ""),
+    "holds": ("FILE", "holddata", ""),
+    "published categories": ("", "holddata", "published"),
+}
 COMMANDS = {**QUESTIONS, **CHANGES, **LOCAL}
 # The options in the order in which they are refused, with whether a word comes after each.
-OPTIONS = {"csv": False, "all": False, "fixes": False, "alert": True, "since": True, "symptoms": True, "to": True}
+OPTIONS = {"csv": False, "all": False, "fixes": False, "alert": True, "since": True, "symptoms": True, "published": True, "to": True}
 
 
 class Words:
@@ -65,6 +69,8 @@ class Words:
                 self.options.setdefault(option, []).extend(left.pop(0).split())
             else:
                 self.options[option] = left.pop(0)
+        if self.command == "categories" and not self.named and self.options.get("published"):
+            self.command = "published categories"
 
     def check(self):
         """Refuses words that the command does not have."""
@@ -101,14 +107,14 @@ class Words:
                 raise usage("--fixes wants the zone alone: a job of SYSMODs is for no report")
         if "symptoms" in given and "csv" not in given:
             raise usage("--symptoms wants --csv")
-        for path in (given[option] for option in ("since", "symptoms") if option in given):
+        for path in (given[option] for option in ("since", "symptoms", "published") if option in given):
             run.need_file(path)
 
     def function(self, subject=None):
         """What does the command: a function, or a method of a new object that has SUBJECT."""
         module, *kind = COMMANDS[self.command][1].split(".")
         place = import_module("." + module, __package__)
-        return getattr(getattr(place, kind[0])(subject) if kind else place, self.command.replace("-", "_"))
+        return getattr(getattr(place, kind[0])(subject) if kind else place, re.sub("[- ]", "_", self.command))
 
 
 def usage(text):
@@ -127,10 +133,10 @@ def main(given):
     if words.command in ("help", "--help", "-h"):
         return run.out(pkgutil.get_data(__package__, "bureau-client.txt"))
     words.check()
-    if words.command in LOCAL:
-        return words.function()(*words.named)
-    words.check_names()
     words.check_options()
+    if words.command in LOCAL:
+        return words.function()(*words.named, **words.options)
+    words.check_names()
     from .desk import Desk
     from .settings import Settings
 
