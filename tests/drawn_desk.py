@@ -113,6 +113,6 @@ class DrawnDesk:
             return {"plan": sorted(plan, key=lambda one: one["id"]), "status": "GOOD", **words}
         if status == "HELD":
             return {"blocked": "AJ99998", "status": "HELD", **words}
-        if sysmod == "AJ99998":
+        if sysmod in ("AJ99998", "UJ99998"):
             return {"blocked": "AJ99999", "status": "HELD", **words}
         return {"status": "LACK", **words}

@@ -27,6 +27,27 @@ FILLED = """new Promise(done => {
 })"""
 
 
+# what can be clicked and is no 24 pixels wide or high; what stands outside of the window can't be
+SMALL = """[...document.querySelectorAll('a, button, input, select, summary')].filter(part => {
+    const its = part.getBoundingClientRect();
+    return its.width && its.right > 0 && (its.width < 24 || its.height < 24);
+}).map(part => part.tagName + ' ' + part.className + ' ' + (part.innerText || part.ariaLabel) + JSON.stringify(part.getBoundingClientRect()))"""
+
+
+def targets(browser):
+    """On a phone a finger finds what can be touched."""
+    for width in (320, 390):
+        browser.size(width, 844)
+        for address in ("#", "#MIDDLE/fixes", "#MIDDLE/plan", "#LARGE/errors", "#LARGE/errors?status=GOOD"):
+            go(browser, address)
+            browser.until("document.querySelector('tbody tr.first, .figures')")
+            same("nothing is too small for a finger at %d pixels: %s" % (width, address), browser.run(SMALL), [])
+        click(browser, "tbody tr.first")
+        shows(browser, "can be installed", ".beside")
+        same("nor in the chain", browser.run(SMALL), [])
+        click(browser, ".close")
+
+
 def without_resolver(browser):
     """A hold without a resolver says so once to the eye, and to a screen reader where the resolver would stand."""
     marks = """[...document.querySelectorAll('tbody tr.first')].map(row => [...row.querySelectorAll('td, td *')].filter(e =>
@@ -46,6 +67,7 @@ def without_resolver(browser):
 
 def looks(browser):
     """Dark, a phone, paper."""
+    targets(browser)
     # 721 is the narrowest with tables, and 1201 with the chain beside them
     for width, height in ((320, 640), (390, 844), (721, 900), (768, 1024), (1000, 800), (1201, 800), (1400, 900)):
         browser.size(width, height)

@@ -189,6 +189,17 @@ def refusals():
     status, _, err = publisher.run("publish", write(site + "/small.txt", "++hold(uj1) ERROR REASON(A).\n"))
     check("an id in lower case is told", status == 1 and "FAULT 2 1" in err and "upper case" in err, err)
     same("a client can't publish", north.run("publish", bad)[0], 1)
+    same("a zone for categories", north.run("zone", "Z#2", write(site + "/z2", "SYSMOD,STATE\nHBB77E0,APPLIED\n"))[0], 0)
+    wanted = "CATEGORY\nIBM.Function.HealthChecker\nIBM.Function.HealthCheker\nIBM.Device*\n"
+    words = ("--published", os.path.join(SITE, "publication.txt"))
+    status, out, err = north.run("categories", *words, "Z#2", write(site + "/folder/categories/Z#2.csv", wanted))
+    same("categories are sent as they are", (status, out), (0, "ZONE Z#2 PATTERNS 3\n"))
+    named = ["IBM.Function.HealthCheker", "IBM.Device*"]
+    same("and what matches nothing is named", [line.split(": ")[2].split(" matches")[0] for line in err.splitlines()], named)
+    write(site + "/folder/zones/Z#2.csv", "SYSMOD,STATE\nHBB77E0,APPLIED\n")
+    err = north.run("sync", *words, site + "/folder")[2]
+    same("of a folder too", [name for name in named if f"Z#2.csv: {name} matches no category" in err], named)
+    same("which is dropped again", north.run("drop-zone", "Z#2")[0], 0)
     same("the publisher has no zones", publisher.run("zones")[0], 1)
     same("an unknown token", client(desk, "nobody-token").run("zones")[0], 1)
     same("no desk", north.run("zones", BUREAU_URL="http://127.0.0.1:9")[0], 3)
@@ -269,6 +280,14 @@ def before_any_desk():
     check("a hold book", (status, err) == (0, "") and out.endswith("ROWS 1\n"), (status, out, err))
     status, out, err = north.run("holds", bad, BUREAU_PROGRAM=PROGRAM)
     check("a FAULT with its meaning and its line", (status, out) == (1, "") and "no REASON" in err and "bad, line 2: ++HOLD(UJ1) ERROR." in err, err)
+    records = write(place + "/records", "".join("%-80s" % line for line in ("++HOLD(UJ1) ERROR REASON(A).", "++HOLD(UJ2) ERROR.")))
+    status, out, err = north.run("holds", records, BUREAU_PROGRAM=PROGRAM)
+    check("of records too", (status, out) == (1, "") and "FAULT 13 2" in err and "records, line 2: ++HOLD(UJ2) ERROR." in err, err)
+    lost = write(place + "/lost", "++HOLD(UJ1) ERROR REASON(A). ++HOLD(UJ2) ERROR REASON(A).\n")
+    status, out, err = north.run("holds", lost, BUREAU_PROGRAM=PROGRAM)
+    check("what is lost is named", status == 1 and out.endswith("ROWS 1\n") and "line 1: left out, since its ++ is not in column 1: ++HOLD(UJ2)" in err, (status, out, err))
+    status, out, err = north.run("holds", CALLERS, BUREAU_PROGRAM=PROGRAM)
+    check("a file without a statement has no hold book", (status, out) == (1, "") and "has no statement" in err, (status, out, err))
     for words in (("errsysmods", "A", "--csv"), ("errsysmods", "--csv", "A"), ("errsysmods", "--", "A")):
         same("an option stands anywhere: %s" % (words,), north.run(*words)[0], 3)
     for words in (("errsysmods", "A", "--xml"), ("errsysmods", "--", "A", "--csv"), ("publish", "/dev/null", "--to")):

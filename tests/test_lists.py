@@ -319,6 +319,16 @@ def parts():
     same("with all of it", sum(part.count("++HOLD") for part in written), count + 1)
 
 
+def as_they_come():
+    """docs/CLIENT.md: files as they come, through a pipe to a report."""
+    with open(os.path.join(TOP, "docs", "CLIENT.md")) as page:
+        line = next(each for each in page if each.startswith("clients/publication ") and "| ./bureau " in each)
+    line = line.replace("./bureau ", PROGRAM + " ")
+    done = subprocess.run(line, shell=True, cwd=TOP, capture_output=True, text=True, env={**os.environ, "BUREAU_PROGRAM": PROGRAM})
+    rows = [row.split()[1:5] for row in done.stdout.splitlines()[2:]]
+    same("a report of files as they come", rows, [["UJ92001", "AJ64001", "UJ92002", "HELD"], ["UJ92001", "AJ64001", "UJ92005", "GOOD"], ["2"]])
+
+
 zone_lists()
 fields_and_words()
 values_of_a_fault()
@@ -329,4 +339,5 @@ lost_statements()
 differences()
 symptoms()
 parts()
+as_they_come()
 finish("lists")

@@ -82,6 +82,8 @@ def sample(browser, front, north):
         browser.run("[...document.querySelectorAll('.needs .box')].map(e => e.innerText.split('\\n')[0] + ' ' + e.className)"),
         ["UJ92002 box held", "AJ64002 box lack"],
     )
+    # what would give AJ64002 is held, and neither the report nor the plan tells of it
+    shows(browser, "is needed. What would give it is held, or is not for this zone, or is not published", ".needs")
     picture(browser, "sample-held")
     click(browser, ".tab-count", "1")
     go(browser, "#MVSPROD/fixes")
@@ -102,6 +104,37 @@ def sample(browser, front, north):
     said(browser, "The token is forgotten.")
     same("forgotten", (browser.run("sessionStorage.length"), browser.run("document.querySelectorAll('main *').length")), (0, 0))
     check("the form is there again", browser.run("document.getElementById('token').offsetParent !== null"))
+
+
+def installed(browser, front):
+    """A SYSMOD that is installed is told as such. What would give its need is held, and for what, the report and the plan tell."""
+    browser.open(front.url + "/page/?installed")
+    click(browser, "#leave")
+    enter(browser, NORTH)
+    go(browser, "#MVSPROD/errors/UJ92001")
+    shows(browser, "UJ92001 is installed, and is held in error. 1 other SYSMOD would give what it needs.", ".beside")
+    click(browser, "#leave")
+    enter(browser, SOUTH)
+    go(browser, "#MVSTEST/errors/UJ92002")
+    shows(browser, "UJ92002 is installed, and is held in error. It needs AJ64002, and nothing that can be installed gives that.", ".beside")
+    shows(browser, "would be given by UJ92004, which is held: it needs AJ64003", ".needs")
+    needs = "[...document.querySelectorAll('.needs .box')].map(e => e.innerText.replace('\\n', ' '))"
+    same(
+        "its needs, to the one that nothing gives",
+        browser.run(needs),
+        [
+            "UJ92002 asked for, and installed",
+            "AJ64002 is needed, and would be given by UJ92004, which is held: it needs AJ64003",
+            "AJ64003 is needed, and nothing that is published gives it",
+        ],
+    )
+    go(browser, "#MVSTEST/plan")
+    click(browser, ".left summary")
+    shows(browser, "UJ92002 held for AJ64002: UJ92004 needs → AJ64003, which nothing that is published gives", ".left")
+    shows(browser, "Nothing can be installed for this report.", ".plan")
+    same("no job of nothing", browser.run("[...document.querySelectorAll('.plan .pair-name')].map(e => e.innerText)"), ["CSV", "JSON"])
+    click(browser, "#leave")
+    enter(browser, NORTH)
 
 
 def chain_job(browser, north):
@@ -174,6 +207,12 @@ def refusals(browser, front):
     click(browser, "#leave")
     enter(browser, "nobodys-token")
     said(browser, "The desk does not know this token.")
+    same("the token can be entered anew at once", browser.run("document.activeElement.id + document.activeElement.ariaInvalid"), "tokentrue")
+    places = browser.run("['enter', 'message'].map(id => document.getElementById(id).getBoundingClientRect().toJSON())")
+    form, words = places
+    check("what is wrong stands below the field", 0 <= words["top"] - form["bottom"] < 30 and words["left"] == form["left"], places)
+    same("and is read with it", browser.run("document.getElementById('token').getAttribute('aria-describedby')"), "message")
+    picture(browser, "refused")
     same("nothing of the earlier token is shown", browser.run("document.querySelectorAll('main *').length"), 0)
     same("nor kept", browser.run("sessionStorage.length"), 0)
     browser.run("sessionStorage.setItem('bureau-token', 'nobodys-token')")
@@ -203,9 +242,12 @@ def marks(browser, front, client):
     titles = browser.run("[...document.querySelectorAll('.of-category .cut')].flatMap(cell => cell.title.split('\\n')).sort()")
     same("texts are texts", titles, sorted(row["CATEGORY"] for row in rows))
     check("with marks", MARKED in titles, titles)
+    same("a row without a resolver is the last", lines(browser)[-1][3:], ["no resolver", "none", ""])
+    go(browser, "#Z%40%23%24/fixes?status=none")
+    browser.until("document.querySelector('tbody tr.first')")
     shows(browser, MARKED, ".of-category .cut")
     same("nothing of it became an element", browser.run("document.querySelectorAll('main b, main img').length"), 0)
-    same("a row without a resolver", lines(browser)[0][3:], ["no resolver", "none", ""])
+    same("it is there alone", [row[3:] for row in lines(browser)], [["no resolver", "none", ""]])
     click(browser, "tbody tr.first")
     shows(browser, "No published SYSMOD resolves this hold yet.", ".beside")
     go(browser, "#Z0/fixes")
@@ -231,7 +273,9 @@ def nothing_there(browser, front, north):
     """A caller without zones, and a desk on which nothing is published."""
     browser.open(front.url + "/page/?nothing")
     enter(browser, NORTH)
-    shows(browser, "You have no zone on this desk.")
+    said(browser, "You have no zone on this desk.")
+    shows(browser, "bureau-client sync sends your lists.")
+    same("once", browser.run("document.body.innerText.split('You have no zone').length - 1"), 1)
     north.run("sync", SITE + "/north")
     click(browser, "#again")
     browser.until("document.querySelectorAll('.figures').length === 1")
@@ -253,8 +297,11 @@ def slow(browser):
     go(browser, "#A/errors")
     browser.until("document.querySelector('tbody tr.first')")
     desk.may_answer.clear()
+    legend = "document.querySelector('footer').getBoundingClientRect().top"
+    before = browser.run(legend)
     click(browser, "#again")
     said(browser, "Asking for the zones.")
+    check("the legend stays in its place", before > 700 and browser.run(legend) == before, (before, browser.run(legend)))
     same("nothing old is shown meanwhile", browser.run("document.querySelectorAll('main *').length"), 0)
     for zone in "BACABC":  # more than the front lets one token ask at a time
         browser.run("location.hash = '#%s/errors'" % zone)
@@ -312,6 +359,8 @@ def main():
     publisher.run("publish", os.path.join(SITE, "publication.txt"))
     sample(browser, front, north)
     sent_link(browser, front)
+    same("lists of SOUTH", south.run("sync", SITE + "/south")[0], 0)
+    installed(browser, front)
     symptoms(browser, north)
     refusals(browser, front)
     publisher.run(

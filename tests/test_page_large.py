@@ -28,6 +28,20 @@ BEST = {"GOOD": 0, "HELD": 1}
 TIMED = """new Promise(done => { const began = performance.now(); %s;
     const look = () => requestAnimationFrame((%s) ? () => done(performance.now() - began) : look); look(); })"""
 
+# What a page of this kind can't do without: the report comes through the front, its fields are cut out, and a hundred lines are drawn.
+YARDSTICK = """(async () => {
+    const began = performance.now();
+    const reply = await fetch('../zones/LARGE/errsysmods', { headers: { 'bureau-token': '%s' }, cache: 'no-store' });
+    const lines = (await reply.text()).split('\\n').map(line => [0, 9, 18, 27, 36, 43, 52].map(at => line.slice(at, at + 8).trimEnd()));
+    const table = document.createElement('table');
+    for (const line of lines.slice(0, 100)) for (const field of line) table.insertRow().insertCell().append(field);
+    document.body.append(table);
+    await new Promise(done => requestAnimationFrame(() => setTimeout(done)));
+    table.remove();
+    return performance.now() - began;
+})()""" % NORTH
+TIMES = 1.75  # how many times as long each step may take, where the machine is so busy that this is over 300 ms
+
 
 def state(found):
     """The status of a hold: that of its best resolver."""
@@ -65,7 +79,8 @@ def overview(browser):
 
 def speed(browser):
     """From the question to the table, and each step in it: the best of some, since the machine has other work. What
-    is asked anew travels too, from the desk and through the front."""
+    is asked anew travels too, from the desk and through the front. On a machine that is busy all the time, a yardstick of the same run
+    tells how much longer a step may take."""
     ready = "document.querySelector('.errsysmods tbody tr.first') && !document.querySelector('.wait')"
     steps = {
         "asked anew": ("document.getElementById('again').click()", ready),
@@ -85,17 +100,20 @@ def speed(browser):
     }
     for slower in (1, 4):
         browser.call("Emulation.setCPUThrottlingRate", rate=slower)
-        best = {}
+        best, yardstick = {}, 1e9
         for _ in range(12):
             go(browser, "#LARGE/errors")
+            yardstick = min(yardstick, browser.run(YARDSTICK))
             for name, (script, test) in steps.items():
                 best[name] = min(best.get(name, 1e9), browser.run(TIMED % (script, test)))
                 # what is still asked for, such as the counts of the other tabs, is another step's
                 browser.until("[...document.querySelectorAll('.tab-count')].every(c => c.innerText)")
-            if max(best.values()) < 300:
+            most = max(300, TIMES * yardstick)
+            if max(best.values()) < most:
                 break
-        print("page: 10,000 rows, %d times slower: %s" % (slower, ", ".join("%s %d ms" % pair for pair in best.items())))
-        same("all within 300 ms, %d times slower" % slower, {name: took for name, took in best.items() if took > 300}, {})
+        told = ", ".join("%s %d ms" % pair for pair in {**best, "the yardstick": yardstick}.items())
+        print("page: 10,000 rows, %d times slower: %s" % (slower, told))
+        same("all within %d ms, %d times slower" % (most, slower), {name: took for name, took in best.items() if took > most}, {})
     browser.call("Emulation.setCPUThrottlingRate", rate=1)
     check("only what is seen is drawn", browser.run("document.querySelectorAll('tbody tr').length") < 120)
 
@@ -128,7 +146,21 @@ def filters(browser):
         same("the word " + text, number(browser), len(holds(lambda _, found: not found)))
     filter_by(browser, "no such thing")
     same("nothing", (number(browser), lines(browser)), (0, []))
+    shows(browser, "No hold has all that is chosen above.", ".scroll")
     filter_by(browser, "")
+    same("else that is not said", browser.run("document.querySelector('.scroll .nothing')?.offsetParent ?? null"), None)
+
+
+def order(browser):
+    """What can be resolved comes first, by its class, and what nothing resolves last."""
+    go(browser, "#MIDDLE/errors")
+    browser.run("dispatchEvent(new Event('beforeprint'))")  # which draws all lines
+    got = browser.run("[...document.querySelectorAll('tbody tr.first')].map(r => [...r.cells].slice(1, 3).map(c => c.innerText))")
+    browser.run("dispatchEvent(new Event('afterprint'))")
+    classes, statuses = ["HIPER", "PE"], ["GOOD", "HELD", "none"]
+    by_class = lambda hold: classes.index(hold[2]) if hold[2] in classes else 2
+    ranks = lambda one: (not one[1], by_class(one[0]), statuses.index(state(one[1])))
+    same("all of them", got, [list(hold[:2]) for hold, _ in sorted(ZONES[3].holds, key=ranks)])
 
 
 def groups(browser):
@@ -160,6 +192,8 @@ def beside(browser):
         browser.run("[...document.querySelectorAll('.needs .id')].map(e => e.innerText)"),
         [row[4], "AJ99998", "AJ99999"],
     )
+    shows(browser, "is needed, and would be given by UJ99998, which is held: it needs AJ99999", ".needs")
+    shows(browser, "is needed, and nothing that is published gives it", ".needs")
     same("the line is marked", browser.run("document.querySelector('tr.chosen td:nth-child(2)').innerText"), row[1])
     check("beside the table", browser.run("(t => t.right < document.querySelector('.beside').getBoundingClientRect().left + 1)(document.querySelector('.tab-body').getBoundingClientRect())"))
     check("and as high as it", browser.run("document.querySelector('.beside').getBoundingClientRect().top < 200"))
@@ -315,6 +349,12 @@ def empty(browser):
     shows(browser, "no fix categories are set")
     go(browser, "#NOWHERE/errors")
     said(browser, "You have no zone NOWHERE on this desk.")
+    same("once", browser.run("document.body.innerText.split('You have no zone').length - 1"), 1)
+    click(browser, "main a", "All zones")
+    check("and a way to all", browser.until("document.querySelectorAll('.figures').length === 4"))
+    go(browser, "#CLEAN/plan")
+    shows(browser, "Nothing can be installed for this report.")
+    same("no job is offered", browser.run("[...document.querySelectorAll('.pair-name')].map(e => e.innerText)"), ["CSV", "JSON"])
     go(browser, "#Z%40%23%24/errors")
     shows(browser, "Z@#$", "h1")
     check("its rows", browser.until("document.querySelectorAll('tbody tr.first').length > 5"))
@@ -342,6 +382,7 @@ def main():
     overview(browser)
     speed(browser)
     filters(browser)
+    order(browser)
     groups(browser)
     without_resolver(browser)
     beside(browser)

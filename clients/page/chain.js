@@ -14,7 +14,16 @@ function box(id, className, words, ...more) {
   return make('li', 'box ' + className, make('strong', 'id', id), words ? make('span', 'soft', words) : '', ...more);
 }
 
-function sentence(chain) {
+// Of a SYSMOD that the report shows as installed.
+function sentenceOfInstalled({ sysmod, status, plan, blocked }) {
+  const words = sysmod + ' is installed, and is held in error. ';
+  if (status === 'GOOD') return words + several(plan.length - 1, 'other SYSMOD') + ' would give what it needs.';
+  if (status === 'HELD') return words + 'It needs ' + blocked + ', and nothing that can be installed gives that.';
+  return words + 'It has no chain: it is not published, or is a base function.';
+}
+
+function sentence(chain, isInstalled) {
+  if (isInstalled) return sentenceOfInstalled(chain);
   if (chain.status === 'GOOD') {
     const others = chain.plan.length - 1;
     if (others === 0) return chain.sysmod + ' can be installed by itself.';
@@ -24,12 +33,14 @@ function sentence(chain) {
   return chain.sysmod + ' is not published, or is for a function that the zone lacks.';
 }
 
+const ownWords = (isInstalled) => (isInstalled ? 'asked for, and installed' : 'asked for');
+
 // The members of a plan, the SYSMOD that was asked for first.
-function membersOf(chain) {
+function membersOf(chain, isInstalled) {
   const own = chain.plan.filter((member) => member.id === chain.sysmod);
   const others = chain.plan.filter((member) => member.id !== chain.sysmod);
   const boxes = [...own, ...others].map((member) => {
-    const words = member.id === chain.sysmod ? 'asked for' : 'to be installed too';
+    const words = member.id === chain.sysmod ? ownWords(isInstalled) : 'to be installed too';
     return box(member.id, 'good', words, ...reasons('SYSTEM', member.system), ...reasons('USER', member.user));
   });
   return make('ul', 'members', ...boxes);
@@ -45,29 +56,49 @@ function planOf(chain, hold, isReceived) {
   return { zone: chain.zone, members, unresolved: [], held: [] };
 }
 
-// The row of needs that are in the way: each is followed to the first that nothing published gives.
-async function rowOfNeeds(first, chainOf) {
-  const boxes = [box(first.sysmod, 'held', 'asked for')];
+const NEEDED = {
+  LACK: 'is needed. What would give it is held, or is not for this zone, or is not published',
+  HELD: 'is needed, and is held itself',
+  GOOD: 'is needed, and could be installed by itself, but not together with the rest',
+};
+
+// What is known of a need, and the chain that leads on from it. The chain of the need itself does not tell what else
+// would give it.
+async function aboutNeed(need, chainOf, giverOf) {
+  const known = await giverOf(need);
+  if (known?.giver === null) {
+    const words = known.published ? 'is needed, and is published for functions that the zone lacks'
+      : 'is needed, and nothing that is published gives it';
+    return { chain: { status: 'LACK' }, words };
+  }
+  const chain = await chainOf(known?.giver ?? need);
+  if (!known || known.giver === need) return { chain, words: NEEDED[chain.status] };
+  const why = chain.status === 'HELD' ? ', which is held: it needs ' + chain.blocked : '';
+  return { chain, words: 'is needed, and would be given by ' + known.giver + why };
+}
+
+// The row of needs that are in the way: each is followed to the first that nothing gives.
+async function rowOfNeeds(first, isInstalled, chainOf, giverOf) {
+  const boxes = [box(first.sysmod, 'held', ownWords(isInstalled))];
   const passed = new Set([first.sysmod]);
   let chain = first;
   while (chain.status === 'HELD' && passed.size < STEPS) {
     const need = chain.blocked;
     if (passed.has(need)) break;
     passed.add(need);
-    chain = await chainOf(need);
-    const end = chain.status === 'LACK' ? 'is needed, and nothing gives it: not published, or not for this zone'
-      : chain.status === 'HELD' ? 'is needed, and is held itself'
-        : 'is needed, and could be installed by itself, but not together with the rest';
-    boxes.push(box(need, chain.status.toLowerCase(), end));
+    const next = await aboutNeed(need, chainOf, giverOf);
+    chain = next.chain;
+    boxes.push(box(need, chain.status.toLowerCase(), next.words));
   }
   return make('ol', 'members needs', ...boxes);
 }
 
 export class ChainPanel {
   // CHAIN(sysmod) asks; GO(sysmod) makes another one the address; CLOSE leaves; ISRECEIVED(id) tells what is known of
-  // it; AGE() is how old all of it is; SYMPTOMSOF(hold) is what a file of symptoms says of it.
-  constructor({ chain, go, close, faultOf, isReceived, age, symptomsOf, say }) {
-    Object.assign(this, { chain, go, faultOf, isReceived, age, symptomsOf, say, turn: 0 });
+  // it; ISINSTALLED(id) and GIVEROF(need) ask for that; AGE() is how old all of it is; SYMPTOMSOF(hold) is what a file
+  // of symptoms says of it.
+  constructor({ chain, go, close, faultOf, isReceived, isInstalled, giverOf, age, symptomsOf, say }) {
+    Object.assign(this, { chain, go, faultOf, isReceived, isInstalled, giverOf, age, symptomsOf, say, turn: 0 });
     this.input = make('input', 'id');
     Object.assign(this.input, { autocomplete: 'off', spellcheck: false, required: true });
     Object.assign(this.input, { maxLength: 7, pattern: '[A-Za-z0-9@#$]{1,7}' });
@@ -127,11 +158,11 @@ export class ChainPanel {
     this.element.setAttribute('aria-busy', 'true');
     let shown;
     try {
-      const chain = await this.chain(sysmod);
-      const plan = chain.status === 'GOOD' ? membersOf(chain)
-        : chain.status === 'HELD' ? await rowOfNeeds(chain, this.chain) : '';
-      const job = chain.status === 'GOOD' ? [this.job(chain, hold)] : [];
-      shown = [make('p', 'verdict', statusBadge(chain.status), ' ' + sentence(chain)), plan, ...job];
+      const [chain, isInstalled] = await Promise.all([this.chain(sysmod), this.isInstalled(sysmod)]);
+      shown = [make('p', 'verdict', statusBadge(chain.status), ' ' + sentence(chain, isInstalled))];
+      if (mine === this.turn) this.picture.replaceChildren(...shown);
+      if (chain.status === 'GOOD') shown.push(membersOf(chain, isInstalled), this.job(chain, hold));
+      if (chain.status === 'HELD') shown.push(await rowOfNeeds(chain, isInstalled, this.chain, this.giverOf));
     } catch (fault) {
       shown = [make('p', 'fault', this.faultOf(fault))];
     }

@@ -131,9 +131,12 @@ export class HoldReport extends Report {
   }
 }
 
-// What has to be looked at first: HIPER, then PE; of these what nothing resolves; else as the desk has it.
+// What has to be looked at first: HIPER, then PE; of these what can be resolved; else as the desk has it. What nothing
+// resolves comes last, since nothing can be installed for it.
 export function byUrgency(one, other) {
-  return one.classRank - other.classRank || RANKS[other.rank].at - RANKS[one.rank].at || one.order - other.order;
+  const isLast = (hold) => (hold.status === 'none' ? 1 : 0);
+  return isLast(one) - isLast(other) || one.classRank - other.classRank ||
+    RANKS[one.rank].at - RANKS[other.rank].at || one.order - other.order;
 }
 
 // The counts of a zone that the overview shows.

@@ -51,7 +51,7 @@ const COLUMNS = {
   ],
 };
 
-const STATUS = { name: 'status', title: 'Status', of: (hold) => [hold.status], order: ['none', 'LACK', 'HELD', 'GOOD'] };
+const STATUS = { name: 'status', title: 'Status', of: (hold) => [hold.status], order: ['GOOD', 'HELD', 'LACK', 'none'] };
 const RECEIVED = { name: 'received', title: 'Received', of: (hold) => [hold.received], order: ['received'] };
 const KINDS = {
   errsysmods: [{ name: 'class', title: 'Class', of: (hold) => [hold.class], order: ['HIPER', 'PE'] }, STATUS, RECEIVED],
@@ -96,6 +96,8 @@ export class HoldsView {
     this.table = new Table({
       caption: this.title, columns: [...COLUMNS[name], ...more.columns], order: byUrgency, choose: ways.choose,
     });
+    this.nothing = make('p', 'nothing', 'No ' + UNITS[name][0] + ' has all that is chosen above.');
+    this.table.element.append(this.nothing);
     const rows = () => rowsFor(report, this.shown, symptoms);
     const forms = [
       { title: 'CSV', name: zone + '-' + name + '.csv', kind: 'text/csv', text: () => csvOf(rows()) },
@@ -121,5 +123,6 @@ export class HoldsView {
     const { shown } = this.filters;
     this.table.name(this.title + (shown ? ', only ' + shown : ''));
     this.table.show(this.shown);
+    this.nothing.hidden = this.shown.length > 0;
   }
 }

@@ -1,5 +1,5 @@
 // The page: the token, the address, and what is shown for it. The token is kept in this tab alone.
-import { at, make } from './make.js';
+import { at, link, make } from './make.js';
 import { several, timeOf } from './words.js';
 import { REPORT_OF, addressOf, whereIs } from './address.js';
 import { Refusal, Snapshot, wordsOf } from './desk.js';
@@ -51,8 +51,11 @@ function forget(words) {
   at('token').value = '';
   at('level').textContent = '';
   lay(false);
-  say(words, words !== 'The token is forgotten.');
+  const isFault = words !== 'The token is forgotten.';
+  at('token').setAttribute('aria-invalid', String(isFault));
+  say(words, isFault);
   document.title = 'bureau';
+  at('token').focus();
 }
 
 // Asks for everything anew. What was shown before goes first.
@@ -93,7 +96,7 @@ async function show() {
   const where = whereIs(location.hash);
   if (where.zone && !snapshot.zones.some((each) => each.zone === where.zone)) {
     view = null;
-    at('main').replaceChildren(make('p', 'nothing', 'You have no zone ' + where.zone + ' on this desk.'));
+    at('main').replaceChildren(make('p', 'nothing', link('All zones', '', '#')));
     say('You have no zone ' + where.zone + ' on this desk.', true);
     return;
   }
@@ -103,7 +106,7 @@ async function show() {
 
 async function showOverview() {
   if (snapshot.zones.length === 0) {
-    at('main').replaceChildren(make('p', 'nothing', 'You have no zone on this desk. bureau-client sync sends your lists.'));
+    at('main').replaceChildren(make('p', 'nothing', 'bureau-client sync sends your lists.'));
     say('You have no zone on this desk.');
     return;
   }
@@ -141,7 +144,6 @@ at('enter').addEventListener('submit', (event) => {
 at('leave').addEventListener('click', () => {
   history.replaceState(null, '', location.pathname);
   forget('The token is forgotten.');
-  at('token').focus();
 });
 at('again').addEventListener('click', () => begin(snapshot.token));
 window.addEventListener('hashchange', show);

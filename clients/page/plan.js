@@ -12,18 +12,14 @@ function isMember(member) {
 
 const isHeld = (held) => isHold(held) && typeof held.resolver === 'string';
 const isBlocked = (blocked) => typeof blocked?.sysmod === 'string' && typeof blocked.need === 'string' &&
-  (blocked.giver === null || typeof blocked.giver === 'string');
+  (blocked.giver === null || typeof blocked.giver === 'string') && typeof blocked.published === 'boolean';
 const areAll = (list, is) => Array.isArray(list) && list.every(is);
 
-// The needs that are in a SYSMOD's way: its own, that of what would give it, and so on, each once.
-function needsOf(sysmod, blocked) {
-  const needs = [];
-  const seen = new Set();
-  for (let row = blocked.get(sysmod); row && !seen.has(row.sysmod); row = blocked.get(row.giver)) {
-    seen.add(row.sysmod);
-    needs.push(row.need);
-  }
-  return needs;
+// The rows of needs that are in a SYSMOD's way: its own, that of what would give it, and so on, each once.
+function rowsOfNeeds(sysmod, blocked) {
+  const rows = new Map();
+  for (let row = blocked.get(sysmod); row && !rows.has(row.sysmod); row = blocked.get(row.giver)) rows.set(row.sysmod, row);
+  return [...rows.values()];
 }
 
 // The plan of a report: members in the order of installation; the holds that nothing resolves; and those whose
@@ -34,8 +30,8 @@ export function planOf(text, zone, name) {
     areAll(plan.unresolved, isHold) && areAll(plan.held, isHeld) && areAll(plan.blocked, isBlocked);
   if (!isPlan) throw new NoReport();
   const blocked = new Map(plan.blocked.map((row) => [row.sysmod, row]));
-  const held = plan.held.map((hold) => ({ ...hold, blocked: needsOf(hold.resolver, blocked) }));
-  return { zone, members: plan.members, unresolved: plan.unresolved, held, json: text };
+  const held = plan.held.map((hold) => ({ ...hold, blocked: rowsOfNeeds(hold.resolver, blocked) }));
+  return { zone, members: plan.members, unresolved: plan.unresolved, held, blocked: plan.blocked, json: text };
 }
 
 const named = (holds) => holds.map((hold) => hold.sysmod + ' ' + hold.reason).join(' ');
@@ -47,7 +43,7 @@ export function planRows(plan) {
     String(member.step), member.id, member.received ? 'YES' : 'NO', member.fmids.join(' '), named(member.holds),
     member.needed_by.join(' '), member.system.join(' '), member.user.join(' '), '',
   ]);
-  const held = plan.held.map((hold) => ['HELD', hold.resolver, '', '', named([hold]), '', '', '', hold.blocked.join(' ')]);
+  const held = plan.held.map((hold) => ['HELD', hold.resolver, '', '', named([hold]), '', '', '', hold.blocked.map((row) => row.need).join(' ')]);
   const none = plan.unresolved.map((hold) => ['NONE', '', '', '', named([hold]), '', '', '', '']);
   return [heading, ...members, ...held, ...none];
 }

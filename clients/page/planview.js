@@ -69,9 +69,16 @@ function leftOver(title, words, items) {
 const id = (text) => make('span', 'id', text);
 const holdWords = (hold) => [id(hold.sysmod), ' held for ', id(hold.reason)];
 
+// How a row of needs ends.
+function endWords({ giver, published }) {
+  if (giver) return ', and so on: they wait for each other';
+  return published ? ', which is published for functions that the zone lacks' : ', which nothing that is published gives';
+}
+
 function heldWords(hold) {
-  const needs = hold.blocked.flatMap((need) => [' → ', id(need)]);
-  return [...holdWords(hold), ': ', id(hold.resolver), ' needs', ...needs];
+  const needs = hold.blocked.flatMap(({ need }) => [' → ', id(need)]);
+  const end = hold.blocked.length > 0 ? endWords(hold.blocked.at(-1)) : '';
+  return [...holdWords(hold), ': ', id(hold.resolver), ' needs', ...needs, end];
 }
 
 function summary(plan) {
@@ -87,8 +94,9 @@ export class PlanView {
   constructor(name, zone, plan, snapshot, ways) {
     const title = 'Plan for the ' + NAMES[name] + ' of zone ' + zone + ', ' + snapshot.age;
     const file = zone + '-' + name + '-plan';
+    const job = { title: 'SMP/E job', name: file + '.smpcntl.txt', kind: 'text/plain', text: () => jobOf(plan, title) };
     const forms = [
-      { title: 'SMP/E job', name: file + '.smpcntl.txt', kind: 'text/plain', text: () => jobOf(plan, title) },
+      ...(plan.members.length > 0 ? [job] : []),
       { title: 'CSV', name: file + '.csv', kind: 'text/csv', text: () => csvOf(planRows(plan)) },
       { title: 'JSON', name: file + '.json', kind: 'application/json', text: () => plan.json + '\n' },
     ];

@@ -32,6 +32,8 @@ export class ZoneView {
       close: () => this.leaveChain(),
       faultOf: ways.faultOf,
       isReceived: (id) => this.isReceived(id),
+      isInstalled: (id) => this.isInstalled(id),
+      giverOf: (need) => this.giverOf(need),
       age: () => snapshot.age,
       symptomsOf: (hold) => (hold.held === 'SYSMOD' ? snapshot.symptoms?.wordsOf(hold) ?? '' : ''),
       say: ways.say,
@@ -223,6 +225,24 @@ export class ZoneView {
   isReceived(id) {
     const holds = this.view?.report?.holds ?? [];
     return holds.some((hold) => hold.resolvers.some((each) => each.id === id && each.isReceived));
+  }
+
+  // Whether a SYSMOD is held in error: only what is installed is.
+  async isInstalled(id) {
+    const report = await this.snapshot.report(this.zone, 'errsysmods').catch(() => null);
+    return Boolean(report?.holds.some((hold) => hold.sysmod === id));
+  }
+
+  // What would give a need that nothing good gives, as the plan's row of it tells, or the best resolver of a hold for it:
+  // {giver, published}, where `giver` is null if nothing for this zone gives it. Undefined is not known.
+  async giverOf(need) {
+    const name = this.where.tab === 'plan' ? this.plan : REPORT_OF[this.where.tab];
+    const asked = [this.snapshot.plan(this.zone, name), this.snapshot.report(this.zone, 'errsysmods')];
+    const [plan, report] = await Promise.all(asked.map((answer) => answer.catch(() => null)));
+    const row = plan?.blocked.find((each) => each.need === need);
+    const best = report?.holds.find((hold) => hold.reason === need)?.best;
+    if (row || !best || best.status === 'GOOD') return row;
+    return { giver: best.status === 'HELD' ? best.id : null, published: best.status !== 'none' };
   }
 
   leaveChain() {
