@@ -268,8 +268,17 @@ class Jobs(unittest.TestCase):
 
 class Statements(unittest.TestCase):
     def test_end(self):
-        for text, wanted in ((b"++PTF(A). more", (0, 9)), (b"++PTF(A) /* . */.", (0, 17)), (b"++HOLD(A) COMMENT(/* .).", (0, 24)), (b"++PTF(A", None), (b"++PTF(A)).", None)):
-            self.assertEqual(statements.end_of([text]), wanted, text)
+        for text, wanted in (
+            (b"++PTF(A). more", 9),
+            (b"++PTF(A) /* . */.", 17),
+            (b"++PTF(A) /* .\n */\n . more", 20),
+            (b"++HOLD(A) COMMENT(/* .).", 24),
+            (b"++HOLD(A) COMMENT(A (/* .) B) /* ) */.", 38),
+            (b"++PTF(A", None),
+            (b"++PTF(A)).", None),
+            (b"++PTF(A) /* .", None),
+        ):
+            self.assertEqual(statements.end_of(text), wanted, text)
 
 
 class ZoneLists(unittest.TestCase):

@@ -59,46 +59,42 @@ def lines_of(path):
                 yield line.rstrip(b"\n").removesuffix(b"\r")
 
 
-def end_of(lines):
-    """Where the statement's period is: the number of its line and the column after it, or None."""
-    depth, in_comment, word, in_text = 0, False, b"", False
-    for number, line in enumerate(lines):
-        at = VERB.match(line).end() if number == 0 else 0
-        while True:
-            if in_comment:
-                if (end := line.find(b"*/", at)) < 0:
-                    break
-                in_comment, at = False, end + 2
-            if not (found := MARK.search(line, at)):
-                break
-            mark, at = found[0], found.end()
-            if mark == b"/*":
-                in_comment = not in_text
-            elif mark == b"(":
-                depth += 1
-                in_text = in_text or depth == 1 and word == b"COMMENT"
-            elif mark == b")":
-                depth, word = depth - 1, b""
-                in_text = in_text and depth > 0
-                if depth < 0:
-                    return None
-            elif depth == 0 and mark == b".":
-                return number, at
-            elif depth == 0:
-                word = mark.upper()
+def marks_of(text):
+    """The marks and words of a statement after its verb, each with where it begins and ends, and with the number of lists that are open
+    after it. None is in a comment. The text of COMMENT has no comments."""
+    at, depth, word = VERB.match(text).end(), 0, b""
+    while found := MARK.search(text, at):
+        mark, at = found[0], found.end()
+        if mark == b"/*":
+            if not (depth and word == b"COMMENT"):
+                if (at := text.find(b"*/", at) + 2) == 1:
+                    return
+            continue
+        depth += (mark == b"(") - (mark == b")")
+        yield mark, found.start(), at, depth
+        if depth == 0 and mark != b"(":
+            word = mark.upper()
+
+
+def end_of(text):
+    """Where the statement's period ends, or None."""
+    for mark, _, end, depth in marks_of(text):
+        if depth < 0:
+            return None
+        if depth == 0 and mark == b".":
+            return end
     return None
 
 
 def statement_of(path, first, verb, lines, lost):
     """A statement with its lines to the period; where no period is found, all lines to the next statement. What
     looks like a statement after the period goes to `lost`."""
-    end = end_of(lines)
+    text = b"\n".join(lines)
+    end = end_of(text)
     if end is not None:
-        number, column = end
-        name_lost(path, first + number, lines[number][column:], lost)
-        for more, line in enumerate(lines[number + 1 :], first + number + 1):
-            name_lost(path, more, line, lost)
-        lines = lines[:number] + [lines[number][:column]]
+        lines = text[:end].split(b"\n")
+        for number, line in enumerate(text[end:].split(b"\n"), first + len(lines) - 1):
+            name_lost(path, number, line, lost)
     return Statement(f"{path}, line {first}", verb, [line.rstrip() for line in lines], end is None)
 
 
@@ -144,25 +140,17 @@ def operands_of(one):
     """The operands of a statement without a fault: each name in capitals, with the text in its list. The list right
     after the verb has no name."""
     text = b" ".join(one.lines)
-    at, begin, depth, word, found = VERB.match(text).end(), 0, 0, b"", []
     if b"/*" not in text and not re.search(rb"[()]", LIST.sub(b"", text)):  # no list has another in it
-        return [(name.upper(), list) for name, list in LIST.findall(text, at)]
-    while mark := MARK.search(text, at):
-        at = mark.end()
-        if mark[0] == b"/*" and not (depth and word == b"COMMENT"):
-            at = text.find(b"*/", at) + 2
-            if at == 1:
-                break
-        elif mark[0] == b"(":
-            depth += 1
-            begin = at if depth == 1 else begin
-        elif mark[0] == b")":
-            depth -= 1
-            if depth == 0:
-                found.append((word, text[begin : at - 1]))
-                word = b""
+        return [(name.upper(), list) for name, list in LIST.findall(text, VERB.match(text).end())]
+    begin, word, found = 0, b"", []
+    for mark, start, end, depth in marks_of(text):
+        if mark == b"(" and depth == 1:
+            begin = end
+        elif mark == b")" and depth == 0:
+            found.append((word, text[begin:start]))
+            word = b""
         elif depth == 0:
-            word = mark[0].upper()
+            word = mark.upper()
     return found
 
 
