@@ -1,4 +1,4 @@
-//! Texts for who runs the program. `README.md` has the same table with what to do.
+//! Texts for who runs the program. `docs/FAULTS.md` has the same table with what to do.
 
 /// What `--version` tells.
 pub const VERSION: &str = "0.1.0";
