@@ -9,6 +9,7 @@ import csv
 import io
 import json
 import os
+import re
 import time
 
 from chromium import Browser
@@ -106,13 +107,22 @@ def sample(browser, front, north):
     check("the form is there again", browser.run("document.getElementById('token').offsetParent !== null"))
 
 
-def installed(browser, front):
+def installed(browser, front, north, south):
     """A SYSMOD that is installed is told as such. What would give its need is held, and for what, the report and the plan tell."""
     browser.open(front.url + "/page/?installed")
     click(browser, "#leave")
     enter(browser, NORTH)
     go(browser, "#MVSPROD/errors/UJ92001")
     shows(browser, "UJ92001 is installed, and is held in error. 1 other SYSMOD would give what it needs.", ".beside")
+    place = folder()
+    browser.call("Browser.setDownloadBehavior", behavior="allow", downloadPath=place)
+    click(browser, ".beside [aria-label='Save as SMP/E job']")
+    path = place + "/MVSPROD-UJ92001.smpcntl.txt"
+    check("its chain is saved as a job", until(lambda: os.path.exists(path)))
+    time.sleep(0.2)
+    saved = open(path).read()
+    same("as bureau-client makes it", without_time(saved), without_time(north.run("job", "MVSPROD", "UJ92001")[1]))
+    same("which does not apply it again", re.findall(r"(?m)^ {4}(U\w+)$", saved), ["UJ92005"])
     click(browser, "#leave")
     enter(browser, SOUTH)
     go(browser, "#MVSTEST/errors/UJ92002")
@@ -128,6 +138,8 @@ def installed(browser, front):
             "AJ64003 is needed, and nothing that is published gives it",
         ],
     )
+    status, _, err = south.run("job", "MVSTEST", "UJ92002")
+    check("the client says so too", status == 1 and "UJ92002 is installed, and is held in error: AJ64002 is needed" in err, err)
     go(browser, "#MVSTEST/plan")
     click(browser, ".left summary")
     shows(browser, "UJ92002 held for AJ64002: UJ92004 needs → AJ64003, which nothing that is published gives", ".left")
@@ -360,7 +372,7 @@ def main():
     sample(browser, front, north)
     sent_link(browser, front)
     same("lists of SOUTH", south.run("sync", SITE + "/south")[0], 0)
-    installed(browser, front)
+    installed(browser, front, north, south)
     symptoms(browser, north)
     refusals(browser, front)
     publisher.run(

@@ -155,12 +155,15 @@ def now():
 # --- The job of SYSMODs with their chains -------------------------------------------------------------------------------
 
 
-def members_of(chains, resolved, received):
-    """The members of all plans, each once, in ascending order. RESOLVED has the holds that each resolver resolves."""
+def members_of(chains, resolved, received, installed):
+    """The members of all plans, each once, in ascending order. What is installed is none. RESOLVED has the holds that each resolver
+    resolves."""
     members = {}
     for chain in chains:
         for member in chain["plan"]:
             id = member["id"]
+            if id in installed:
+                continue
             one = members.setdefault(id, {**member, "received": id in received, "holds": [], "needed_by": []})
             if id == chain["sysmod"]:
                 one["holds"] = resolved.get(id, [])
@@ -169,7 +172,9 @@ def members_of(chains, resolved, received):
     return [members[id] for id in sorted(members)]
 
 
-def why_not(chain):
+def why_not(chain, installed):
+    if chain["status"] == "HELD" and chain["sysmod"] in installed:
+        return f"{chain['sysmod']} is installed, and is held in error: {chain['blocked']} is needed, and nothing that can be installed gives it"
     if chain["status"] == "HELD":
         return f"{chain['sysmod']} can't be installed: {chain['blocked']} is in the way"
     return f"{chain['sysmod']} is not published, or is for a function that the zone lacks"
@@ -201,10 +206,11 @@ def job_of_chains(desk, zone, sysmods):
     age = age_of(desk, asked)
     chains = [ask_chain(desk, zone, each) for each in sysmods]
     resolved, received = resolvers_of(reports)
+    installed = {row["SYSMOD"] for row in reports["errsysmods"]}  # only what is installed is an exception SYSMOD
     good = [chain for chain in chains if chain["status"] == "GOOD"]
-    left_over = [why_not(chain) for chain in chains if chain["status"] != "GOOD"]
+    left_over = [why_not(chain, installed) for chain in chains if chain["status"] != "GOOD"]
     title = f"Chain{'s' if len(sysmods) > 1 else ''} of {', '.join(sysmods)} in zone {zone}, {age}"
-    run.out(job_of(zone, members_of(good, resolved, received | received_list(desk)), left_over, title))
+    run.out(job_of(zone, members_of(good, resolved, received | received_list(desk), installed), left_over, title))
     for sentence in left_over:
         run.refused(sentence)
 

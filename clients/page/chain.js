@@ -47,9 +47,10 @@ function membersOf(chain, isInstalled) {
 }
 
 // A chain as a plan of its own, for a job. A chain does not tell which members were received: RECEIVE names all of
-// which the report does not say so.
-function planOf(chain, hold, isReceived) {
-  const members = chain.plan.map((member) => ({
+// which the report does not say so. What is installed is no member.
+function planOf(chain, hold, isReceived, isInstalled) {
+  const wanted = chain.plan.filter((member) => !isInstalled || member.id !== chain.sysmod);
+  const members = wanted.map((member) => ({
     ...member, received: isReceived(member.id), needed_by: member.id === chain.sysmod ? [] : [chain.sysmod],
     holds: hold && member.id === chain.sysmod ? [{ sysmod: hold.sysmod, reason: hold.reason }] : [],
   }));
@@ -161,7 +162,7 @@ export class ChainPanel {
       const [chain, isInstalled] = await Promise.all([this.chain(sysmod), this.isInstalled(sysmod)]);
       shown = [make('p', 'verdict', statusBadge(chain.status), ' ' + sentence(chain, isInstalled))];
       if (mine === this.turn) this.picture.replaceChildren(...shown);
-      if (chain.status === 'GOOD') shown.push(membersOf(chain, isInstalled), this.job(chain, hold));
+      if (chain.status === 'GOOD') shown.push(membersOf(chain, isInstalled), this.job(chain, hold, isInstalled));
       if (chain.status === 'HELD') shown.push(await rowOfNeeds(chain, isInstalled, this.chain, this.giverOf));
     } catch (fault) {
       shown = [make('p', 'fault', this.faultOf(fault))];
@@ -171,9 +172,9 @@ export class ChainPanel {
     this.picture.replaceChildren(...shown);
   }
 
-  job(chain, hold) {
+  job(chain, hold, isInstalled) {
     const title = 'Chain of ' + chain.sysmod + ' in zone ' + chain.zone + ', ' + this.age();
-    const text = () => jobOf(planOf(chain, hold, this.isReceived), title);
+    const text = () => jobOf(planOf(chain, hold, this.isReceived, isInstalled), title);
     const name = chain.zone + '-' + chain.sysmod + '.smpcntl.txt';
     return saveButtons([{ title: 'SMP/E job', name, kind: 'text/plain', text }], this.say);
   }
