@@ -7,9 +7,7 @@ import subprocess
 
 from . import faults, run
 from .run import Stop, say
-from .statements import ID, ids_in, lines_of, operands_of, plain, statements_in, statements_of
-
-LIST = re.compile(rb"\([^()]*\)")
+from .statements import ids_in, lines_of, marks_of, operands_of, plain, statements_in, statements_of
 
 
 def holds(path):
@@ -36,12 +34,9 @@ def holds(path):
 # --- Fix categories -----------------------------------------------------------------------------------------------------
 
 
-def words_of(one):
-    """The words of a statement that stand in no list."""
-    text, before = plain(b" ".join(one.lines)), b""
-    while text != before:
-        before, text = text, LIST.sub(b" ", text)
-    return ID.findall(text.upper())
+def is_fixcat(one):
+    """Whether a hold or a release has the word FIXCAT, outside of its lists."""
+    return any(depth == 0 and mark.upper() == b"FIXCAT" for mark, _, _, depth in marks_of(b" ".join(one.lines)))
 
 
 @functools.lru_cache(None)
@@ -49,7 +44,7 @@ def categories_in(path):
     """The categories of the FIXCAT holds that a file leaves. Of the holds of a SYSMOD for a reason the last one counts."""
     book = {}
     for one in statements_of(path, []):
-        if one.verb not in (b"HOLD", b"RELEASE") or one.is_open or b"FIXCAT" not in words_of(one):
+        if one.verb not in (b"HOLD", b"RELEASE") or one.is_open or not is_fixcat(one):
             continue
         operands = operands_of(one)
         texts = [plain(text) for name, text in operands if one.verb == b"HOLD" and name == b"CATEGORY"]

@@ -12,7 +12,6 @@ MARK = re.compile(rb"/\*|[().]|[A-Za-z0-9@#$]+")  # what may begin or end someth
 LOST = re.compile(rb"\+\+[ \t]*(HOLD|RELEASE|PTF|APAR|USERMOD|FUNCTION|VER|IF)[ \t]*[( \t]", re.I)
 COMMENT = re.compile(rb"/\*.*?(\*/|$)")
 ID = re.compile(rb"[A-Z0-9@#$]+")
-LIST = re.compile(rb"([A-Za-z0-9@#$]*)[ \t,]*\(([^()]*)\)")
 FRONT = 64000  # bytes that tell what a file is: a whole number of 80-byte records
 
 
@@ -140,8 +139,6 @@ def operands_of(one):
     """The operands of a statement without a fault: each name in capitals, with the text in its list. The list right
     after the verb has no name."""
     text = b" ".join(one.lines)
-    if b"/*" not in text and not re.search(rb"[()]", LIST.sub(b"", text)):  # no list has another in it
-        return [(name.upper(), list) for name, list in LIST.findall(text, VERB.match(text).end())]
     begin, word, found = 0, b"", []
     for mark, start, end, depth in marks_of(text):
         if mark == b"(" and depth == 1:
