@@ -283,16 +283,22 @@ class Statements(unittest.TestCase):
 
 class ZoneLists(unittest.TestCase):
     def test_states(self):
-        for words, wanted in (
-            (["DELBY", "SUPBY"], (None, "deleted by a function")),
-            (["SUPBY", "ERROR"], ("SUPERSEDED", "not installed")),
-            (["ERROR", "RESTORE"], (None, "in error")),
-            (["RESTORE", "APP"], (None, "whose RESTORE did not end")),
-            (["ACC", "APP"], ("APPLIED", "not installed")),
-            (["ACC"], ("ACCEPTED", "not installed")),
-            (["REC"], (None, "not installed")),
+        for fields, wanted in (
+            ({"DELBY": ["HDZ33E0"], "SUPBY": ["UJ1"]}, (None, "deleted by a function")),
+            ({"TYPE": ["DELETED"], "STATUS": ["APP"]}, (None, "deleted by a function")),
+            ({"SUPBY": ["UJ1"], "STATUS": ["ERR"]}, ("SUPERSEDED", None)),
+            ({"LASTSUP": ["UJ1"]}, ("SUPERSEDED", None)),
+            ({"SUPBY": [], "STATUS": ["APP"]}, ("APPLIED", None)),
+            ({"STATUS": ["APP", "ERR(1)"], "RESTORE": ["YES"]}, (None, "in error")),
+            ({"ERROR": ["NO"], "STATUS": ["APP", "RES"]}, (None, "whose RESTORE did not end")),
+            ({"STATUS": ["REC", "ACC", "APP"]}, ("APPLIED", None)),
+            ({"STATUS": ["ACC"]}, ("ACCEPTED", None)),
+            ({"STATUS": ["REC"]}, (None, "not installed")),
+            ({}, (None, "not installed")),
         ):
-            self.assertEqual(zone_csv.state_of(words, "zone"), wanted)
+            self.assertEqual(zone_csv.state_of(fields, "zone"), wanted, fields)
+        self.assertEqual(zone_csv.state_of({"STATUS": ["APP", "REC"]}, "received"), ("RECEIVED", None))
+        self.assertEqual(zone_csv.state_of({"STATUS": ["APP"]}, "received"), (None, "not received"))
 
 
 if __name__ == "__main__":

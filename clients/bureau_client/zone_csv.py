@@ -26,25 +26,24 @@ NAME = re.compile("[A-Z0-9@#$]+")
 ENTRY = re.compile(" ?([^ ]+)")
 ENTRIES = b"\xc5\xd5\xe3\xd9\xc9\xc5\xe2"  # in EBCDIC
 
-# What the words of a field say of a SYSMOD, where that isn't the word itself. None is any word.
-SAID = {
-    ("STATUS", "RES"): "RESTORE",
-    ("ERROR", "YES"): "ERROR",
-    ("RESTORE", "YES"): "RESTORE",
-    ("TYPE", "SUPERSEDED"): "SUPBY",
-    ("TYPE", "DELETED"): "DELBY",
-    ("SUPBY", None): "SUPBY",
-    ("LASTSUP", None): "SUPBY",
-    ("DELBY", None): "DELBY",
-    **{("STATUS", word): word for word in ("REC", "APP", "ACC")},
-}
-SAYING = {field for field, _ in SAID}
+# The state of a SYSMOD in a zone's list: that of the first row of which a field has such a word. If the row has none, the SYSMOD is left
+# out for what stands in its place.
+STATES = (
+    ({"DELBY": ".+", "TYPE": "DELETED"}, None, "deleted by a function"),
+    ({"SUPBY": ".+", "LASTSUP": ".+", "TYPE": "SUPERSEDED"}, "SUPERSEDED", None),
+    ({"ERROR": "YES", "STATUS": "ERR.*"}, None, "in error"),
+    ({"RESTORE": "YES", "STATUS": "RES"}, None, "whose RESTORE did not end"),
+    ({"STATUS": "APP"}, "APPLIED", None),
+    ({"STATUS": "ACC"}, "ACCEPTED", None),
+)
+RECEIVED = (({"STATUS": "REC"}, "RECEIVED", None),)
+SAYING = {field for row in STATES for field in row[0]}
 # The fields of an entry as LIST writes them, and the words of STATUS: others are named, so that none is lost in silence.
 FIELDS = """TYPE STATUS FMID DATE/TIME REC INS APP ACC SREL DELETE DELBY SUPBY SUPING LASTSUP PRE REQ IFREQ CIFREQ NPRE VERSION FEATURE MOD MAC SRC
   MACUPD SRCUPD SZAP XZAP MODDEL JCLIN REWORK RESDATE ERROR RESTORE LASTUPD ASSEM EMOVE RENLMOD DELLMOD RMAC RSRC RLMOD RMACUPD RSRCUPD
   RSZAP RXZAP HOLDERROR HOLDSYSTEM HOLDUSER HOLDFIXCAT HOLDCLASS BYPASS REGEN ACCEPT APPLY SOURCEID DESCRIPTION UCLDATE HFS JAR PROGRAM
   PROGRAMS RECDATE INSTALLDATE SMODTYPE RFMID FILE DATA ELEMENT XREF CATEGORY RESOLVER LEPARM SHELLSCR SYMLINK""".split()
-STATUS = ("REC", "APP", "ACC", "RES", "DEL", "SUP", "NOT", "IDR", "BYP", "CRQ", "REGEN", "JCLIN", "RESTORE")
+STATUS = re.compile("REC|APP|ACC|RES|DEL|SUP|NOT|IDR|BYP|CRQ|REGEN|JCLIN|RESTORE|ERR.*")
 
 
 def tell(text):
@@ -60,17 +59,6 @@ def some(names):
 # --- SMPLIST ------------------------------------------------------------------------------------------------------------
 
 
-def words_of(text):
-    return [word for word in re.split("[ \t]+", text) if word]
-
-
-def said_of(field, word):
-    """What a word of a field says of a SYSMOD, or None."""
-    if field == "STATUS" and word.startswith("ERR"):
-        return "ERROR"
-    return SAID.get((field, word)) or SAID.get((field, None))
-
-
 def without_control(line):
     return " " + line[1:] if line[:1] in tuple("01+-") else line
 
@@ -84,7 +72,7 @@ def lines_of(source, zone):
         line = line.decode("latin-1").removesuffix("\n").removesuffix("\r")
         if "ENTRIES" in line and HEADING.fullmatch(line):
             has_control = line[0] in " 01+-"
-            is_ours = words_of(without_control(line))[:2] == [zone, "SYSMOD"]
+            is_ours = without_control(line).split()[:2] == [zone, "SYSMOD"]
             if not is_ours:
                 yield None
         elif is_ours:
@@ -108,128 +96,107 @@ def entry_of(line):
 
 
 def from_text(source, zone):
-    """Each SYSMOD of a zone, with what a listing says of it."""
-    said, name, field, unknown = {}, None, "", {"fields": Counter(), "words of STATUS": Counter()}
+    """The fields of each SYSMOD of a zone, as far as they say its state, with their words."""
+    found, name, field, unknown = {}, None, "", {"fields": Counter(), "words of STATUS": Counter()}
     for line in lines_of(source, zone):
         begun, text = entry_of(line) if line is not None else (None, None)
         if begun or text is None:
             name, field = begun, ""
         if name is None:
             continue
-        words = said.setdefault(name, [])
+        fields = found.setdefault(name, {})
         if "=" in text:
             field, text = text.split("=", 1)
             field = field.strip(" ").partition(" ")[0].partition("(")[0]  # such as SUPBY of `SUPBY  (IMM)`
             if field not in FIELDS:
                 unknown["fields"][field] += 1
-        for word in words_of(text) if field in SAYING else ():
-            if field == "STATUS" and word not in STATUS and not word.startswith("ERR"):
-                unknown["words of STATUS"][word] += 1
-            if (what := said_of(field, word)) and what not in words:
-                words.append(what)
+        if field in SAYING:
+            words = re.findall("[^ \t]+", text)
+            fields.setdefault(field, []).extend(words)
+            unknown["words of STATUS"].update(word for word in words if field == "STATUS" and not STATUS.fullmatch(word))
     for kind, count in unknown.items():
         if count:
             tell(f"passed over, unknown {kind}: {sum(count.values())} {some(count)}")
-    return list(said.items())
+    return found
 
 
 # --- JSON ---------------------------------------------------------------------------------------------------------------
 
 
-def small(thing):
-    """An object with the names of its fields in small letters."""
-    return {str(key).lower(): value for key, value in thing.items()} if isinstance(thing, dict) else {}
+def large(thing):
+    """An object with the names of its fields in capitals."""
+    return {str(key).upper(): value for key, value in thing.items()} if isinstance(thing, dict) else {}
 
 
 def texts(value):
     if isinstance(value, list):
         return [text for one in value for text in texts(one)]
     text = "" if value is None else str(value).strip()
-    return [text] if text else []
+    return [text.upper()] if text else []
 
 
-def fields_of(entry):
-    """What is said of an entry: an object, or a list of objects; each value a text or a list of texts."""
-    parts, found = entry.get("subentries", entry), {}
-    for part in map(small, parts if isinstance(parts, list) else [parts]):
-        if "name" in part or "subentry" in part:
-            part = {str(part.get("name", part.get("subentry"))).lower(): part.get("values", part.get("value", part.get("data")))}
+def fields_of(entry, installed):
+    """The fields of an entry with their words, as a listing has them. In JSON it is an object, or a list of objects, with the dates in place
+    of STATUS. INSTALLED is APP or ACC."""
+    parts, fields = entry.get("SUBENTRIES", entry), {}
+    for part in map(large, parts if isinstance(parts, list) else [parts]):
+        if "NAME" in part or "SUBENTRY" in part:
+            part = {str(part.get("NAME", part.get("SUBENTRY"))).upper(): part.get("VALUES", part.get("VALUE", part.get("DATA")))}
         for name, value in part.items():
-            found.setdefault(name, []).extend(texts(value))
-    return found
-
-
-def said_in(what, installed):
-    """What the fields of an entry say of a SYSMOD. INSTALLED is APP or ACC."""
-    if what.get("installdate"):
-        yield installed
-    if what.get("recdate"):
-        yield "REC"
-    for name in ("error", "restore"):
-        if "YES" in [text.upper() for text in what.get(name, ())]:
-            yield name.upper()
-    if what.get("supby") or what.get("lastsup"):
-        yield "SUPBY"
-    if what.get("delby"):
-        yield "DELBY"
+            fields.setdefault(name, []).extend(texts(value))
+    said = {name: words for name, words in fields.items() if name in SAYING - {"TYPE", "STATUS"}}
+    return {**said, "STATUS": [installed] * bool(fields.get("INSTALLDATE")) + ["REC"] * bool(fields.get("RECDATE"))}
 
 
 def from_json(data, zone, installed):
-    """Each SYSMOD of a zone, with what JSON says of it."""
+    """The fields of each SYSMOD of a zone, as far as they say its state."""
     try:
         answer = json.loads(data.decode("utf-8", "surrogateescape"))
     except (ValueError, RecursionError) as fault:
         raise Stop(3, f"the file is no JSON: {fault}") from None
-    whole = small(answer)
-    if "entries" not in whole and "statusurl" in whole:
+    whole = large(answer)
+    if "ENTRIES" not in whole and "STATUSURL" in whole:
         text = "z/OSMF is still at work: it answered 202, and an address to ask again. Ask there until it answers 200 with entries, and"
-        raise Stop(1, f"{text} take that answer: curl --user USER --header X-CSRF-ZOSMF-HEADER:bureau {whole['statusurl']}")
-    entries, found = whole.get("entries", answer), []
-    for entry in map(small, entries if isinstance(entries, list) else []):
-        if str(entry.get("entrytype", "SYSMOD")).upper() == "SYSMOD" and str(entry.get("zonename", zone)).upper() == zone:
-            name = str(entry.get("entryname", "")).strip().encode("utf-8", "replace").decode("latin-1")
-            found.append((name, list(said_in(fields_of(entry), installed))))
+        raise Stop(1, f"{text} take that answer: curl --user USER --header X-CSRF-ZOSMF-HEADER:bureau {whole['STATUSURL']}")
+    entries, found = whole.get("ENTRIES", answer), {}
+    for entry in map(large, entries if isinstance(entries, list) else []):
+        if str(entry.get("ENTRYTYPE", "SYSMOD")).upper() == "SYSMOD" and str(entry.get("ZONENAME", zone)).upper() == zone:
+            name = str(entry.get("ENTRYNAME", "")).strip().encode("utf-8", "replace").decode("latin-1")
+            for field, words in fields_of(entry, installed).items():
+                found.setdefault(name, {}).setdefault(field, []).extend(words)
     return found
 
 
 # --- The list -----------------------------------------------------------------------------------------------------------
 
-# What is said of a SYSMOD, in the order in which it counts, with its state in the list, and with why it is left out if it has none.
-STATES = {
-    "DELBY": (None, "deleted by a function"),
-    "SUPBY": ("SUPERSEDED", "not installed"),
-    "ERROR": (None, "in error"),
-    "RESTORE": (None, "whose RESTORE did not end"),
-    "APP": ("APPLIED", "not installed"),
-    "ACC": ("ACCEPTED", "not installed"),
-}
 NO_NAME = "without a name that is 1 to 7 of A-Z 0-9 @ # $"
 # The order in which they are told.
 TOLD = ("ACCEPTED", "SUPERSEDED", "APPLIED", "RECEIVED")
 TOLD_LEFT_OUT = ("in error", "not received", NO_NAME, "deleted by a function", "not installed", "whose RESTORE did not end")
 
 
-def state_of(words, what):
+def state_of(fields, what):
     """The state of a SYSMOD in a list, or None, and why it is left out."""
-    if what == "received":
-        return ("RECEIVED", None) if "REC" in words else (None, "not received")
-    return next((STATES[word] for word in STATES if word in words), (None, "not installed"))
+    for row, state, why in RECEIVED if what == "received" else STATES:
+        if any(re.fullmatch(pattern, word, re.S) for field, pattern in row.items() for word in fields.get(field, ())):
+            return state, why
+    return None, "not received" if what == "received" else "not installed"
 
 
-def as_list(said, zone, what):
+def as_list(found, zone, what):
     """The rows of a list. On standard error stands what it has, and what it leaves out."""
     listed, left_out = {}, {}
-    for name, words in sorted({(name, tuple(words)) for name, words in said}):
-        state, why = state_of(words, what) if run.ID.fullmatch(name) else (None, NO_NAME)
+    for name, fields in sorted(found.items()):
+        state, why = state_of(fields, what) if run.ID.fullmatch(name) else (None, NO_NAME)
         if state is None:
             left_out.setdefault(why, []).append(name)
         else:
-            listed.setdefault(name, state)
+            listed[name] = state
     count = Counter(listed.values())
     tell(f"{zone}:" + ("".join(f" {count[state]} {state}" for state in TOLD if count[state]) or " no rows"))
     for why in filter(left_out.get, TOLD_LEFT_OUT):
         tell(f"left out, {why}: {len(left_out[why])} {some(left_out[why])}")
-    if not said:
+    if not found:
         raise Stop(1, f"FILE says nothing of SYSMODs of the zone {zone}")
     if len(listed) > 40000:
         raise Stop(1, "the list has over 40,000 rows, which no desk takes")
@@ -244,7 +211,7 @@ def bytes_of(path):
             return given.read()
     if not os.path.isfile(path):
         raise Stop(3, f"the file '{path}' can't be read")
-    return run.bytes_in(path)
+    return run.bytes_of(path)
 
 
 def main(words):
@@ -260,8 +227,8 @@ def main(words):
     if b"ENTRIES" not in data and (ENTRIES in data or data.startswith(b"\xc0")):  # a brace in EBCDIC
         raise Stop(1, f"{path} is EBCDIC. Transfer it as text, or convert it: iconv -f IBM-1047 -t UTF-8 <FILE >NEW")
     is_json = data.lstrip(b" \t\r\n").startswith((b"{", b"["))
-    said = from_json(data, zone, installed) if is_json else from_text(io.BytesIO(data), zone)
-    rows = as_list(said, zone, what)
+    found = from_json(data, zone, installed) if is_json else from_text(io.BytesIO(data), zone)
+    rows = as_list(found, zone, what)
     lines = ["SYSMOD", *rows] if what == "received" else ["SYSMOD,STATE", *map(",".join, rows.items())]
     run.out("\n".join(lines) + "\n")
     return 0
