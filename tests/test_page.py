@@ -269,6 +269,11 @@ def marks(browser, front, client):
     go(browser, "#Z%40%23%24/errors/%40A%24%23001")
     shows(browser, "SYSTEM hold: IPL", ".beside")
     shows(browser, "USER hold: OURS", ".beside")
+    go(browser, "#Z%40%23%24/errors/UR1")
+    shows(browser, "UR1 can’t be installed now: UR2 is in the way.", ".beside")
+    shows(browser, "and so on: UR1 stands above, and waits for this", ".needs")
+    go(browser, "#Z%40%23%24/errors/%40A%24%23001")
+    shows(browser, "USER hold: OURS", ".beside")
     browser.size(700)
     browser.call("Emulation.setEmulatedMedia", media="print")
     check("on paper nothing is cut off", not is_wide(browser), browser.run("document.documentElement.scrollWidth"))
@@ -381,6 +386,7 @@ def main():
             place + "/p",
             (
                 "++PTF(@A$#001).\n++VER(Z038) FMID(HBB77E0).\n++HOLD(UJ1) ERROR REASON(@A$#001).\n"
+                "++PTF(UR1).\n++VER(Z038) FMID(HBB77E0) REQ(UR2).\n++PTF(UR2).\n++VER(Z038) FMID(HBB77E0) REQ(UR1,ZZ1).\n"
                 "++HOLD(@A$#001) SYSTEM REASON(IPL).\n++HOLD(@A$#001) USER REASON(OURS).\n"
                 "++HOLD(UJ1) FIXCAT REASON(AJ3)\n CATEGORY(%s,\n IBM.%s).\n" % (MARKED, "Long" * 15)
             ),

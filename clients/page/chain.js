@@ -85,7 +85,10 @@ async function rowOfNeeds(first, isInstalled, chainOf, giverOf) {
   let chain = first;
   while (chain.status === 'HELD' && passed.size < STEPS) {
     const need = chain.blocked;
-    if (passed.has(need)) break;
+    if (passed.has(need)) {
+      boxes.push(make('li', 'soft', 'and so on: ' + need + ' stands above, and waits for this'));
+      break;
+    }
     passed.add(need);
     const next = await aboutNeed(need, chainOf, giverOf);
     chain = next.chain;
