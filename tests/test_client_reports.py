@@ -124,7 +124,7 @@ def why_empty():
     bench.send("categories", "A", text="CATEGORY\n")
     says("missingfix", "A", "no fix categories are set for the zone A: the list that was sent has none")
     bench.send("categories", "A", text="CATEGORY\nIBM.*\n")
-    says("missingfix", "A", "nothing is wrong: no fix of the categories of the zone A is missing. PUBLISHED SYSMODS 1 HOLDS 2")
+    says("missingfix", "A", "nothing is wrong: no fix of the categories of the zone A is missing, if each pattern is spelled as a category")
     same("in another code", "no fix of" in bench.north.run("missingfix", "A", BUREAU_CODE="ISO-8859-1")[2], True)
     says("missingfix", "A", "were sent from here", client(bench.desk.url, NORTH))
     bench.zone("EMPTY")

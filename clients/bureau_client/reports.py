@@ -177,7 +177,8 @@ def why_empty(desk, kind, zone, level):
         return f"nothing is wrong: of what is published, no ERROR hold concerns the zone {zone}. {level}"
     count = categories_sent(desk, zone)
     if count:
-        return f"nothing is wrong: no fix of the categories of the zone {zone} is missing. {level}"
+        spelled = "if each pattern is spelled as a category that 'bureau-client categories --published FILE' lists"
+        return f"nothing is wrong: no fix of the categories of the zone {zone} is missing, {spelled}. {level}"
     if count == 0:
         return f"no fix categories are set for the zone {zone}: the list that was sent has none"
     text = f"no fix categories of the zone {zone} were sent from here, and without any the report has no rows:"
