@@ -1,9 +1,14 @@
 """The shapes of load.py: what is sent, and the replies that follow from how a shape was made."""
+import sys
 from json import dumps
+from pathlib import Path
+
+sys.path.insert(0, str(Path(__file__).resolve().parent.parent / "tests"))
+from limits import LIMITS
 
 PUBLISHER, ALPHA, BETA = "publisher-token", "alpha-token", "beta-token"
 TOKENS = {"PUBLISH": PUBLISHER, "ALPHA": ALPHA, "BETA": BETA}
-FULL, LISTED = 40000, 20000  # the most rows of a zone, and ids of a received list
+FULL, LISTED, PATTERNS, LARGEST = LIMITS.zone_records, LIMITS.received_records, LIMITS.patterns, LIMITS.body_bytes
 BASE = """++FUNCTION(HBB7790).
 ++VER(Z038).
 ++PTF(UA10001).
@@ -151,7 +156,7 @@ def worked():
     shape.err_report(ALPHA, "TGT1", rows, {"UA10001": ["HBB7790"]}, {"AA20002": "2012-02-14"})
     shape.put_zone(ALPHA, "TGT3", ["T%06d" % place for place in range(FULL)])
     shape.put_received(ALPHA, ["T%06d" % place for place in range(LISTED)])
-    shape.put_patterns(ALPHA, "TGT3", ["IBM.Category.%02d.*" % place for place in range(64)])
+    shape.put_patterns(ALPHA, "TGT3", ["IBM.Category.%02d.*" % place for place in range(PATTERNS)])
     shape.chain(ALPHA, "TGT1", "R0100", good(rings))
     shape.missing_report(ALPHA, "TGT3", [])
     return shape
@@ -173,14 +178,14 @@ def full_zone():
     for place in range(count):
         text += "++HOLD(%s) ERROR FMID(HBB7790) REASON(%s) CLASS(PE).\n" % (installed[place], reasons[place])
         text += "++HOLD(%s) FIXCAT FMID(HBB7790) REASON(%s)\n RESOLVER(%s) CATEGORY(IBM.Category.%02d.Name).\n" % (
-            installed[place], reasons[place], first[place], place % 64)
+            installed[place], reasons[place], first[place], place % PATTERNS)
     received = set(first[: LISTED : 2] + second[: LISTED // 2])
     shape = Shape()
     shape.connect()
     shape.publish(text, 1 + 2 * count, 2 * count)
     shape.put_zone(ALPHA, "FULL", ["HBB7790"] + installed)
     shape.put_received(ALPHA, sorted(received))
-    shape.put_patterns(ALPHA, "FULL", ["ibm.category.%02d.*" % place for place in range(64)])
+    shape.put_patterns(ALPHA, "FULL", ["ibm.category.%02d.*" % place for place in range(PATTERNS)])
 
     def ask():
         resolvers = [(place, name) for place in range(count) for name in (first[place], second[place])]
@@ -189,8 +194,8 @@ def full_zone():
         shape.err_report(ALPHA, "FULL", [
             ("HBB7790", installed[place], reasons[place], name, status[place], is_received(name), "PE") for place, name in resolvers])
         shape.missing_report(ALPHA, "FULL", [
-            ("IBM.Category.%02d.Name" % (place % 64), installed[place], reasons[place], name, status[place], is_received(name))
-            for place, name in sorted(resolvers, key=lambda each: each[0] % 64)])
+            ("IBM.Category.%02d.Name" % (place % PATTERNS), installed[place], reasons[place], name, status[place], is_received(name))
+            for place, name in sorted(resolvers, key=lambda each: each[0] % PATTERNS)])
         shape.chain(ALPHA, "FULL", second[9], good(first[5:10] + [second[9]]))
         shape.chain(ALPHA, "FULL", first[0], held("NEVER"))
 
@@ -278,31 +283,32 @@ def reasons_in_a_row(count=19000):
 
 
 def full_zones():
-    """64 full zones, the list of them, and a 65th."""
+    """As many full zones as a client may have, the list of them, and one more."""
     shape = Shape()
     shape.connect()
     ids = ["Z%06d" % place for place in range(FULL)]
-    zones = ["TGT%02d" % place for place in range(64)]
+    zones = ["TGT%02d" % place for place in range(LIMITS.zones)]
     for zone in zones:
         shape.put_zone(ALPHA, zone, ids)
-    text = "%-9sSYSMODS\n" % "ZONE" + "".join("%-9s%d\n" % (zone, FULL) for zone in zones) + "ROWS 64\n"
+    text = "%-9sSYSMODS\n" % "ZONE" + "".join("%-9s%d\n" % (zone, FULL) for zone in zones) + "ROWS %d\n" % len(zones)
     shape.ask("GET /zones", ALPHA, text)
     shape.ask("GET /zones.json", ALPHA, '{"zones":[%s]}' % ",".join('{"sysmods":%d,"zone":"%s"}' % (FULL, zone) for zone in zones), json=True)
-    shape.ask("PUT /zones/MORE", ALPHA, "FAULT 61\n", 65, "SYSMOD,STATE\n", status=422)
-    shape.ask("PUT /zones/TGT00", ALPHA, "FAULT 37\n", 65, "SYSMOD,STATE\n" + "".join("Z%06d,APPLIED\n" % place for place in range(FULL + 1)), status=422)
-    shape.put_zone(ALPHA, "TGT63", ids[:1])
-    shape.ask("GET /zones", ALPHA, text.replace("TGT63    %d" % FULL, "TGT63    1"))
+    shape.ask("PUT /zones/MORE", ALPHA, "FAULT 61\n", len(zones) + 1, "SYSMOD,STATE\n", status=422)
+    more = "SYSMOD,STATE\n" + "".join("Z%06d,APPLIED\n" % place for place in range(FULL + 1))
+    shape.ask("PUT /zones/TGT00", ALPHA, "FAULT 37\n", len(zones) + 1, more, status=422)
+    shape.put_zone(ALPHA, zones[-1], ids[:1])
+    shape.ask("GET /zones", ALPHA, text.replace("%s    %d" % (zones[-1], FULL), "%s    1" % zones[-1]))
     return shape
 
 
 def largest_comment():
-    """A publication of 67,108,864 bytes, nearly all of it a comment, one of a byte more, and one after it."""
+    """The largest publication, nearly all of it a comment, one of a byte more, and one after it."""
     shape = Shape()
     shape.connect()
     text = BASE.encode()
-    shape.publish(text + b"/*" + b"x" * (67108864 - len(text) - 4) + b"*/", 3, 1)
+    shape.publish(text + b"/*" + b"x" * (LARGEST - len(text) - 4) + b"*/", 3, 1)
     shape.ask("GET /published", ALPHA, "PUBLISHED SYSMODS 3 HOLDS 1\n")
-    shape.ask("POST /publish", PUBLISHER, "TOO LARGE\n", 2, b" " * 67108865, status=413, close=True)
+    shape.ask("POST /publish", PUBLISHER, "TOO LARGE\n", 2, b" " * (LARGEST + 1), status=413, close=True)
     shape.connect()
     shape.publish("++RELEASE(UA10001) ERROR REASON(AA20002).\n", 0, 0, 1)
     shape.ask("GET /published", BETA, "PUBLISHED SYSMODS 3 HOLDS 0\n")
@@ -310,11 +316,11 @@ def largest_comment():
 
 
 def largest_publication():
-    """A publication of nearly 64 MiB of SYSMODs with a requisite, and a hold on every tenth."""
+    """A publication of nearly the largest size: SYSMODs with a requisite, and a hold on every tenth."""
     shape = Shape()
     shape.connect()
     parts, size, count, holds, name = [FUNCTION], len(FUNCTION), 0, 0, None
-    while size < 67108864 - 200:
+    while size < LARGEST - 200:
         before, name = name, "%s%06d" % ("UV"[count // 1000000], count % 1000000)
         text = ptf(name, "PRE(%s)" % before if count % 50 else "")
         if count % 10 == 0:
@@ -331,27 +337,27 @@ def largest_publication():
 
 
 def callers():
-    """10,000 callers, the longest tokens, a zone for each, and connections of 10,000 requests."""
-    names = ["C%05d" % place for place in range(9999)]
-    tokens = {"PUBLISH": "p" * 64}
-    tokens.update((name, ("%s-" % name) + "t" * (57 if place % 2 else 1)) for place, name in enumerate(names))
-    shape = Shape(tokens)
-    for part in (names[:5000], names[5000:]):
+    """As many callers as there may be, the longest tokens, a zone for each, and connections of as many requests as one may have."""
+    names = ["C%05d" % place for place in range(LIMITS.callers - 1)]
+    tokens = {"PUBLISH": "p" * LIMITS.token_bytes}
+    tokens.update((name, ("%s-" % name) + "t" * (LIMITS.token_bytes - 7 if place % 2 else 1)) for place, name in enumerate(names))
+    shape, half = Shape(tokens), LIMITS.requests // 2
+    for part in (names[:half], names[half:]):
         shape.connect()
         for place, name in enumerate(part):
             shape.put_zone(tokens[name], "TGT1", ["HBB7790", "U%s" % name])
-            shape.ask("GET /zones", tokens[name], "ZONE     SYSMODS\nTGT1     2\nROWS 1\n", close=place == 4999)
+            shape.ask("GET /zones", tokens[name], "ZONE     SYSMODS\nTGT1     2\nROWS 1\n", close=place == half - 1)
     shape.connect()
     shape.ask("GET /zones", "nobody-token", "UNKNOWN TOKEN\n", status=401)
     return shape
 
 
 def requests():
-    """10,000 requests of one connection, and one more, which is not read."""
+    """The requests that one connection may have, and one more, which is not read."""
     shape = Shape()
     shape.connect()
-    for place in range(10000):
-        shape.ask("GET /published", ALPHA, "PUBLISHED SYSMODS 0 HOLDS 0\n", close=place == 9999)
+    for place in range(LIMITS.requests):
+        shape.ask("GET /published", ALPHA, "PUBLISHED SYSMODS 0 HOLDS 0\n", close=place == LIMITS.requests - 1)
     shape.connections[-1].append((b"GET /zones HTTP/1.1\r\nbureau-token: alpha-token\r\n\r\n", b""))
     return shape
 

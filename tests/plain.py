@@ -5,6 +5,8 @@ of heads than these inputs need.
 """
 import re
 
+from limits import LIMITS
+
 BLANKS = b" \t"
 NAME = frozenset(b"ABCDEFGHIJKLMNOPQRSTUVWXYZabcdefghijklmnopqrstuvwxyz0123456789@#$")
 VERBS = (b"HOLD", b"RELEASE", b"FUNCTION", b"PTF", b"APAR", b"USERMOD", b"VER", b"IF")
@@ -38,7 +40,7 @@ def verb_of(line):
 
 def statements(source):
     """(verb, subject, operands, line) of each statement; operands are pairs of a name and its values."""
-    if len(source) > 67108864:
+    if len(source) > LIMITS.source_bytes:
         raise Fault(5)
     lines, found, at = lines_of(source), [], 0
     while at < len(lines):
@@ -156,7 +158,7 @@ def hold_of(statement):
     date = values.get(b"DATE", [b"00001"])
     if len(date) > 1 or not re.fullmatch(rb"\d{5}", date[0]) or not 1 <= int(date[0][2:]) <= 366:
         raise Fault(15, place)
-    if any(not re.fullmatch(rb"[!-&*+\--~]{1,64}", each) for each in values.get(b"CATEGORY", [])):
+    if any(len(each) > LIMITS.category_bytes or not re.fullmatch(rb"[!-&*+\--~]+", each) for each in values.get(b"CATEGORY", [])):
         raise Fault(16, place)
     hold = {name: values[name][0] for name in (b"FMID", b"CLASS", b"DATE", b"RESOLVER") if name in values}
     hold[b"CATEGORY"] = sorted(set(values.get(b"CATEGORY", [])))
@@ -270,7 +272,7 @@ def records(text, header, most):
 
 def zone_rows(text):
     rows = {}
-    for place, (name, state) in records(text, [b"SYSMOD", b"STATE"], 40000):
+    for place, (name, state) in records(text, [b"SYSMOD", b"STATE"], LIMITS.zone_records):
         if not is_id(name):
             raise Fault(33, place)
         if state not in (b"APPLIED", b"ACCEPTED", b"SUPERSEDED"):
@@ -282,7 +284,7 @@ def zone_rows(text):
 
 def received_ids(text):
     ids = set()
-    for place, (name,) in records(text, [b"SYSMOD"], 20000):
+    for place, (name,) in records(text, [b"SYSMOD"], LIMITS.received_records):
         if not is_id(name):
             raise Fault(33, place)
         ids.add(name)
@@ -291,8 +293,8 @@ def received_ids(text):
 
 def patterns(text):
     found = set()
-    for place, (pattern,) in records(text, [b"CATEGORY"], 64):
-        if len(pattern) > 64 or not re.fullmatch(rb"(?:[!-&+\--~]+\*?|\*)", pattern):
+    for place, (pattern,) in records(text, [b"CATEGORY"], LIMITS.patterns):
+        if len(pattern) > LIMITS.category_bytes or not re.fullmatch(rb"(?:[!-&+\--~]+\*?|\*)", pattern):
             raise Fault(35, place)
         found.add(pattern)
     return found
@@ -328,13 +330,13 @@ def fields_of(head):
 def refusal(text):
     """Why the bytes of one connection's first request are refused before anyone looks at its token, as (status, body); else its
     fields and its body, or None where it never stands whole."""
-    head, rest = head_of(text[:16384])
-    if not head and len(text) >= 16384:
+    head, rest = head_of(text[: LIMITS.head_bytes])
+    if not head and len(text) >= LIMITS.head_bytes:
         return 431, "HEAD TOO LARGE\n"
     if not head:
         return None
-    rest += text[16384:]
-    if head.count(b"\n") > 66:  # the request line, 64 lines and the empty one
+    rest += text[LIMITS.head_bytes :]
+    if head.count(b"\n") - 2 > LIMITS.head_lines:  # without the request line and the empty one
         return 431, "HEAD TOO LARGE\n"
     fields = fields_of(head)
     if fields is None or not fields[1].startswith(b"/") or max(fields[1]) > 0x7F:
@@ -348,7 +350,7 @@ def refusal(text):
     if not lengths and method in (b"POST", b"PUT"):
         return 411, "LENGTH REQUIRED\n"
     length = int(lengths[0]) if lengths else 0
-    if length > 67108864:
+    if length > LIMITS.body_bytes:
         return 413, "TOO LARGE\n"
     if len(rest) < length:
         return None

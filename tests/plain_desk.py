@@ -7,9 +7,9 @@ import datetime
 import json
 from urllib.parse import unquote_to_bytes
 
+from limits import LIMITS
 from plain import Fault, changes, is_id, padded, patterns, received_ids, refusal, zone_rows
 
-MOST = 9223372036854775807
 ROUTES = [
     (("publish",), {b"POST": "publish"}),
     (("published",), {b"GET": "counts"}),
@@ -104,7 +104,7 @@ class PlainDesk:
 
     def change(self, caller, call, captured, headers, body):
         numbers = [value for name, value in headers if name == b"bureau-number"]
-        reads = len(numbers) == 1 and numbers[0].isdigit() and len(numbers[0]) <= 19 and 0 < int(numbers[0]) <= MOST
+        reads = len(numbers) == 1 and numbers[0].isdigit() and len(numbers[0]) <= 19 and 0 < int(numbers[0]) <= LIMITS.change_number
         if not reads:
             raise Refused(400, "BAD NUMBER\n")
         number, (last, kept) = int(numbers[0]), self.last[caller]
@@ -138,7 +138,7 @@ class PlainDesk:
 
     def put_zone(self, caller, body, name):
         rows = zone_rows(body)
-        if name not in self.zones[caller] and len(self.zones[caller]) == 64:
+        if name not in self.zones[caller] and len(self.zones[caller]) == LIMITS.zones:
             raise Fault(61)
         zone = Zone(rows)
         if name in self.zones[caller]:
