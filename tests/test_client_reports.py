@@ -71,7 +71,6 @@ def words_that_are_wrong():
         ("news", "A", "--since", kept + "-none"),
         ("news", "A", "--csv"),
         ("overview", "A"),
-        ("errsysmods", "A", "--symptoms", kept),
         ("missingfix", "A", "--csv", "--symptoms", kept),
         ("errsysmods", "A", "--csv", "--symptoms", kept + "-none"),
         ("job",),
@@ -456,6 +455,23 @@ def symptoms():
     same("joined, by SYSMOD and reason", joined(), (0, heading + other + first, ""))
     same("in another code", joined(BUREAU_CODE="ISO-8859-1"), (0, heading + other + first, ""))
     same("with an alert", bench.north.run("errsysmods", "--csv", "A", "--symptoms", table, "--alert", "HIPER")[0], 4)
+    named = write(bench.place + "/named.csv", "SYSMOD,REASON,DATE,CHGDT,SYMP,FIX\n'@J1,AJ1,,,,'@J2\nUJ2,AJ9,,,IPL,UJ8 UJ9\n")
+    bench.publish("++HOLD(UJ2) ERROR REASON(AJ9).\n++HOLD(UJ2) ERROR REASON(AJ8).\n")
+    north = lambda *words: bench.north.run(*words, "--symptoms", named)
+    report = bench.north.run("errsysmods", "A")[1].splitlines()
+    fixes = {("UJ2", "AJ1"): "", ("@J1", "AJ1"): "@J2", ("UJ2", "AJ8"): "nothing known", ("UJ2", "AJ9"): "order UJ8 UJ9"}
+    lines = [(line.ljust(61) + fixes[line[9:16].strip(), line[18:26].strip()]).rstrip() for line in report[2:-1]]
+    wanted = "\n".join([report[0], report[1].ljust(61) + "FIX", *lines, report[-1]]) + "\n"
+    same("the text has a column more", north("errsysmods", "A"), (0, wanted, ""))
+    same("its rows are told apart without it", bench.north.run("news", "A", "--since", write(bench.place + "/with", wanted)), (0, "", ""))
+    same("the overview counts those to order", north("overview", "--csv")[1].splitlines(), ["ZONE,SYSMODS,IN-ERROR,HOLDS,HIPER,PE,OTHER,NONE,HELD,GOOD,FIXES,ORDER", "A,3,2,4,1,0,3,2,0,2,0,1"])
+    check("as text too", re.search(r"FIXES  ORDER\nA .* 0      1\nROWS 1\n", north("overview")[1]))
+    plan = bench.north.run("plan", "A")[1]
+    left = "SYSMOD   REASON\nUJ2      AJ8\nUJ2      AJ9\n"
+    check("the plan has both", left in plan, plan)
+    joined_table = "SYSMOD   REASON   FIX\nUJ2      AJ8      nothing known\nUJ2      AJ9      order UJ8 UJ9\n"
+    same("each with what can be done", north("plan", "A")[:2], (0, plan.replace(left, joined_table)))
+    bench.publish("++RELEASE(UJ2) ERROR REASON(AJ9).\n++RELEASE(UJ2) ERROR REASON(AJ8).\n")
     write(path, text + more)
     same("and anew", make().returncode, 0)
     same("the last record of a hold counts", joined()[1], heading + other + "HBB77E0,'@J1,AJ1,'@J2,GOOD,NO,HIPER,25009,250109,'=IPL,\n")

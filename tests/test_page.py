@@ -15,8 +15,8 @@ import time
 from chromium import Browser
 from drawn_desk import DrawnDesk, Zone
 from front import Front
-from page import NORTH, PUBLISHER, SOUTH, ZONES, check, click, enter, go, is_wide, lines, no_faults, picture, said, same, shows
-from service import SAMPLE, TOP, Client, Desk, finish, folder, without_time, write
+from page import NORTH, PUBLISHER, SOUTH, ZONES, check, click, enter, filter_by, go, is_wide, lines, no_faults, picture, said, same, shows
+from service import SAMPLE, TOP, Client, Desk, exchange, finish, folder, without_time, write
 from stand_in import StandIn, until
 
 SITE = os.path.join(TOP, "examples", "site")
@@ -71,7 +71,7 @@ def sample(browser, front, north):
     )
     rows = csv_rows(north, "errsysmods", "MVSPROD")
     same("as the report says", sorted(line[4:6] for line in lines(browser)), chosen_as(rows, "RESOLVER", "STATUS"))
-    same("each status with a colour of its own", browser.run("new Set([...document.querySelectorAll('footer .badge')].map(e => getComputedStyle(e).color)).size"), 4)
+    same("each status with a colour of its own", browser.run("new Set([...document.querySelectorAll('footer .badge')].map(e => getComputedStyle(e).color)).size"), 5)
     picture(browser, "sample-errors")
     click(browser, "tbody tr.first")
     shows(browser, "UJ92005 can be installed by itself.", ".beside")
@@ -191,9 +191,9 @@ def symptoms(browser, north):
     browser.run(give % json.dumps(text))
     said(browser, "The file has the symptoms of 2 holds.")
     browser.until("document.querySelector('td.of-symptom')")
-    same("a column more", [line[-1] for line in open_all(browser)], ["PRV DAL", ""])
+    same("a column more", [line[-2:] for line in open_all(browser)], [["UJ92005", "pervasive, data loss"], ["", ""]])
     click(browser, "tbody tr.first")
-    shows(browser, "HOLDDATA says: symptoms PRV DAL, fix UJ92005, held 25001, changed 250102.", ".beside")
+    shows(browser, "HOLDDATA says: pervasive, data loss; fix UJ92005; held 2025-01-01; changed 2025-01-02.", ".beside")
     picture(browser, "symptoms")
     browser.call("Browser.setDownloadBehavior", behavior="allow", downloadPath=place)
     click(browser, ".report [aria-label='Save as CSV']")
@@ -212,6 +212,48 @@ def symptoms(browser, north):
     go(browser, "#MVSPROD/errors")
     browser.until("document.querySelector('tbody tr.first')")
     same("forgotten with the token", browser.run("document.querySelectorAll('.of-symptom').length"), 0)
+
+
+def fixes_by_name(browser, front, publisher):
+    """What `publish` keeps beside the page is joined without a word: by the page, and by the client that names the front."""
+    page, place = front.place + "/page", folder()
+    text = "++HOLD(UJ92001) ERROR FMID(HBB77E0)\n REASON(AJ7%d) CLASS(%s) DATE(25204)%s.\n"
+    smrt = "\n COMMENT(SMRTDATA(FIX(%s) SYMP(PRV,DAL) CHGDT(250725)))"
+    both = text % (1, "PE", smrt % "UJ92013") + text % (2, "HIPER", "")
+    same("published", publisher.run("publish", write(place + "/p", both), BUREAU_PAGE=page)[0], 0)
+    url = front.url + "/page/symptoms.csv"
+    same("not for anyone", exchange(url, "GET", "", "nobodys-token", context=front.context)[0], 401)
+    same("but for callers", exchange(url, "GET", "", NORTH, context=front.context), (200, b"SYSMOD,REASON,DATE,CHGDT,SYMP,FIX\nUJ92001,AJ71,25204,250725,PRV DAL,UJ92013\n"))
+    click(browser, "#again")
+    go(browser, "#")
+    shows(browser, "in 1 of 1 zone, 1 to order", ".tile.status-none")
+    go(browser, "#MVSPROD/errors")
+    browser.until("document.querySelector('td.of-fix')")
+    rows = [[row[at] for at in (2, 5, 7, 8)] for row in lines(browser)]
+    wanted = [["AJ71", "order UJ92013", "UJ92013", "pervasive, data loss"], ["AJ64001", "GOOD", "", ""], ["AJ72", "nothing known", "", ""]]
+    same("what can be ordered before what nothing is known of", sorted(rows), sorted(wanted))
+    same("which is the last", rows[-1], wanted[-1])
+    picture(browser, "fixes-by-name")
+    filter_by(browser, "uj92013")
+    same("a word finds it", [row[2] for row in lines(browser)], ["AJ71"])
+    filter_by(browser, "")
+    go(browser, "#MVSPROD/errors?fix=to+order")
+    same("a filter", [row[2] for row in lines(browser)], ["AJ71"])
+    click(browser, "tbody tr.first")
+    shows(browser, "HOLDDATA names UJ92013 as its fix: order it.", ".beside")
+    go(browser, "#MVSPROD/plan")
+    browser.until("document.querySelector('.left')")
+    same("the plan says so too", browser.run("[...document.querySelectorAll('.left li')].map(e => e.textContent)"), ["UJ92001 held for AJ71: order UJ92013", "UJ92001 held for AJ72: nothing known"])
+    by_front = Client(front.url, NORTH, BUREAU_CACERT=front.certificate)
+    report = by_front.run("errsysmods", "MVSPROD")[1]
+    same("the client joins it by itself", [line[61:] for line in report.splitlines()[1:-1]], ["FIX", "", "", "order UJ92013", "nothing known"])
+    same("as CSV too", [line.split(",")[-1] for line in by_front.run("errsysmods", "--csv", "MVSPROD")[1].splitlines()], ["FIX", "", "", "UJ92013", ""])
+    same("publish takes it back", publisher.run("publish", write(place + "/q", "".join("++RELEASE(UJ92001) ERROR REASON(AJ7%d).\n" % n for n in (1, 2))))[0], 0)
+    os.remove(page + "/symptoms.csv")
+    click(browser, "#again")
+    go(browser, "#MVSPROD/errors")
+    browser.until("document.querySelector('tbody tr.first')")
+    same("without it the page is as before", browser.run("document.querySelectorAll('.of-fix').length"), 0)
 
 
 def refusals(browser, front):
@@ -379,6 +421,7 @@ def main():
     same("lists of SOUTH", south.run("sync", SITE + "/south")[0], 0)
     installed(browser, front, north, south)
     symptoms(browser, north)
+    fixes_by_name(browser, front, publisher)
     refusals(browser, front)
     publisher.run(
         "publish",

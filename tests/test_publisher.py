@@ -115,7 +115,41 @@ def same_again():
     desk.end()
 
 
+def symptoms():
+    """What the publications say of symptoms stands in one file, also beside the page. The last word on a hold counts."""
+    desk, site, page = Desk(CALLERS), folder(), folder()
+    publisher = Client(desk.url, PUBLISHER)
+    hold = "++HOLD(%s) ERROR REASON(%s) DATE(25001)\n COMMENT(SMRTDATA(SYMP(%s) FIX(%s) CHGDT(250102))).\n"
+    heading = "SYSMOD,REASON,DATE,CHGDT,SYMP,FIX\n"
+    read = lambda path: open(path).read() if os.path.exists(path) else None
+    publish = lambda text, **more: publisher.run("publish", write(site + "/p", text), **more)
+    same("without a page", publish(hold % ("UJ1", "AJ1", "IPL", "UJ2") + hold % ("UJ1", "AJ2", "DAL", "UJ3"))[0], 0)
+    kept = publisher.home + "/publications/symptoms.csv"
+    first, second = "UJ1,AJ1,25001,250102,IPL,UJ2\n", "UJ1,AJ2,25001,250102,DAL,UJ3\n"
+    same("it is kept", read(kept), heading + first + second)
+    same("with a page", publish("++RELEASE(UJ1) ERROR REASON(AJ1).\n++HOLD(UJ1) USER REASON(AJ2).\n", BUREAU_PAGE=page)[0], 0)
+    same("a release takes it away", read(page + "/symptoms.csv"), heading + second)
+    same("all may read it there", os.stat(page + "/symptoms.csv").st_mode & 0o777, 0o644)
+    os.remove(page + "/symptoms.csv")
+    same("the same publication again", publish("++RELEASE(UJ1) ERROR REASON(AJ1).\n++HOLD(UJ1) USER REASON(AJ2).\n", BUREAU_PAGE=page)[0], 0)
+    same("puts it there again", read(page + "/symptoms.csv"), heading + second)
+    publish("++HOLD(UJ1) ERROR REASON(AJ2).\n" + hold % ("UJ4", "AJ4", "PRV", ""))
+    same("a hold that says nothing any more", read(kept), heading + "UJ4,AJ4,25001,250102,PRV,\n")
+    same("the page's is as old as its last publication", read(page + "/symptoms.csv"), heading + second)
+    os.remove(kept)
+    same("made anew of all publications", (publisher.run("catch-up", desk.url, BUREAU_PAGE=page)[0], read(kept)), (0, heading + "UJ4,AJ4,25001,250102,PRV,\n"))
+    same("beside the page too", read(page + "/symptoms.csv"), read(kept))
+    status, out, err = publish("++PTF(UJ9).\n", BUREAU_PAGE=site + "/none")
+    check("a page that is not there", status == 1 and "publication 4: ACCEPTED" in out and "is not there" in err, (status, out, err))
+    config = write(publisher.home + "/config", "PAGE=%s\n" % page)
+    os.chmod(config, 0o600)
+    os.remove(page + "/symptoms.csv")
+    same("named in the settings", (publish("++PTF(UJ10).\n")[0], read(page + "/symptoms.csv")), (0, read(kept)))
+    desk.end()
+
+
 several_desks()
 lost_reply()
 same_again()
+symptoms()
 finish("publisher")

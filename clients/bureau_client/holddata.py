@@ -7,7 +7,7 @@ import subprocess
 
 from . import faults, run
 from .run import Stop, say
-from .statements import ids_in, lines_of, marks_of, operands_of, plain, statements_in, statements_of
+from .statements import has_word, ids_in, lines_of, operands_of, plain, statements_in, statements_of
 
 
 def holds(path):
@@ -34,17 +34,12 @@ def holds(path):
 # --- Fix categories -----------------------------------------------------------------------------------------------------
 
 
-def is_fixcat(one):
-    """Whether a hold or a release has the word FIXCAT, outside of its lists."""
-    return any(depth == 0 and mark.upper() == b"FIXCAT" for mark, _, _, depth in marks_of(b" ".join(one.lines)))
-
-
 @functools.lru_cache(None)
 def categories_in(path):
     """The categories of the FIXCAT holds that a file leaves. Of the holds of a SYSMOD for a reason the last one counts."""
     book = {}
     for one in statements_of(path, []):
-        if one.verb not in (b"HOLD", b"RELEASE") or one.is_open or not is_fixcat(one):
+        if one.verb not in (b"HOLD", b"RELEASE") or one.is_open or not has_word(one, b"FIXCAT"):
             continue
         operands = operands_of(one)
         texts = [plain(text) for name, text in operands if one.verb == b"HOLD" and name == b"CATEGORY"]

@@ -9,10 +9,12 @@ from .changes import Changes
 from .desk import escaped, fits, in_form
 from .reports import KINDS, TITLES, holds_of, report_of, tables_in, tell_why_empty
 from .run import ID, NoAnswer, Stop, say
+from .symptoms import symptoms_of
 
 # Control statements, as SMP/E writes them into SMPPUNCH. They stand in columns 1 to 71. Column 1 is blank, since `/*` there
 # would end the data of a DD * statement. clients/page/job.js makes the same bytes, which the tests of plans see to.
 COLUMNS = 71
+NONE = "HOLDS WITHOUT GOOD OR HELD RESOLVER"  # the title of a table of a plan
 
 
 # --- The questions: a function for each command -------------------------------------------------------------------------
@@ -22,15 +24,25 @@ def chain(desk, zone, sysmod):
     run.out(desk.ask(path_of_chain(zone, sysmod)) + b"\n")  # its JSON has no line end
 
 
-def plan(desk, zone, fixes=False):
+def plan(desk, zone, fixes=False, symptoms=None):
     report = report_for(fixes)
     data = ask_plan(desk, zone, report, "plan")
     tables = list(tables_in(data.decode("latin-1").removesuffix("\n").split("\n"), desk.no_report))
     if tables[0][0] != TITLES[report] % "PLAN" + zone:
         raise desk.no_report()
+    none = next((at for at, table in enumerate(tables) if table[0] == NONE), None)
+    if none and len(tables[none]) > 2 and not fixes and (known := symptoms_of(desk, symptoms)):
+        tables[none] = with_fixes(tables[none], known)
+        data = "".join("\n".join([*table, f"ROWS {len(table) - 2}\n"]) for table in tables).encode("latin-1", "replace")
     run.out(data)
     if all(len(table) == 2 for table in tables):
         tell_why_empty(desk, report, zone)
+
+
+def with_fixes(table, known):
+    """The holds that nothing resolves, each with what can be done: the fix to order by name, where one is known."""
+    title, heading, *rows = table
+    return [title, heading.ljust(18) + "FIX", *(row.ljust(18) + known.order(*row.split()[:2]) for row in rows)]
 
 
 def job(desk, zone, *sysmods, fixes=False):

@@ -9,12 +9,12 @@ from collections import Counter
 
 from . import faults, run
 from .run import Stop, csv_line, say
-from .statements import HEADERS, KEPT, ids_in, operands_of, plain, shown, statements_of
+from .statements import HEADERS, KEPT, has_word, ids_in, operands_of, plain, shown, statements_in, statements_of
+from .symptoms import COLUMNS as SYMPTOMS
 
 SMRTDATA = re.compile(rb"SMRTDATA\s*\(((?:[^()]|\([^()]*\))*)\)", re.I)
 PART = re.compile(rb"([A-Z0-9]+)\s*\(([^()]*)\)", re.I)  # of SMRTDATA
 ONE_ID = re.compile(rb"\s*[A-Z0-9@#$]{1,7}\s*")
-SYMPTOMS = ("SYSMOD", "REASON", "DATE", "CHGDT", "SYMP", "FIX")
 BLOCK = 2000  # statements that are judged in one run
 LIMIT = 67108864  # bytes that a desk takes at once
 
@@ -176,6 +176,18 @@ def symptoms_of(left):
             said = {name.upper().decode(): b" ".join(re.split(rb"[\s,]+", text.strip(b" ,"))) for name, text in PART.findall(data[1])}
             record = [texts.get("", b""), *map(texts.get, SYMPTOMS[1:3]), *map(said.get, SYMPTOMS[3:])]
             yield [(each or b"").decode("ascii", "backslashreplace").strip() for each in record]
+
+
+def take_symptoms(symptoms, body):
+    """Takes in what a publication says of ERROR holds. One of which it says nothing has no symptoms any more, nor has one that it releases."""
+    lines = [line.removesuffix(b"\r") for line in body.split(b"\n")]
+    for one in statements_in("", lines, None):
+        if one.verb in (b"HOLD", b"RELEASE") and has_word(one, b"ERROR"):
+            operands = operands_of(one)
+            key = tuple(b"".join(ids).decode() for ids in (ids_in(operands[:1], b""), ids_in(operands, b"REASON")))
+            symptoms.known.pop(key, None)
+            for record in symptoms_of([one]):
+                symptoms.put([*key, *record[2:]])
 
 
 def write_symptoms(path, left):

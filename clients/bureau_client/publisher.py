@@ -4,13 +4,15 @@
     000000001.reply   what the desk answered
     before      where the first kept publication is not the first at all: how many came before
     next        the publication that is being sent; next.sent is there once it was
+    symptoms.csv    what all kept publications say of symptoms and fixes; `symptoms` is the number of the last one that is in it
 """
 import os
 import re
 from contextlib import contextmanager
 
-from . import run
+from . import run, symptoms
 from .desk import Unanswered
+from .publication import take_symptoms
 from .run import Stop, refused, say
 
 
@@ -124,6 +126,35 @@ class Publisher:
         return not waits
 
     def publish(self, name):
+        try:
+            self.send(name)
+        finally:
+            self.keep_symptoms()
+
+    def keep_symptoms(self):
+        """Keeps the symptoms of what is published. They also stand beside the page that the settings name: a front serves them there."""
+        if not self.top:
+            return
+        path, noted = f"{self.kept}/{symptoms.NAME}", self.kept + "/symptoms"
+        last = int(run.bytes_in(noted)) if os.path.isfile(noted) and os.path.isfile(path) else 0
+        book = symptoms.Symptoms(run.bytes_in(path) if last else b"")
+        if last != self.top:
+            for number in range(last + 1, self.top + 1):
+                if os.path.isfile(self.name_of(number)):
+                    take_symptoms(book, run.bytes_in(self.name_of(number)))
+            run.write(path, book.data())
+            run.write(noted, b"%d\n" % self.top)
+        self.put_beside_page(symptoms.NAME, book.data())
+
+    def put_beside_page(self, name, data):
+        """Writes a file that all may read into the folder of the page, where the settings name one."""
+        page = self.desks[0].settings.page
+        if page and not os.path.isdir(page):
+            refused(f"the folder of the page, '{page}', is not there: {name} does not stand beside it")
+        elif page:
+            run.write(f"{page}/{name}", data, 0o644)
+
+    def send(self, name):
         body, waited = run.bytes_of(name), "the publication of an earlier run"
         if os.path.isfile(self.next):
             is_same = body == run.bytes_in(self.next)
@@ -136,7 +167,7 @@ class Publisher:
         last = self.name_of(self.top) if self.top is not None else ""
         if os.path.isfile(last) and body == run.bytes_in(last):
             say(f"'{name}' is publication {self.top} already")
-            return self.catch_up()
+            return self.bring_all_up()
         run.remove(self.was_sent)
         run.write(self.next, body)
         if not self.send_next(name, True):
@@ -147,6 +178,10 @@ class Publisher:
     def catch_up(self):
         if self.top is None:
             raise Stop(2, f"no publication is kept in {self.kept}")
+        self.bring_all_up()
+        self.keep_symptoms()
+
+    def bring_all_up(self):
         for desk in self.desks:
             with without_answer_goes_on():
                 last = desk.ask_last("publisher")

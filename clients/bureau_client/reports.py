@@ -2,7 +2,6 @@
 
 What is printed as the desk gives it is its text. All else is read from the desk's JSON.
 """
-import csv as csv_files
 import functools
 import os
 import re
@@ -14,6 +13,7 @@ from .changes import Changes
 from .desk import ZONES, Unanswered, escaped, in_form, zones_in
 from .lists import rows as rows_in_list
 from .run import NoAnswer, Stop, csv_line, say
+from .symptoms import JOINED, symptoms_of
 
 KINDS = ("errsysmods", "missingfix")
 TITLES = {"errsysmods": "EXCEPTION SYSMOD %s FOR ZONE ", "missingfix": "MISSING FIX %s FOR ZONE "}
@@ -25,7 +25,7 @@ COLUMNS = {
 }
 # Which columns make a row the same row.
 KEYS = {"errsysmods": ("SYSMOD", "REASON", "RESOLVER"), "missingfix": ("CATEGORY", "FMID", "REASON", "RESOLVER")}
-SYMPTOMS = ("SYSMOD", "REASON", "DATE", "CHGDT", "SYMP", "FIX")  # the columns of a file that `publication --symptoms` writes
+FIX = 61  # where the column FIX begins, from 0, which this client adds to the text of exception SYSMODs
 
 
 # --- What a desk answers ------------------------------------------------------------------------------------------------
@@ -73,6 +73,8 @@ class Text:
         self.zone, self.head, self.lines, self.keys = lines[0][len(TITLES[kind] % "REPORT") :], lines[:2], lines[2:], KEYS[kind]
         starts = {found[0]: found.start() for found in re.finditer(r"\S+", lines[1])}
         self.columns = dict(zip(starts, map(slice, starts.values(), [*list(starts.values())[1:], None])))
+        if "FIX" in starts:  # it is no part of what a desk reports
+            self.head[1], *self.lines = (line[: starts["FIX"]].rstrip() for line in (lines[1], *lines[2:]))
 
     def column(self, line, name):
         return line[self.columns.get(name, slice(0))].rstrip()
@@ -118,12 +120,13 @@ def report(kind, desk, zone, csv=False, alert=(), symptoms=None):
     if csv:
         rows = report_of(desk, kind, zone)
         classes = {row.get("CLASS") for row in rows}
-        answer = with_symptoms(rows, symptoms) if symptoms else csv_line(COLUMNS[kind]) + "".join(csv_line(row.values()) for row in rows)
+        answer = csv_of(kind, rows, known_of(desk, kind, rows, symptoms))
     else:
         answer = report_text(desk, kind, zone)
         rows = not answer.endswith((b"\nROWS 0\n", b"\nROWS 0"))
         text = texts_in(answer)[kind] if alert else None
         classes = {text.column(line, "CLASS") for line in text.lines} if alert else ()
+        answer = with_fixes(answer, known_of(desk, kind, rows, symptoms))
     if rows and ("ANY" in alert or any(each in classes for each in alert)):
         run.ends_with(4)
     run.out(answer)
@@ -134,16 +137,28 @@ def report(kind, desk, zone, csv=False, alert=(), symptoms=None):
 errsysmods, missingfix = (functools.partial(report, kind) for kind in KINDS)
 
 
-def with_symptoms(rows, path):
-    """The exception SYSMODs with the symptoms of a file. A hold's are those of the last record for its SYSMOD and reason."""
-    first, *records = list(csv_files.reader(run.bytes_of(path).decode("utf-8-sig").splitlines(True))) or [None]
-    if first != list(SYMPTOMS):
-        run.refused(f"{path} does not begin with {','.join(SYMPTOMS)}: publication --symptoms makes such a file")
-        return ""
-    plain = [[each.removeprefix("'") for each in record] for record in records if record]
-    known = {tuple(record[:2]): record[2:] for record in plain}
-    lines = [csv_line([*row.values(), *known.get((row["SYSMOD"], row["REASON"]), [""] * 4)]) for row in rows]
-    return csv_line([*COLUMNS["errsysmods"], *SYMPTOMS[2:]]) + "".join(lines)
+def known_of(desk, kind, rows, path):
+    """The symptoms that are joined to a report, or None. Where it has no row, there is nothing to join, and a front is not asked."""
+    return symptoms_of(desk, path) if kind == "errsysmods" and (rows or path) else None
+
+
+def csv_of(kind, rows, known):
+    """The rows with what is known of the symptoms of their holds."""
+    more = (lambda row: known.fields(row["SYSMOD"], row["REASON"])) if known else lambda row: ()
+    return csv_line([*COLUMNS[kind], *(JOINED if known else ())]) + "".join(csv_line([*row.values(), *more(row)]) for row in rows)
+
+
+def with_fixes(answer, known):
+    """The text of exception SYSMODs with a column more: the fix by name, and of a hold that nothing resolves what can be done."""
+    if not known:
+        return answer
+    text = texts_in(answer)["errsysmods"]
+    lines = [text.head[0], text.head[1].ljust(FIX) + "FIX"]
+    for line in text.lines:
+        hold = text.column(line, "SYSMOD"), text.column(line, "REASON")
+        told = known.fix(*hold) if text.column(line, "STATUS") in ("GOOD", "HELD") else known.order(*hold)
+        lines.append((line.ljust(FIX) + told).rstrip())
+    return "\n".join([*lines, f"ROWS {len(text.lines)}\n"]).encode()
 
 
 # --- A report without rows ----------------------------------------------------------------------------------------------
@@ -200,7 +215,7 @@ def holds_of(kind, rows):
     return found
 
 
-def counts_of(zone, sysmods, errors, fixes):
+def counts_of(zone, sysmods, errors, fixes, known):
     holds, counts = holds_of("errsysmods", errors), Counter()
     for rows in holds.values():
         statuses, kind = {row["STATUS"] for row in rows}, rows[0]["CLASS"]
@@ -208,24 +223,33 @@ def counts_of(zone, sysmods, errors, fixes):
         counts[kind if kind in ("HIPER", "PE") else "OTHER"] += 1
     in_error = len({sysmod for sysmod, _ in holds})
     told = {"ZONE": zone, "SYSMODS": sysmods, "IN-ERROR": in_error, "HOLDS": len(holds), "FIXES": len(holds_of("missingfix", fixes))}
-    return [str(told.get(name, counts[name])) for name in OVERVIEW]
+    if known:
+        told["ORDER"] = sum(1 for hold, rows in holds.items() if not rows[0]["RESOLVER"] and known.fix(*hold))
+    return [str(told.get(name, counts[name])) for name in columns_of(known)]
 
 
-def overview(desk, csv=False):
+def columns_of(known):
+    """The columns of the overview with their widths. ORDER counts the holds of NONE for which a fix is known by name."""
+    return {**OVERVIEW, **({"FIXES": 7, "ORDER": 0} if known else {})}
+
+
+def overview(desk, csv=False, symptoms=None):
     desk.send("GET", "/zones.json")
     if desk.status == 403:  # the publisher has no zones
         run.out(desk.ask("/published"))
         return run.out(f"LAST PUBLICATION {desk.ask_last('publisher')}\n")
-    lines, without = [list(OVERVIEW)], []
-    for zone, sysmods in zones_in(in_form(desk.need_200(), ZONES, desk.no_report)):
+    zones = zones_in(in_form(desk.need_200(), ZONES, desk.no_report))
+    known = symptoms_of(desk, symptoms) if zones else None
+    lines, without = [list(columns_of(known))], []
+    for zone, sysmods in zones:
         errors, fixes = (report_of(desk, kind, zone) for kind in KINDS)
         if not fixes and not categories_sent(desk, zone):
             without.append(zone)
-        lines.append(counts_of(zone, sysmods, errors, fixes))
+        lines.append(counts_of(zone, sysmods, errors, fixes, known))
     if csv:
         run.out("".join(map(csv_line, lines)))
     else:
-        padded = ["".join(map(str.ljust, line, OVERVIEW.values())).rstrip() for line in lines]
+        padded = ["".join(map(str.ljust, line, columns_of(known).values())).rstrip() for line in lines]
         run.out("\n".join([*padded, f"ROWS {len(lines) - 1}\n"]).encode() + desk.ask("/published"))
     if without:
         say("no fix categories were sent from here, so that FIXES may be 0 for that: " + " ".join(without))

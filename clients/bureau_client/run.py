@@ -92,11 +92,13 @@ def bytes_of(path, text=None):
         return converted(data, code, "UTF-8") if code else data
 
 
-def write(path, data):
-    """Writes a file. It is whole at each moment."""
+def write(path, data, mode=None):
+    """Writes a file, perhaps with a mode of its own. It is whole at each moment."""
     with or_stop("%s can't be written" % path):
         with open(path + ".new", "wb") as file:
             file.write(data)
+        if mode is not None:
+            os.chmod(path + ".new", mode)
         os.replace(path + ".new", path)
 
 

@@ -5,7 +5,7 @@ import stat
 
 from .run import Stop
 
-NAMES = {"URL": "BUREAU_URL", "TOKEN": "BUREAU_TOKEN", "CACERT": "BUREAU_CACERT", "CODE": "BUREAU_CODE"}
+NAMES = {"URL": "BUREAU_URL", "TOKEN": "BUREAU_TOKEN", "CACERT": "BUREAU_CACERT", "CODE": "BUREAU_CODE", "PAGE": "BUREAU_PAGE"}
 
 
 def number_of(name, default):
@@ -30,7 +30,7 @@ class Settings:
             raise Stop(2, "a setting has a CR (as at the end of a line of Windows): take it out")
         if not re.fullmatch("[A-Za-z0-9._~-]+", values["TOKEN"]):
             raise Stop(2, "the token has a character that no token has")
-        self.url, self.token, self.authority, self.code = values["URL"].removesuffix("/"), *list(values.values())[1:]
+        self.url, self.token, self.authority, self.code, self.page = values["URL"].removesuffix("/"), *list(values.values())[1:]
         self.seconds = number_of("BUREAU_SECONDS", 300)  # for one request
         self.tries = number_of("BUREAU_TRIES", 6)  # of one request
         self.pause = number_of("BUREAU_PAUSE", 2)  # seconds before the second try; the pauses double, up to 60
@@ -51,7 +51,7 @@ class Settings:
             if is_set and name in NAMES:
                 values[name] = values.get(name) or value
             elif name and not name.startswith("#"):
-                raise Stop(2, f"{self.config} has a line that is none of URL=.., TOKEN=.., CACERT=.., CODE=..")
+                raise Stop(2, f"{self.config} has a line that is none of URL=.., TOKEN=.., CACERT=.., CODE=.., PAGE=..")
         return values
 
     def desks(self, named):

@@ -98,7 +98,9 @@ def statement_of(path, first, verb, lines, lost):
 
 
 def name_lost(path, number, text, lost):
-    """Names what looks like a statement, and is none, since it does not begin in column 1."""
+    """Names what looks like a statement, and is none, since it does not begin in column 1. Without `lost` nothing is named."""
+    if lost is None:
+        return
     if found := LOST.search(COMMENT.sub(b"", text)):
         lost.append((path, number))
         text = COMMENT.sub(b"", text)[found.start() :]
@@ -130,7 +132,7 @@ def statements_in(path, all_lines, lost):
             name_lost(path, number, line, lost)
     if verb in KEPT:
         yield statement_of(path, first, verb, lines, lost)
-    if not found:
+    if not found and lost is not None:
         say("%s has no statement" % path)
         lost.append((path, 0))
 
@@ -149,6 +151,11 @@ def operands_of(one):
         elif depth == 0:
             word = mark.upper()
     return found
+
+
+def has_word(one, word):
+    """Whether a statement has a word outside of its lists, such as ERROR."""
+    return any(depth == 0 and mark.upper() == word for mark, _, _, depth in marks_of(b" ".join(one.lines)))
 
 
 def plain(text):

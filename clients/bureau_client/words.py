@@ -14,10 +14,10 @@ QUESTIONS = {
     "errsysmods": ("ZONE", "reports", "csv alert symptoms"),
     "missingfix": ("ZONE", "reports", "csv"),
     "chain": ("ZONE SYSMOD", "jobs", ""),
-    "plan": ("ZONE", "jobs", "fixes"),
+    "plan": ("ZONE", "jobs", "fixes symptoms"),
     "published": ("", "reports", ""),
     "last": ("", "reports", ""),
-    "overview": ("", "reports", "csv"),
+    "overview": ("", "reports", "csv symptoms"),
     "news": ("ZONE", "reports", "since"),
     "job": ("ZONE, or ZONE SYSMOD..", "jobs", "fixes"),
     "last-publication": ("", "reports", ""),
@@ -105,8 +105,6 @@ class Words:
                 raise usage(f"{self.command} has no --{option}")
             if option == "fixes" and len(self.named) != 1:
                 raise usage("--fixes wants the zone alone: a job of SYSMODs is for no report")
-        if "symptoms" in given and "csv" not in given:
-            raise usage("--symptoms wants --csv")
         for path in (given[option] for option in ("since", "symptoms", "published") if option in given):
             run.need_file(path)
 

@@ -100,9 +100,9 @@ async function rowOfNeeds(first, isInstalled, chainOf, giverOf) {
 export class ChainPanel {
   // CHAIN(sysmod) asks; GO(sysmod) makes another one the address; CLOSE leaves; ISRECEIVED(id) tells what is known of
   // it; ISINSTALLED(id) and GIVEROF(need) ask for that; AGE() is how old all of it is; SYMPTOMSOF(hold) is what a file
-  // of symptoms says of it.
-  constructor({ chain, go, close, faultOf, isReceived, isInstalled, giverOf, age, symptomsOf, say }) {
-    Object.assign(this, { chain, go, faultOf, isReceived, isInstalled, giverOf, age, symptomsOf, say, turn: 0 });
+  // of symptoms says of it, and FIXOF(hold) the fix that it names.
+  constructor({ chain, go, close, faultOf, isReceived, isInstalled, giverOf, age, symptomsOf, fixOf, say }) {
+    Object.assign(this, { chain, go, faultOf, isReceived, isInstalled, giverOf, age, symptomsOf, fixOf, say, turn: 0 });
     this.input = make('input', 'id');
     Object.assign(this.input, { autocomplete: 'off', spellcheck: false, required: true });
     Object.assign(this.input, { maxLength: 7, pattern: '[A-Za-z0-9@#$]{1,7}' });
@@ -156,7 +156,7 @@ export class ChainPanel {
     this.picture.replaceChildren();
     this.element.removeAttribute('aria-busy');
     if (!sysmod) {
-      this.picture.append(make('p', '', 'No published SYSMOD resolves this hold yet.'));
+      this.picture.append(make('p', '', 'No published SYSMOD resolves this hold yet.'), ...this.toOrder(hold));
       return;
     }
     this.element.setAttribute('aria-busy', 'true');
@@ -180,6 +180,12 @@ export class ChainPanel {
     const text = () => jobOf(planOf(chain, hold, this.isReceived, isInstalled), title);
     const name = chain.zone + '-' + chain.sysmod + '.smpcntl.txt';
     return saveButtons([{ title: 'SMP/E job', name, kind: 'text/plain', text }], this.say);
+  }
+
+  // The fix that HOLDDATA names where nothing that is published is one.
+  toOrder(hold) {
+    const fix = hold && this.fixOf(hold);
+    return fix ? [make('p', 'verdict', 'HOLDDATA names ', make('strong', 'id', fix), ' as its fix: order it.')] : [];
   }
 
   // The hold, and its other resolvers.

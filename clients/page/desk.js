@@ -2,6 +2,7 @@
 import { HoldReport, countsOf } from './holds.js';
 import { NoReport, chainOf, levelOf, zonesOf } from './report.js';
 import { planOf } from './plan.js';
+import { Symptoms } from './symptoms.js';
 import { timeOf } from './words.js';
 
 // A refusal, with the words that are shown for it.
@@ -37,10 +38,21 @@ export class Snapshot {
     this.asked = new Date();
     this.answers = new Map();
     this.counts = new Map();
-    this.symptoms = null; // of a file, where one was opened
+    this.served = null; // the symptoms that stand beside this page
+    this.opened = null; // those of a file, where one was opened
     this.ending = new AbortController();
     this.running = 0;
     this.waiting = [];
+  }
+
+  get symptoms() {
+    return this.opened ?? this.served;
+  }
+
+  // The symptoms of a file are those of all zones.
+  open(symptoms) {
+    this.opened = symptoms;
+    this.counts.clear();
   }
 
   // Nothing more is asked, and what is under way is dropped.
@@ -83,7 +95,7 @@ export class Snapshot {
   }
 
   async send(path) {
-    const url = new URL('..' + path, document.baseURI);
+    const url = new URL(path.startsWith('/') ? '..' + path : path, document.baseURI);
     const headers = { 'bureau-token': this.token };
     const { signal } = this.ending;
     let reply;
@@ -119,9 +131,18 @@ export class Snapshot {
 
   // The zones, and how much is published.
   async begin() {
-    const [zones, level] = await Promise.all([this.ask('/zones'), this.ask('/published')]);
+    const [zones, level] = await Promise.all([this.ask('/zones'), this.ask('/published'), this.askSymptoms()]);
     this.zones = zonesOf(zones);
     this.level = levelOf(level);
+  }
+
+  // The symptoms that a publisher keeps beside this page. Where there are none, nothing is said of them.
+  async askSymptoms() {
+    try {
+      this.served = new Symptoms(await this.send('symptoms.csv'));
+    } catch (fault) {
+      this.served = null;
+    }
   }
 
   pathOf(zone, ...parts) {
@@ -137,7 +158,7 @@ export class Snapshot {
   async countsOf(zone, isUrgent) {
     const both = ['errsysmods', 'missingfix'].map((name) => this.report(zone, name, isUrgent));
     const [errors, fixes] = await Promise.all(both);
-    const counts = countsOf(errors.holds, fixes.holds);
+    const counts = countsOf(errors.holds, fixes.holds, this.symptoms);
     this.counts.set(zone, counts);
     return counts;
   }

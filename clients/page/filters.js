@@ -5,12 +5,13 @@ import { counted } from './words.js';
 const MOST_CHIPS = 6; // a kind with more values has a list to choose from
 
 export class Filters {
-  // KINDS are {name, title, of(group) to a list of texts, order, isList}. UNITS are what one group is called, and what
+  // KINDS are {name, title, of(group) to a list of texts, order, isList, label(text)}. UNITS are what one group is called, and what
   // several are. CHANGE is called when something was chosen.
   constructor(kinds, units, change) {
     this.units = units;
     this.kinds = kinds.map((kind) => ({ ...kind, chosen: new Set(), place: make('div', 'chips') }));
     this.change = change;
+    this.textOf = (group) => group.text; // in which the words are looked for
     this.search = make('input');
     this.search.type = 'search';
     this.search.placeholder = 'Filter';
@@ -53,7 +54,8 @@ export class Filters {
 
   list(kind, values) {
     const options = values.map(([value, count]) => {
-      const option = make('option', '', (value || 'no ' + kind.title.toLowerCase()) + ' (' + counted(count) + ')');
+      const words = kind.label?.(value) ?? value;
+      const option = make('option', '', (words || 'no ' + kind.title.toLowerCase()) + ' (' + counted(count) + ')');
       option.value = '=' + value;
       return option;
     });
@@ -84,9 +86,10 @@ export class Filters {
   of(groups) {
     const words = this.search.value.toLowerCase().split(/\s+/).filter(Boolean);
     const kinds = this.kinds.filter((kind) => kind.chosen.size > 0);
+    const isNamed = (text) => words.every((word) => text.includes(word));
     const isWanted = (group) =>
       kinds.every((kind) => kind.of(group).some((value) => kind.chosen.has(value))) &&
-      words.every((word) => group.text.includes(word));
+      (words.length === 0 || isNamed(this.textOf(group)));
     const found = words.length + kinds.length > 0 ? groups.filter(isWanted) : groups;
     this.clear.hidden = words.length + kinds.length === 0;
     const of = found.length === groups.length ? '' : ' of ' + counted(groups.length);

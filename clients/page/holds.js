@@ -132,15 +132,15 @@ export class HoldReport extends Report {
 }
 
 // What has to be looked at first: HIPER, then PE; of these what can be resolved; else as the desk has it. What nothing
-// resolves comes last, since nothing can be installed for it.
-export function byUrgency(one, other) {
-  const isLast = (hold) => (hold.status === 'none' ? 1 : 0);
+// resolves comes last, since nothing can be done for it, unless its fix is known by name.
+export const byUrgency = (symptoms) => (one, other) => {
+  const isLast = (hold) => (hold.status === 'none' && !symptoms?.fixOf(hold) ? 1 : 0);
   return isLast(one) - isLast(other) || one.classRank - other.classRank ||
     RANKS[one.rank].at - RANKS[other.rank].at || one.order - other.order;
-}
+};
 
 // The counts of a zone that the overview shows.
-export function countsOf(errors, fixes) {
+export function countsOf(errors, fixes, symptoms) {
   const of = (test) => errors.filter(test).length;
   return {
     holds: errors.length,
@@ -148,6 +148,7 @@ export function countsOf(errors, fixes) {
     pe: of((hold) => hold.class === 'PE'),
     other: of((hold) => hold.class !== 'HIPER' && hold.class !== 'PE'),
     unresolved: of((hold) => hold.status === 'none'),
+    order: symptoms ? of((hold) => hold.status === 'none' && symptoms.fixOf(hold)) : 0,
     held: of((hold) => hold.status === 'HELD'),
     good: of((hold) => hold.status === 'GOOD'),
     fixes: fixes.length,

@@ -1,22 +1,24 @@
 // A report as a table of its holds, with filters, and as a file.
-import { classBadge, fileButton, make, receivedMark, statusBadge } from './make.js';
+import { classBadge, fileButton, make, orderBadge, receivedMark, statusBadge } from './make.js';
 import { byUrgency } from './holds.js';
 import { Filters } from './filters.js';
 import { Table } from './table.js';
 import { csvOf, saveButtons } from './save.js';
-import { SYMPTOMS } from './symptoms.js';
+import { SYMPTOMS, meaningOf } from './symptoms.js';
 
 const TITLES = { errsysmods: 'Exception SYSMODs of ', missingfix: 'Missing fixes of ' };
 const UNITS = { errsysmods: ['hold', 'holds'], missingfix: ['fix', 'fixes'] };
 const text = (name, title, of) => ({ name, title, of, cell: (hold, member, isFirst) => (isFirst ? of(hold) : '') });
 
-const RESOLVER = [
+// SYMPTOMS tell what can be done about a hold that nothing resolves.
+const resolverColumns = (symptoms) => [
   {
     name: 'resolver', title: 'Resolver', of: (hold) => hold.best.id,
     // the status says none to who sees it
     cell: (hold, { id }) => (id ? make('span', 'id', id) : make('span', 'off', 'no resolver')),
   },
-  { name: 'status', title: 'Status', of: (hold) => hold.status, cell: (hold, member) => statusBadge(member.status) },
+  { name: 'status', title: 'Status', of: (hold) => hold.status, cell: (hold, member) =>
+    (symptoms && member.status === 'none' ? orderBadge(symptoms.fixOf(hold)) : statusBadge(member.status)) },
   {
     name: 'received', title: 'Received', of: (hold) => hold.received,
     cell: (hold, { id, isReceived }) => (id ? receivedMark(isReceived) : ''),
@@ -33,7 +35,7 @@ function categories(hold, member, isFirst) {
 }
 
 const COLUMNS = {
-  errsysmods: [
+  errsysmods: (symptoms) => [
     {
       name: 'class', title: 'Class', of: (hold) => hold.class,
       cell: (hold, member, isFirst) => (isFirst ? classBadge(hold.class) : ''),
@@ -41,13 +43,13 @@ const COLUMNS = {
     text('sysmod', 'SYSMOD', (hold) => hold.sysmod),
     text('reason', 'Reason', (hold) => hold.reason),
     text('fmid', 'FMID', (hold) => hold.fmid),
-    ...RESOLVER,
+    ...resolverColumns(symptoms),
   ],
-  missingfix: [
+  missingfix: () => [
     { name: 'category', title: 'Category', of: (hold) => hold.categories[0] ?? '', cell: categories },
     text('fmid', 'FMID', (hold) => hold.fmid),
     text('reason', 'Reason', (hold) => hold.reason),
-    ...RESOLVER,
+    ...resolverColumns(null),
   ],
 };
 
@@ -59,18 +61,25 @@ const KINDS = {
 };
 
 // What symptoms add to the columns, and to the filters.
-function symptomColumn(symptoms) {
-  const words = (hold) => symptoms.of(hold).join(' ');
-  const cell = (hold, member, isFirst) => {
-    if (!isFirst) return '';
+function symptomColumns(symptoms) {
+  const cut = (words) => (hold, member, isFirst) => {
+    if (!isFirst || !words(hold)) return '';
     const made = make('span', 'cut', words(hold));
     made.title = symptoms.wordsOf(hold);
     return made;
   };
-  return { name: 'symptom', title: 'Symptoms', of: words, cell };
+  const words = (hold) => symptoms.of(hold).map(meaningOf).join(', ');
+  const fix = (hold) => symptoms.fixOf(hold);
+  return [{ name: 'fix', title: 'Fix', of: fix, cell: cut(fix) }, { name: 'symptom', title: 'Symptoms', of: words, cell: cut(words) }];
 }
 
-const symptomKind = (symptoms) => ({ name: 'symptom', title: 'Symptom', of: (hold) => symptoms.of(hold), isList: true });
+const symptomKinds = (symptoms) => [
+  {
+    name: 'fix', title: 'Fix', order: ['to order', 'nothing known'],
+    of: (hold) => (hold.status === 'none' ? [symptoms.fixOf(hold) ? 'to order' : 'nothing known'] : []),
+  },
+  { name: 'symptom', title: 'Symptom', of: (hold) => symptoms.of(hold), isList: true, label: meaningOf },
+];
 
 // The rows of these holds, as the report has them: its columns first, and last what symptoms add.
 function rowsFor(report, holds, symptoms) {
@@ -86,15 +95,16 @@ export class HoldsView {
   constructor(name, zone, report, words, symptoms, ways) {
     this.report = report;
     this.title = TITLES[name] + zone;
-    const more = symptoms ? { columns: [symptomColumn(symptoms)], kinds: [symptomKind(symptoms)] } : { columns: [], kinds: [] };
+    const more = symptoms ? { columns: symptomColumns(symptoms), kinds: symptomKinds(symptoms) } : { columns: [], kinds: [] };
     this.filters = new Filters([...KINDS[name], ...more.kinds], UNITS[name], () => {
       ways.changed(this.filters.words);
       this.show();
     });
+    if (symptoms) this.filters.textOf = (hold) => hold.text + ' ' + symptoms.fixOf(hold).toLowerCase() + ' ' + more.columns[1].of(hold);
     this.filters.words = words;
     this.filters.offer(report.holds);
     this.table = new Table({
-      caption: this.title, columns: [...COLUMNS[name], ...more.columns], order: byUrgency, choose: ways.choose,
+      caption: this.title, columns: [...COLUMNS[name](symptoms), ...more.columns], order: byUrgency(symptoms), choose: ways.choose,
     });
     this.nothing = make('p', 'nothing', 'No ' + UNITS[name][0] + ' has all that is chosen above.');
     this.table.element.append(this.nothing);
@@ -109,7 +119,7 @@ export class HoldsView {
       saves.prepend(make('span', 'pair', make('span', 'pair-name', 'Symptoms'), open));
     }
     const bar = make('div', 'bar', this.filters.element, saves);
-    this.element = make('div', 'report ' + name, bar, this.table.element);
+    this.element = make('div', 'report ' + name + (symptoms ? ' with-symptoms' : ''), bar, this.table.element);
     this.show();
   }
 

@@ -54,6 +54,15 @@ export function statusBadge(status) {
   return shown;
 }
 
+// Of a hold that nothing published resolves: the fix that HOLDDATA names, or that it names none.
+export function orderBadge(fix) {
+  const [first, ...more] = fix.split(' ').filter(Boolean);
+  const text = first ? 'order ' + first + (more.length > 0 ? ' +' + more.length : '') : 'nothing known';
+  const shown = make('span', 'badge ' + (first ? 'status-order' : 'status-none'), text);
+  shown.title = first ? 'HOLDDATA names its fix, which is not published here: ' + fix : STATUS_WORDS.none + ', and HOLDDATA names no fix';
+  return shown;
+}
+
 export const receivedMark = (isReceived) => make('span', isReceived ? 'yes' : 'soft', isReceived ? 'received' : 'no');
 
 export function classBadge(name) {

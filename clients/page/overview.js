@@ -102,7 +102,8 @@ export class Overview {
     const zonesWith = (name) => known.filter((each) => each.counts[name] > 0).length;
     for (const [name, { number, words, element }] of Object.entries(this.tiles)) {
       number.textContent = counted(sum(name));
-      words.textContent = 'in ' + zonesWith(name) + ' of ' + several(known.length, 'zone');
+      const toOrder = name === 'unresolved' && sum('order') > 0 ? ', ' + counted(sum('order')) + ' to order' : '';
+      words.textContent = 'in ' + zonesWith(name) + ' of ' + several(known.length, 'zone') + toOrder;
       element.classList.toggle('zero', sum(name) === 0);
     }
   }

@@ -60,10 +60,10 @@ function forget(words) {
 
 // Asks for everything anew. What was shown before goes first.
 async function begin(token) {
-  const symptoms = snapshot?.symptoms ?? null;
+  const opened = snapshot?.opened ?? null;
   empty();
   const mine = new Snapshot(token);
-  mine.symptoms = symptoms;
+  mine.opened = opened;
   snapshot = mine;
   lay(true);
   at('level').textContent = '';

@@ -1,5 +1,5 @@
 // A zone's plan: what to install, in which order, why, and what to heed; and what is left over.
-import { make, receivedMark } from './make.js';
+import { make, orderBadge, receivedMark } from './make.js';
 import { counted, several } from './words.js';
 import { planRows } from './plan.js';
 import { jobOf } from './job.js';
@@ -69,6 +69,14 @@ function leftOver(title, words, items) {
 const id = (text) => make('span', 'id', text);
 const holdWords = (hold) => [id(hold.sysmod), ' held for ', id(hold.reason)];
 
+// With SYMPTOMS each says what can be done about it, and what is known by name comes first.
+function unresolved(plan, symptoms) {
+  if (!symptoms) return plan.unresolved.map(holdWords);
+  const known = plan.unresolved.map((hold) => ({ hold, fix: symptoms.fixOf(hold) }));
+  const sorted = [...known.filter(({ fix }) => fix), ...known.filter(({ fix }) => !fix)];
+  return sorted.map(({ hold, fix }) => [...holdWords(hold), ': ', orderBadge(fix)]);
+}
+
 // How a row of needs ends.
 function endWords({ giver, published }) {
   if (giver) return ', and so on: they wait for each other';
@@ -109,7 +117,7 @@ export class PlanView {
     const bar = make('div', 'bar', make('p', 'count', summary(plan)), saveButtons(forms, ways.say));
     this.element = make('div', 'report plan', bar,
       leftOver('Held', 'all resolvers can’t be installed now, and why', plan.held.map(heldWords)),
-      leftOver('No resolver', 'nothing that is published resolves these', plan.unresolved.map(holdWords)),
+      leftOver('No resolver', 'nothing that is published resolves these', unresolved(plan, name === 'errsysmods' ? snapshot.symptoms : null)),
       plan.members.length > 0 ? this.table.element : '');
   }
 }

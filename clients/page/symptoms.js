@@ -1,17 +1,33 @@
-// What SMRTDATA in the COMMENT of holds says, from a file that `publication --symptoms` wrote. Nothing here touches the
-// page.
+// What SMRTDATA in the COMMENT of holds says, from the file that `publish` keeps beside this page, or one that was opened.
+// Nothing here touches the page.
 
 export const SYMPTOMS = ['DATE', 'CHGDT', 'SYMP', 'FIX'];
 const FIRST = ['SYSMOD', 'REASON', ...SYMPTOMS].join(',');
+const NOTHING = SYMPTOMS.map(() => '');
+
+// What the flags of SYMP mean. Another one is shown as it is.
+const MEANINGS = {
+  DAL: 'data loss', FUL: 'loss of function', IPL: 'system outage', PRF: 'performance', PRV: 'pervasive',
+};
+export const meaningOf = (flag) => MEANINGS[flag] ?? flag;
 
 // A file that is none of symptoms.
 export class NoSymptoms extends Error {}
 
 // The fields of a line of CSV. An apostrophe in front keeps a text from a spreadsheet, and is no part of it.
 function fieldsOf(line) {
+  if (!/["']/.test(line)) return line.split(',');
   const found = [...line.matchAll(/("(?:[^"]|"")*"|[^,]*)(?:,|$)/g)].slice(0, 2 + SYMPTOMS.length);
   const plain = (field) => (field.startsWith('"') ? field.slice(1, -1).replaceAll('""', '"') : field);
   return found.map(([, field]) => plain(field).replace(/^'/, ''));
+}
+
+// DATE of a hold is yyddd, and CHGDT yymmdd. The years are 1970 to 2069.
+function dayOf(text) {
+  if (!/^\d{5,6}$/.test(text)) return text;
+  const year = Number(text.slice(0, 2)) + (text < '7' ? 2000 : 1900);
+  const [month, day] = text.length === 5 ? [0, Number(text.slice(2))] : [Number(text.slice(2, 4)) - 1, Number(text.slice(4))];
+  return new Date(Date.UTC(year, month, day)).toISOString().slice(0, 10);
 }
 
 export class Symptoms {
@@ -19,7 +35,8 @@ export class Symptoms {
     const [first, ...lines] = text.replace(/^\uFEFF/, '').split(/\r?\n/);
     if (first !== FIRST) throw new NoSymptoms();
     this.known = new Map();
-    for (const line of lines.filter(Boolean)) {
+    for (const line of lines) {
+      if (!line) continue;
       const [sysmod, reason, ...fields] = fieldsOf(line);
       this.known.set(sysmod + ' ' + reason, fields);
     }
@@ -27,20 +44,24 @@ export class Symptoms {
 
   // The four fields for an ERROR hold, which are empty where the file has no record of it. The last record counts.
   fieldsOf(sysmod, reason) {
-    return this.known.get(sysmod + ' ' + reason) ?? SYMPTOMS.map(() => '');
+    return this.known.get(sysmod + ' ' + reason) ?? NOTHING;
+  }
+
+  // The fix by name, or nothing.
+  fixOf({ sysmod, reason }) {
+    return this.fieldsOf(sysmod, reason)[3] ?? '';
   }
 
   // Its symptoms, each by itself.
   of({ sysmod, reason }) {
-    const [, , symptoms] = this.fieldsOf(sysmod, reason);
-    return symptoms.split(' ').filter(Boolean);
+    return (this.fieldsOf(sysmod, reason)[2] ?? '').split(' ').filter(Boolean);
   }
 
   // All that is known of it, in a sentence; nothing where that is nothing.
-  wordsOf({ sysmod, reason }) {
-    const [date, changed, symptoms, fix] = this.fieldsOf(sysmod, reason);
-    const parts = [['symptoms', symptoms], ['fix', fix], ['held', date], ['changed', changed]];
-    const known = parts.filter(([, text]) => text).map(([name, text]) => name + ' ' + text);
-    return known.length > 0 ? 'HOLDDATA says: ' + known.join(', ') + '.' : '';
+  wordsOf(hold) {
+    const [date, changed, , fix] = this.fieldsOf(hold.sysmod, hold.reason);
+    const parts = [['', this.of(hold).map(meaningOf).join(', ')], ['fix ', fix], ['held ', dayOf(date)], ['changed ', dayOf(changed)]];
+    const known = parts.filter(([, text]) => text).map(([name, text]) => name + text);
+    return known.length > 0 ? 'HOLDDATA says: ' + known.join('; ') + '.' : '';
   }
 }

@@ -36,6 +36,7 @@ export class ZoneView {
       giverOf: (need) => this.giverOf(need),
       age: () => snapshot.age,
       symptomsOf: (hold) => (hold.held === 'SYSMOD' ? snapshot.symptoms?.wordsOf(hold) ?? '' : ''),
+      fixOf: (hold) => (hold.held === 'SYSMOD' ? snapshot.symptoms?.fixOf(hold) ?? '' : ''),
       say: ways.say,
     });
     const list = make('div', 'tabs', ...Object.values(this.tabs));
@@ -158,7 +159,7 @@ export class ZoneView {
   // The symptoms of a file are there for all zones, until the token is forgotten.
   async readSymptoms(text) {
     try {
-      this.snapshot.symptoms = new Symptoms(text);
+      this.snapshot.open(new Symptoms(text));
     } catch (fault) {
       if (!(fault instanceof NoSymptoms)) throw fault;
       this.ways.say('This file has no symptoms. publication --symptoms makes one that has.', true);
