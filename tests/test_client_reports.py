@@ -7,6 +7,8 @@ SYSMODS is how many are drawn for the large zones. PYTHON runs the client, such 
 """
 import collections
 import csv
+import datetime
+import glob
 import io
 import json
 import os
@@ -15,6 +17,7 @@ import re
 import shutil
 import subprocess
 import sys
+import time
 
 from service import CLIENT, PROGRAM, SAMPLE, TOP, Client, Desk, check, finish, folder, same, without_time, write
 from stand_in import StandIn
@@ -23,7 +26,8 @@ PYTHON = sys.argv[2] if len(sys.argv) > 2 else None
 NORTH, PUBLISHER = "north-token", "publisher-token"
 CALLERS = os.path.join(SAMPLE, "callers.csv")
 SITE = os.path.join(TOP, "examples", "site")
-OVERVIEW = "ZONE     SYSMODS IN-ERROR HOLDS  HIPER  PE     OTHER  NONE   HELD   GOOD   FIXES\n"
+OVERVIEW = "ZONE     SYSMODS IN-ERROR HOLDS  HIPER  PE     OTHER  NONE   HELD   GOOD   FIXES  SENT\n"
+TODAY = datetime.date.today().isoformat()
 NO_ZONE = OVERVIEW + "ROWS 0\n"
 WITHOUT = "bureau-client: no fix categories were sent from here, so that FIXES may be 0 for that:"
 
@@ -66,8 +70,11 @@ def words_that_are_wrong():
         ("errsysmods", "A", "--alert", "hiper"),
         ("missingfix", "A", "--alert", "PE"),
         ("errsysmods", "A", "--since", kept),
-        ("news",),
         ("news", "a"),
+        ("news", "A", "B"),
+        ("news", "--since", kept),
+        ("history", "a"),
+        ("history", "A", "--since", kept),
         ("news", "A", "--since", kept + "-none"),
         ("news", "A", "--csv"),
         ("overview", "A"),
@@ -196,10 +203,10 @@ def overviews():
     same("the publisher's", bench.publisher.run("overview"), (0, "PUBLISHED SYSMODS 0 HOLDS 0\nLAST PUBLICATION 0\n", ""))
     bench.desk.end()
     bench = sample()
-    line = "MVSPROD  3       1        1      0      1      0      0      0      1      1\n"
+    line = "MVSPROD  3       1        1      0      1      0      0      0      1      1      %s\n" % TODAY
     same("of the sample", bench.north.run("overview"), (0, OVERVIEW + line + "ROWS 1\nPUBLISHED SYSMODS 8 HOLDS 5\n", ""))
-    heading = "ZONE,SYSMODS,IN-ERROR,HOLDS,HIPER,PE,OTHER,NONE,HELD,GOOD,FIXES\n"
-    same("as CSV", bench.north.run("overview", "--csv"), (0, heading + "MVSPROD,3,1,1,0,1,0,0,0,1,1\n", ""))
+    heading = "ZONE,SYSMODS,IN-ERROR,HOLDS,HIPER,PE,OTHER,NONE,HELD,GOOD,FIXES,SENT\n"
+    same("as CSV", bench.north.run("overview", "--csv"), (0, heading + "MVSPROD,3,1,1,0,1,0,0,0,1,1,%s\n" % TODAY, ""))
     same("in another code", bench.north.run("overview", BUREAU_CODE="ISO-8859-1")[1].splitlines()[1] + "\n", line)
     same("the publisher's", bench.publisher.run("overview"), (0, "PUBLISHED SYSMODS 8 HOLDS 5\nLAST PUBLICATION 1\n", ""))
     for name in ("NONE", "EMPTY", "SOME"):
@@ -209,14 +216,68 @@ def overviews():
     same("zones without categories are named", bench.north.run("overview")[2], WITHOUT + " EMPTY NONE\n")
     same("also from another code", bench.north.run("overview", BUREAU_CODE="ISO-8859-1")[2], WITHOUT + " EMPTY NONE\n")
     same("an unknown token", client(bench.desk.url, "nobodys-token").run("overview")[0], 1)
+    sent = glob.glob(north_of(bench) + "/sent/zones/SOME")[0]
+    long_ago = datetime.date.today() - datetime.timedelta(9)
+    os.utime(sent, (time.time() - 9 * 86400,) * 2)
+    status, out, err = bench.north.run("overview")
+    same("a list that was sent long ago", (status, err.splitlines()[0]), (0, "bureau-client: lists that were sent long ago: SOME (9 days)"))
+    check("with its day, in no colour", re.search("(?m)^SOME .* %s$" % long_ago, out), out)
+    same("which is yellow on a terminal", re.findall("\033\\[33m(.*?)\033", on_terminal(bench.north, "overview")), [str(long_ago)])
+    other = client(bench.desk.url, NORTH).run("overview")[1]
+    same("one that was not sent from here has no day", set(re.findall("(?m)^[A-Z]+ .*[0-9]$", other)) and "-" in "".join(other.splitlines()[1:-2]), False)
     bench.desk.end()
     same("no desk", bench.north.run("overview")[:2], (3, ""))
+
+
+def north_of(bench):
+    return glob.glob(bench.north.home + "/desks/*")[0]
+
+
+def on_terminal(north, *words):
+    """What a run prints on a terminal."""
+    terminal, side = os.openpty()
+    subprocess.run([*north.python, CLIENT, *words], env=north.environment, stdout=side, stderr=subprocess.DEVNULL)
+    os.close(side)
+    told = b""
+    try:
+        while piece := os.read(terminal, 65536):
+            told += piece
+    except OSError:  # nobody has it open any more
+        pass
+    os.close(terminal)
+    return told.decode()
+
+
+def histories():
+    """sync keeps a line a day and zone, and history prints them."""
+    bench = Bench()
+    status, out, err = bench.north.run("history")
+    same("none", (status, out), (0, "DATE       ZONE     HIPER  PE     OTHER  NONE   HELD   FIXES\nROWS 0\n"))
+    check("and why", "'bureau-client sync' keeps them" in err, err)
+    same("published", bench.publisher.run("publish", SITE + "/publication.txt")[0], 0)
+    same("sent", bench.north.run("sync", SITE + "/north")[0], 0)
+    heading, line = "DATE,ZONE,HIPER,PE,OTHER,NONE,HELD,FIXES\n", TODAY + ",MVSPROD,0,1,0,0,0,1\n"
+    same("a line a day", bench.north.run("history", "--csv"), (0, heading + line, ""))
+    bench.publish("++HOLD(UJ92001) ERROR REASON(AJ9) CLASS(HIPER).\n")
+    same("nothing new is sent", "nothing to do" in bench.north.run("sync", SITE + "/north")[2], True)
+    same("so that the day's line stays", bench.north.run("history", "--csv", "MVSPROD")[1], heading + line)
+    path = north_of(bench) + "/history.csv"
+    write(path, open(path).read().replace(TODAY, "2026-01-31"))
+    bench.north.run("sync", SITE + "/north")
+    later = TODAY + ",MVSPROD,1,1,0,1,0,1\n"
+    same("another day has a line of its own", bench.north.run("history", "--csv")[1], heading + "2026-01-31,MVSPROD,0,1,0,0,0,1\n" + later)
+    bench.publish("++RELEASE(UJ92001) ERROR REASON(AJ9).\n")
+    bench.north.run("sync", "--all", SITE + "/north")
+    same("lists that are sent count anew", bench.north.run("history", "--csv")[1].splitlines()[-1] + "\n", line)
+    same("of another zone", bench.north.run("history", "A")[1].splitlines()[-1], "ROWS 0")
+    same("as text", bench.north.run("history", "MVSPROD")[1].splitlines()[1], "2026-01-31 MVSPROD  0      1      0      0      0      1")
+    bench.desk.end()
 
 
 def overview_of_many(bench):
     status, out, err = bench.north.run("overview", "--csv")
     same("an overview of many", (status, err), (0, WITHOUT + " SMALL\n"))
-    for zone, sysmods, *got in list(csv.reader(io.StringIO(out)))[1:]:
+    for zone, sysmods, *got, sent in list(csv.reader(io.StringIO(out)))[1:]:
         same("of " + zone, [each.removeprefix("'") for each in got], counts(bench.north, zone.removeprefix("'")))
         check("which has some", int(got[1]) > 0, got)
 
@@ -228,6 +289,16 @@ def news():
     check("the first", (status, out) == (0, "") and "first news of the zone MVSPROD" in err, (status, out, err))
     same("nothing is new", north.run("news", "MVSPROD"), (0, "", ""))
     kept = write(bench.place + "/kept", north.run("errsysmods", "MVSPROD")[1])
+    bench.zone("A", "HBB77E0", "UJ92001")
+    err = north.run("news")[2]
+    same("of all zones: the first of one of them", (err.count("first news"), "zone A:" in err), (1, True))
+    same("and then nothing", north.run("news"), (0, "", ""))
+    bench.publish("++RELEASE(UJ92001) ERROR REASON(AJ64001).\n++HOLD(UJ92001) ERROR REASON(AJ8).\n")
+    out = north.run("news")[1]
+    same("what is new in all zones", (re.findall("(?m)ZONE .*$", out), out.count("CAME -")), (["ZONE A", "ZONE MVSPROD"], 2))
+    bench.publish("++RELEASE(UJ92001) ERROR REASON(AJ8).\n++HOLD(UJ92001) ERROR FMID(HBB77E0)\n REASON(AJ64001) CLASS(PE) DATE(25176).\n")
+    same("dropped", north.run("drop-zone", "A")[0], 0)
+    north.run("news")
     bench.publish("++RELEASE(UJ92001) ERROR REASON(AJ64001).\n")
     heading = "EXCEPTION SYSMOD REPORT FOR ZONE MVSPROD\n     FMID     SYSMOD   REASON   RESOLVER STATUS RECEIVED CLASS\n"
     rows = ["HBB77E0  UJ92001  AJ64001  UJ92002  HELD   NO       PE\n", "HBB77E0  UJ92001  AJ64001  UJ92005  GOOD   YES      PE\n"]
@@ -464,8 +535,8 @@ def symptoms():
     wanted = "\n".join([report[0], report[1].ljust(61) + "FIX", *lines, report[-1]]) + "\n"
     same("the text has a column more", north("errsysmods", "A"), (0, wanted, ""))
     same("its rows are told apart without it", bench.north.run("news", "A", "--since", write(bench.place + "/with", wanted)), (0, "", ""))
-    same("the overview counts those to order", north("overview", "--csv")[1].splitlines(), ["ZONE,SYSMODS,IN-ERROR,HOLDS,HIPER,PE,OTHER,NONE,HELD,GOOD,FIXES,ORDER", "A,3,2,4,1,0,3,2,0,2,0,1"])
-    check("as text too", re.search(r"FIXES  ORDER\nA .* 0      1\nROWS 1\n", north("overview")[1]))
+    same("the overview counts those to order", north("overview", "--csv")[1].splitlines(), ["ZONE,SYSMODS,IN-ERROR,HOLDS,HIPER,PE,OTHER,NONE,HELD,GOOD,FIXES,ORDER,SENT", "A,3,2,4,1,0,3,2,0,2,0,1," + TODAY])
+    check("as text too", re.search(r"FIXES  ORDER  SENT\nA .* 0      1      \S+\nROWS 1\n", north("overview")[1]))
     plan = bench.north.run("plan", "A")[1]
     left = "SYSMOD   REASON\nUJ2      AJ8\nUJ2      AJ9\n"
     check("the plan has both", left in plan, plan)
@@ -515,7 +586,7 @@ def many(count):
     bench.desk.end()
 
 
-for part in (words_that_are_wrong, alerts, why_empty, overviews, news, symptoms, jobs, jobs_that_are_none, alone):
+for part in (words_that_are_wrong, alerts, why_empty, overviews, histories, news, symptoms, jobs, jobs_that_are_none, alone):
     part()
 many(int(sys.argv[1]) if len(sys.argv) > 1 else 1000)
 finish("client's reports" + (", " + PYTHON if PYTHON else ""))

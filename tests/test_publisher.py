@@ -129,6 +129,7 @@ def symptoms():
     same("it is kept", read(kept), heading + first + second)
     same("with a page", publish("++RELEASE(UJ1) ERROR REASON(AJ1).\n++HOLD(UJ1) USER REASON(AJ2).\n", BUREAU_PAGE=page)[0], 0)
     same("a release takes it away", read(page + "/symptoms.csv"), heading + second)
+    same("with the level and the newest hold", read(page + "/publication.json"), '{"newest": "2025-01-01", "number": 2}\n')
     same("all may read it there", os.stat(page + "/symptoms.csv").st_mode & 0o777, 0o644)
     os.remove(page + "/symptoms.csv")
     same("the same publication again", publish("++RELEASE(UJ1) ERROR REASON(AJ1).\n++HOLD(UJ1) USER REASON(AJ2).\n", BUREAU_PAGE=page)[0], 0)

@@ -1,4 +1,5 @@
 """Makes a publication from HOLDDATA and SMPPTFIN as they come. publication.txt says how."""
+import datetime
 import itertools
 import os
 import pkgutil
@@ -179,15 +180,28 @@ def symptoms_of(left):
 
 
 def take_symptoms(symptoms, body):
-    """Takes in what a publication says of ERROR holds. One of which it says nothing has no symptoms any more, nor has one that it releases."""
-    lines = [line.removesuffix(b"\r") for line in body.split(b"\n")]
+    """Takes in what a publication says of ERROR holds. One of which it says nothing has no symptoms any more, nor has one that it releases.
+    Gives the newest DATE of all its holds, as a day, or an empty text."""
+    lines, newest = [line.removesuffix(b"\r") for line in body.split(b"\n")], ""
     for one in statements_in("", lines, None):
-        if one.verb in (b"HOLD", b"RELEASE") and has_word(one, b"ERROR"):
-            operands = operands_of(one)
+        operands = operands_of(one) if one.verb in (b"HOLD", b"RELEASE") else []
+        if one.verb == b"HOLD":
+            newest = max(newest, *(day_of(text) for name, text in operands if name == b"DATE"), "")
+        if operands and has_word(one, b"ERROR"):
             key = tuple(b"".join(ids).decode() for ids in (ids_in(operands[:1], b""), ids_in(operands, b"REASON")))
             symptoms.known.pop(key, None)
             for record in symptoms_of([one]):
                 symptoms.put([*key, *record[2:]])
+    return newest
+
+
+def day_of(date):
+    """DATE of a hold, yyddd, as a day of the calendar. The years are 1970 to 2069."""
+    if not re.fullmatch(rb"\s*\d{5}\s*", date):
+        return ""
+    number = int(date)
+    begin = datetime.date(number // 1000 + (1900 if number >= 70000 else 2000), 1, 1)
+    return (begin + datetime.timedelta(number % 1000 - 1)).isoformat()
 
 
 def write_symptoms(path, left):

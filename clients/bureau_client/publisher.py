@@ -4,13 +4,15 @@
     000000001.reply   what the desk answered
     before      where the first kept publication is not the first at all: how many came before
     next        the publication that is being sent; next.sent is there once it was
-    symptoms.csv    what all kept publications say of symptoms and fixes; `symptoms` is the number of the last one that is in it
+    symptoms.csv    what all kept publications say of symptoms and fixes
+    publication.json    the number of the last publication that is in it, and the newest DATE of a hold
 """
+import json
 import os
 import re
 from contextlib import contextmanager
 
-from . import run, symptoms
+from . import ages, run, symptoms
 from .desk import Unanswered
 from .publication import take_symptoms
 from .run import Stop, refused, say
@@ -135,22 +137,25 @@ class Publisher:
         """Keeps the symptoms of what is published. They also stand beside the page that the settings name: a front serves them there."""
         if not self.top:
             return
-        path, noted = f"{self.kept}/{symptoms.NAME}", self.kept + "/symptoms"
-        last = int(run.bytes_in(noted)) if os.path.isfile(noted) and os.path.isfile(path) else 0
-        book = symptoms.Symptoms(run.bytes_in(path) if last else b"")
-        if last != self.top:
-            for number in range(last + 1, self.top + 1):
+        path, noted = f"{self.kept}/{symptoms.NAME}", f"{self.kept}/{ages.NAME}"
+        is_there = os.path.isfile(noted) and os.path.isfile(path)
+        state = json.loads(run.bytes_in(noted)) if is_there else {"newest": "", "number": 0}
+        book = symptoms.Symptoms(run.bytes_in(path) if is_there else b"")
+        if state["number"] != self.top:
+            for number in range(state["number"] + 1, self.top + 1):
                 if os.path.isfile(self.name_of(number)):
-                    take_symptoms(book, run.bytes_in(self.name_of(number)))
+                    state["newest"] = max(state["newest"], take_symptoms(book, run.bytes_in(self.name_of(number))))
+            state["number"] = self.top
             run.write(path, book.data())
-            run.write(noted, b"%d\n" % self.top)
+            run.write(noted, json.dumps(state).encode() + b"\n")
         self.put_beside_page(symptoms.NAME, book.data())
+        self.put_beside_page(ages.NAME, json.dumps(state).encode() + b"\n")
 
     def put_beside_page(self, name, data):
         """Writes a file that all may read into the folder of the page, where the settings name one."""
         page = self.desks[0].settings.page
         if page and not os.path.isdir(page):
-            refused(f"the folder of the page, '{page}', is not there: {name} does not stand beside it")
+            refused(f"the folder of the page, '{page}', is not there: {name} can't stand beside it")
         elif page:
             run.write(f"{page}/{name}", data, 0o644)
 

@@ -8,7 +8,7 @@ import re
 from collections import Counter
 from contextlib import suppress
 
-from . import run
+from . import ages, run
 from .changes import Changes
 from .desk import ZONES, Unanswered, escaped, in_form, zones_in
 from .lists import rows as rows_in_list
@@ -204,7 +204,7 @@ def why_empty(desk, kind, zone, level):
 
 # The columns of the overview with their widths. IN-ERROR counts installed SYSMODs, and HOLDS the holds on them: by class,
 # and by the best resolver of each. FIXES counts a fix once, however many categories it has.
-OVERVIEW = {"ZONE": 9, "SYSMODS": 8, "IN-ERROR": 9, "HOLDS": 7, "HIPER": 7, "PE": 7, "OTHER": 7, "NONE": 7, "HELD": 7, "GOOD": 7, "FIXES": 0}
+OVERVIEW = {"ZONE": 9, "SYSMODS": 8, "IN-ERROR": 9, "HOLDS": 7, "HIPER": 7, "PE": 7, "OTHER": 7, "NONE": 7, "HELD": 7, "GOOD": 7, "FIXES": 7}
 
 
 def holds_of(kind, rows):
@@ -215,7 +215,7 @@ def holds_of(kind, rows):
     return found
 
 
-def counts_of(zone, sysmods, errors, fixes, known):
+def counts_of(zone, sysmods, errors, fixes, known=None, sent=None):
     holds, counts = holds_of("errsysmods", errors), Counter()
     for rows in holds.values():
         statuses, kind = {row["STATUS"] for row in rows}, rows[0]["CLASS"]
@@ -223,14 +223,22 @@ def counts_of(zone, sysmods, errors, fixes, known):
         counts[kind if kind in ("HIPER", "PE") else "OTHER"] += 1
     in_error = len({sysmod for sysmod, _ in holds})
     told = {"ZONE": zone, "SYSMODS": sysmods, "IN-ERROR": in_error, "HOLDS": len(holds), "FIXES": len(holds_of("missingfix", fixes))}
+    told["SENT"] = sent or ""
     if known:
         told["ORDER"] = sum(1 for hold, rows in holds.items() if not rows[0]["RESOLVER"] and known.fix(*hold))
     return [str(told.get(name, counts[name])) for name in columns_of(known)]
 
 
 def columns_of(known):
-    """The columns of the overview with their widths. ORDER counts the holds of NONE for which a fix is known by name."""
-    return {**OVERVIEW, **({"FIXES": 7, "ORDER": 0} if known else {})}
+    """The columns of the overview with their widths. ORDER counts the holds of NONE for which a fix is known by name. SENT is the day on
+    which this client sent the list of the zone."""
+    return {**OVERVIEW, **({"ORDER": 7} if known else {}), "SENT": 0}
+
+
+def age_line(newest, number):
+    """How new the HOLDDATA of the desk is, where a front tells it. On a terminal an old day is yellow."""
+    words = [f"HOLDDATA UP TO {ages.yellow(newest, ages.is_old(newest))}"] if newest else []
+    return " ".join([*words, *([f"PUBLICATION {number}"] if number else [])]) + "\n" if words or number else ""
 
 
 def overview(desk, csv=False, symptoms=None):
@@ -240,17 +248,25 @@ def overview(desk, csv=False, symptoms=None):
         return run.out(f"LAST PUBLICATION {desk.ask_last('publisher')}\n")
     zones = zones_in(in_form(desk.need_200(), ZONES, desk.no_report))
     known = symptoms_of(desk, symptoms) if zones else None
-    lines, without = [list(columns_of(known))], []
+    newest, number = ages.published_at(desk) if zones else ("", 0)
+    lines, without, old = [list(columns_of(known))], [], []
     for zone, sysmods in zones:
         errors, fixes = (report_of(desk, kind, zone) for kind in KINDS)
         if not fixes and not categories_sent(desk, zone):
             without.append(zone)
-        lines.append(counts_of(zone, sysmods, errors, fixes, known))
+        sent = ages.sent_on(desk, zone)
+        old += [f"{zone} ({ages.days_since(sent)} days)"] if sent and ages.is_old(sent) else []
+        lines.append(counts_of(zone, sysmods, errors, fixes, known, sent and sent.isoformat()))
     if csv:
         run.out("".join(map(csv_line, lines)))
     else:
         padded = ["".join(map(str.ljust, line, columns_of(known).values())).rstrip() for line in lines]
-        run.out("\n".join([*padded, f"ROWS {len(lines) - 1}\n"]).encode() + desk.ask("/published"))
+        for at, line in enumerate(lines[1:], 1):
+            if line[-1] and ages.is_old(line[-1]):
+                padded[at] = padded[at].removesuffix(line[-1]) + ages.yellow(line[-1], True)
+        run.out("\n".join([*padded, f"ROWS {len(lines) - 1}\n"]).encode() + desk.ask("/published") + age_line(newest, number).encode())
+    if old:
+        say("lists that were sent long ago: " + ", ".join(old))
     if without:
         say("no fix categories were sent from here, so that FIXES may be 0 for that: " + " ".join(without))
 
@@ -270,7 +286,13 @@ def changes_of(old, new):
     return "\n".join([new.head[0], "     " + new.head[1], *came, *went, *changed, counts]) + "\n"
 
 
-def news(desk, zone, since=""):
+def news(desk, *named, since=""):
+    """Prints what came, went or changed in a zone, or in all of them."""
+    for zone in named or [zone for zone, _ in desk.zones()]:
+        news_of(desk, zone, since)
+
+
+def news_of(desk, zone, since):
     """Prints what came, went or changed since the last news, or since the report in a file. The reports of the last news stand in the
     folder of the desk. They are replaced once the news is told."""
     kept = f"{Changes(desk).folder}/news/{zone}"

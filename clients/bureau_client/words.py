@@ -18,7 +18,8 @@ QUESTIONS = {
     "published": ("", "reports", ""),
     "last": ("", "reports", ""),
     "overview": ("", "reports", "csv symptoms"),
-    "news": ("ZONE", "reports", "since"),
+    "news": ("ZONE, or nothing for all zones", "reports", "since"),
+    "history": ("ZONE, or nothing for all zones", "history", "csv"),
     "job": ("ZONE, or ZONE SYSMOD..", "jobs", "fixes"),
     "last-publication": ("", "reports", ""),
 }
@@ -81,14 +82,14 @@ class Words:
             self.desks, self.named = self.desks + [word.removesuffix("/") for word in named[:1]], []
             is_good = self.desks
         else:
-            is_good = named if self.command == "job" else len(named) == len(wants.split())
+            is_good = named if self.command == "job" else len(named) < 2 if "nothing" in wants else len(named) == len(wants.split())
         if not is_good:
             raise usage(f"{self.command} wants: {wants or 'no more words'}")
 
     def check_names(self):
         """Refuses names that are none, and files that aren't there."""
         kinds, named = re.findall("[A-Z]+", COMMANDS[self.command][0]), self.named
-        if "ZONE" in kinds:
+        if "ZONE" in kinds and named:
             need_id("name of a zone", named[0])
         for word in named if "SYSMOD" in kinds else ():
             need_id("SYSMOD", word)
@@ -103,6 +104,8 @@ class Words:
         for option in given:
             if option not in COMMANDS[self.command][2].split():
                 raise usage(f"{self.command} has no --{option}")
+            if option == "since" and not self.named:
+                raise usage("--since wants a zone: a report is of one zone")
             if option == "fixes" and len(self.named) != 1:
                 raise usage("--fixes wants the zone alone: a job of SYSMODs is for no report")
         for path in (given[option] for option in ("since", "symptoms", "published") if option in given):
