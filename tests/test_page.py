@@ -31,6 +31,15 @@ BELOW = """[...document.querySelectorAll('tbody tr:not(.space)')].flatMap(row =>
 ).map(cell => cell.innerText)"""
 
 
+# makes what the browser has kept a day older, and gives its keys
+A_DAY_AGO = """new Promise(done => { const opening = indexedDB.open('bureau', 1); opening.onsuccess = () => {
+    const store = opening.result.transaction('zones', 'readwrite').objectStore('zones'), keys = store.getAllKeys();
+    const yesterday = new Date(Date.now() - 86400000).toLocaleString('sv-SE').slice(0, 10);
+    keys.onsuccess = () => keys.result.forEach(key => { const got = store.get(key); got.onsuccess = () => {
+        const kept = got.result; kept.day = yesterday; kept.counts[0][0] = yesterday;
+        store.put(kept, key).onsuccess = () => done(keys.result); }; }); }; })"""
+
+
 def csv_rows(client, report, zone):
     """The report by bureau-client: a dictionary for each row."""
     rows = list(csv.DictReader(io.StringIO(client.run(report, "--csv", zone)[1])))
@@ -78,6 +87,7 @@ def sample(browser, front, north):
     shows(browser, "SYSTEM hold: IPL", ".beside")
     click(browser, "tbody tr.more")
     shows(browser, "UJ92002 can’t be installed now: AJ64002 is in the way.", ".beside")
+    browser.until("document.querySelectorAll('.needs .box').length > 1")
     same(
         "what blocks is followed to its end",
         browser.run("[...document.querySelectorAll('.needs .box')].map(e => e.innerText.split('\\n')[0] + ' ' + e.className)"),
@@ -226,6 +236,8 @@ def fixes_by_name(browser, front, publisher):
     same("but for callers", exchange(url, "GET", "", NORTH, context=front.context), (200, b"SYSMOD,REASON,DATE,CHGDT,SYMP,FIX\nUJ92001,AJ71,25204,250725,PRV DAL,UJ92013\n"))
     click(browser, "#again")
     go(browser, "#")
+    shows(browser, " · HOLDDATA up to 2025-08-19 · publication 2 · asked ", "#level")
+    same("which is old", browser.run("document.querySelector('#level .old').innerText"), "HOLDDATA up to 2025-08-19")
     shows(browser, "in 1 of 1 zone, 1 to order", ".tile.status-none")
     go(browser, "#MVSPROD/errors")
     browser.until("document.querySelector('td.of-fix')")
@@ -250,10 +262,58 @@ def fixes_by_name(browser, front, publisher):
     same("as CSV too", [line.split(",")[-1] for line in by_front.run("errsysmods", "--csv", "MVSPROD")[1].splitlines()], ["FIX", "", "", "UJ92013", ""])
     same("publish takes it back", publisher.run("publish", write(place + "/q", "".join("++RELEASE(UJ92001) ERROR REASON(AJ7%d).\n" % n for n in (1, 2))))[0], 0)
     os.remove(page + "/symptoms.csv")
+    os.remove(page + "/publication.json")
     click(browser, "#again")
     go(browser, "#MVSPROD/errors")
     browser.until("document.querySelector('tbody tr.first')")
     same("without it the page is as before", browser.run("document.querySelectorAll('.of-fix').length"), 0)
+
+
+def news(browser, front, publisher):
+    """The page tells what is new since the report of an earlier day, which this browser has kept for this caller."""
+    place, hold = folder(), "++HOLD(UJ92001) ERROR FMID(HBB77E0)\n REASON(%s) CLASS(%s).\n"
+    go(browser, "#")
+    browser.until("document.querySelectorAll('.figures').length === 1")
+    same("nothing of the same day", browser.run("[document.querySelector('.tile.since').hidden, document.querySelectorAll('.zone-news, .trend').length]"), [True, 0])
+    browser.until("indexedDB.databases().then(all => all.length)")
+    time.sleep(0.3)
+    keys = browser.run(A_DAY_AGO)
+    zones = sorted(key[33:] for key in keys if re.match("[0-9a-f]{32} ", key))
+    same("kept for each caller, by a sum over the token", (zones, len({key[:32] for key in keys})), (["MVSPROD", "MVSTEST"], 2))
+    text = hold % ("AJ81", "HIPER") + hold % ("AJ82", "PE") + hold % ("AJ64001", "HIPER")
+    same("published", publisher.run("publish", write(place + "/p", text))[0], 0)
+    click(browser, "#again")
+    shows(browser, "Since yesterday\n+2 −0\n+1 HIPER, 1 changed", ".tile.since")
+    same("for each zone too", browser.run("document.querySelector('.zone-news').innerText"), "+2 −0 ~1")
+    same("with its holds day by day", browser.run("document.querySelector('.trend title').textContent.replace(/[0-9-]{10}/g, '')"), "Holds: 1 on , 3 on ")
+    picture(browser, "news-zones")
+    click(browser, ".zone-news")
+    browser.until("document.querySelector('.news tbody tr.first')")
+    same("its address", browser.run("location.hash"), "#MVSPROD/new")
+    shows(browser, "2 holds came, 0 went, 1 changed since yesterday.", ".count")
+    wanted = [
+        ["came", "error", "HIPER", "UJ92001", "AJ81", "", "none", ""], ["changed", "error", "HIPER", "UJ92001", "AJ64001", "UJ92005", "GOOD", "was PE"],
+        ["came", "error", "PE", "UJ92001", "AJ82", "", "none", ""],
+    ]
+    same("each hold", lines(browser), wanted)
+    picture(browser, "news-zone")
+    for width in (390, 768):
+        browser.size(width)
+        check("nothing is wider than %d pixels" % width, not is_wide(browser))
+        picture(browser, "news-%d" % width)
+    browser.size(1400)
+    browser.run("[...document.querySelectorAll('tr.first')].find(row => row.innerText.includes('AJ64001')).click()")
+    shows(browser, "UJ92005 can be installed by itself.", ".beside")
+    same("published", publisher.run("publish", write(place + "/q", "".join("++RELEASE(UJ92001) ERROR REASON(%s).\n" % each for each in ("AJ81", "AJ82", "AJ64001"))))[0], 0)
+    go(browser, "#MVSPROD/new")
+    click(browser, "#again")
+    shows(browser, "0 holds came, 1 went, 0 changed since yesterday.", ".count")
+    same("what went", lines(browser), [["went", "error", "PE", "UJ92001", "AJ64001", "UJ92005", "GOOD", ""]])
+    publisher.run("publish", write(place + "/r", "++HOLD(UJ92001) ERROR FMID(HBB77E0)\n REASON(AJ64001) CLASS(PE) DATE(25176).\n"))
+    click(browser, "#again")
+    shows(browser, "0 holds came, 0 went, 0 changed since yesterday.", ".count")
+    click(browser, "#leave")
+    enter(browser, NORTH)
 
 
 def refusals(browser, front):
@@ -422,6 +482,7 @@ def main():
     installed(browser, front, north, south)
     symptoms(browser, north)
     fixes_by_name(browser, front, publisher)
+    news(browser, front, publisher)
     refusals(browser, front)
     publisher.run(
         "publish",

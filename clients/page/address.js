@@ -1,6 +1,6 @@
 // The address of what is shown: #ZONE/TAB/SYSMOD?FILTERS. It can be reloaded, kept and sent.
 
-const TABS = ['errors', 'fixes', 'plan'];
+const TABS = ['errors', 'fixes', 'plan', 'new'];
 export const REPORT_OF = { errors: 'errsysmods', fixes: 'missingfix' };
 
 export function addressOf({ zone, tab, sysmod, words }) {

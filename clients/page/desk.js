@@ -1,9 +1,11 @@
 // Questions to the desk, and what is kept of its answers. The desk stands one folder above this page.
 import { HoldReport, countsOf } from './holds.js';
 import { NoReport, chainOf, levelOf, zonesOf } from './report.js';
+import { Memory } from './memory.js';
+import { changesOf, sumsOf } from './news.js';
 import { planOf } from './plan.js';
 import { Symptoms } from './symptoms.js';
-import { timeOf } from './words.js';
+import { dayOf, timeOf } from './words.js';
 
 // A refusal, with the words that are shown for it.
 export class Refusal extends Error {
@@ -38,6 +40,11 @@ export class Snapshot {
     this.asked = new Date();
     this.answers = new Map();
     this.counts = new Map();
+    this.days = new Map(); // of each zone {before, counts}: what this browser has kept of it
+    this.news = new Map(); // of each zone {since, came, went, changed, hiper}, where it has kept a report of an earlier day
+    this.newest = ''; // the day of the newest hold, and the number of the last publication, where the publisher keeps them here
+    this.number = 0;
+    this.memory = Memory.of(token);
     this.served = null; // the symptoms that stand beside this page
     this.opened = null; // those of a file, where one was opened
     this.ending = new AbortController();
@@ -131,7 +138,7 @@ export class Snapshot {
 
   // The zones, and how much is published.
   async begin() {
-    const [zones, level] = await Promise.all([this.ask('/zones'), this.ask('/published'), this.askSymptoms()]);
+    const [zones, level] = await Promise.all([this.ask('/zones'), this.ask('/published'), this.askSymptoms(), this.askNumber()]);
     this.zones = zonesOf(zones);
     this.level = levelOf(level);
   }
@@ -142,6 +149,17 @@ export class Snapshot {
       this.served = new Symptoms(await this.send('symptoms.csv'));
     } catch (fault) {
       this.served = null;
+    }
+  }
+
+  // How new the HOLDDATA is, and which publication was the last, where the publisher keeps that beside this page.
+  async askNumber() {
+    try {
+      const { newest, number } = JSON.parse(await this.send('publication.json'));
+      if (/^\d{4}-\d\d-\d\d$/.test(newest)) this.newest = newest;
+      if (Number.isInteger(number)) this.number = number;
+    } catch (fault) {
+      // nothing is known of it
     }
   }
 
@@ -160,7 +178,42 @@ export class Snapshot {
     const [errors, fixes] = await Promise.all(both);
     const counts = countsOf(errors.holds, fixes.holds, this.symptoms);
     this.counts.set(zone, counts);
+    await this.remember(zone, errors, fixes, counts);
     return counts;
+  }
+
+  // Keeps the reports of a zone for another day, and tells what is new since an earlier one.
+  async remember(zone, errors, fixes, counts) {
+    if (this.days.has(zone)) return;
+    try {
+      const memory = await this.memory;
+      const kept = await memory?.keep(zone, this.day, errors.text, fixes.text, counts);
+      if (!kept) return;
+      this.days.set(zone, kept);
+      if (kept.before) this.news.set(zone, { since: kept.before.day, ...sumsOf(this.changesSince(zone, kept.before, errors, fixes)) });
+    } catch (fault) {
+      // a browser that keeps nothing, or something that is no report any more: nothing is told
+    }
+  }
+
+  changesSince(zone, before, errors, fixes) {
+    const old = (name, report, text) => (text === report.text ? report : new HoldReport(name, zone, text));
+    return [
+      ...changesOf(old('errsysmods', errors, before.errors), errors), ...changesOf(old('missingfix', fixes, before.fixes), fixes),
+    ];
+  }
+
+  // What is new in a zone: {since, changes}, or null where this browser has no report of an earlier day.
+  async newsOf(zone) {
+    await this.countsOf(zone);
+    const before = this.days.get(zone)?.before;
+    if (!before) return null;
+    const [errors, fixes] = await Promise.all(['errsysmods', 'missingfix'].map((name) => this.report(zone, name)));
+    return { since: before.day, changes: this.changesSince(zone, before, errors, fixes) };
+  }
+
+  get day() {
+    return dayOf(this.asked);
   }
 
   // The plan of a report, or null where this desk has no such call.

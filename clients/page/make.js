@@ -36,6 +36,24 @@ export function link(text, className, address, label) {
   return made;
 }
 
+// A small line over numbers, one for each day: [day, number].
+export function lineOver(days) {
+  const most = Math.max(1, ...days.map(([, number]) => number));
+  const points = days.map(([, number], at) => [2 + (56 * at) / (days.length - 1), 14 - (12 * number) / most]);
+  const of = (tag, words) => {
+    const element = document.createElementNS('http://www.w3.org/2000/svg', tag);
+    for (const [name, text] of Object.entries(words)) element.setAttribute(name, text);
+    return element;
+  };
+  const made = of('svg', { class: 'trend', viewBox: '0 0 60 16', width: 60, height: 16, role: 'img' });
+  const title = of('title', {});
+  const told = [days[0], days.at(-1)].map(([day, number]) => number + ' on ' + day);
+  title.textContent = 'Holds: ' + told.join(', ');
+  const [x, y] = points.at(-1);
+  made.append(title, of('polyline', { points: points.map((point) => point.map((each) => each.toFixed(1)).join(',')).join(' ') }), of('circle', { cx: x, cy: y, r: 2 }));
+  return made;
+}
+
 // Waits until what is there now was painted.
 export const painted = () => new Promise((done) => requestAnimationFrame(() => setTimeout(done)));
 

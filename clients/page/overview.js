@@ -1,6 +1,7 @@
 // All zones at a glance: what is urgent comes first. A zone's counts fill in as its reports come.
-import { link, make } from './make.js';
+import { lineOver, link, make } from './make.js';
 import { counted, several } from './words.js';
+import { sinceWords } from './news.js';
 import { addressOf } from './address.js';
 
 const BARS = [['hiper', 'HIPER'], ['pe', 'PE'], ['other', 'other']];
@@ -58,6 +59,8 @@ export class Overview {
   // FAULT(fault) gives the words for what did not come.
   constructor(snapshot, faultOf) {
     Object.assign(this, { snapshot, faultOf });
+    this.since = tile('New', 'since');
+    this.since.element.hidden = true;
     this.tiles = {
       hiper: tile('HIPER holds', 'class-hiper'), unresolved: tile('No resolver', 'status-none'),
       holds: tile('Held in error', 'of-all'), fixes: tile('Fixes missing', 'of-all'),
@@ -67,7 +70,7 @@ export class Overview {
     }));
     this.list = make('ul', 'zones');
     this.element = make('div', 'overview', make('h1', 'off', 'Your zones'),
-      make('div', 'tiles', ...Object.values(this.tiles).map((each) => each.element)), this.list);
+      make('div', 'tiles', this.since.element, ...Object.values(this.tiles).map((each) => each.element)), this.list);
     this.show();
     this.done = this.fill();
   }
@@ -95,6 +98,7 @@ export class Overview {
     const known = this.zones.filter((each) => each.counts);
     const most = Math.max(0, ...known.map((each) => each.counts.holds));
     for (const each of this.zones) each.element.replaceChildren(...this.lineOf(each, most));
+    this.showNews();
     const focused = document.activeElement;
     this.list.replaceChildren(...[...this.zones].sort(byUrgency).map((each) => each.element));
     if (focused?.isConnected) focused.focus();
@@ -108,9 +112,36 @@ export class Overview {
     }
   }
 
+  // What is new in a zone, and its holds day by day as a small line.
+  marksOf(zone) {
+    const news = this.snapshot.news.get(zone);
+    const marks = [];
+    if (news && news.came + news.went + news.changed > 0) {
+      const text = '+' + counted(news.came) + ' −' + counted(news.went) + (news.changed > 0 ? ' ~' + counted(news.changed) : '');
+      marks.push(link(text, 'zone-news', addressOf({ zone, tab: 'new' }), zone + ': new since ' + news.since));
+    }
+    const days = this.snapshot.days.get(zone)?.counts ?? [];
+    if (days.length > 1) marks.push(lineOver(days.map(([day, { holds }]) => [day, holds])));
+    return marks.length > 0 ? make('span', 'zone-marks', ...marks) : '';
+  }
+
+  // What came and went since the last report of an earlier day, where this browser has one.
+  showNews() {
+    const all = [...this.snapshot.news.values()];
+    this.since.element.hidden = all.length === 0;
+    if (all.length === 0) return;
+    const sum = (name) => all.reduce((whole, each) => whole + each[name], 0);
+    const { element, number, words } = this.since;
+    const since = all.map((each) => each.since).sort()[0];
+    element.querySelector('.tile-title').textContent = 'Since ' + sinceWords(since, this.snapshot.day);
+    number.textContent = '+' + counted(sum('came')) + ' −' + counted(sum('went'));
+    words.textContent = '+' + counted(sum('hiper')) + ' HIPER, ' + counted(sum('changed')) + ' changed';
+    element.classList.toggle('zero', sum('came') + sum('went') + sum('changed') === 0);
+  }
+
   lineOf({ zone, sysmods, counts, fault }, most) {
     const name = link(zone, 'zone-name id', addressOf({ zone, tab: 'errors' }));
-    const head = make('div', 'zone-head', name, make('span', 'soft', several(sysmods, 'SYSMOD')));
+    const head = make('div', 'zone-head', name, make('span', 'soft', several(sysmods, 'SYSMOD')), this.marksOf(zone));
     if (fault) return [head, make('p', 'fault', fault)];
     if (!counts) return [head, make('p', 'soft', 'Asking ..')];
     return [head, make('div', 'zone-bars', barOf(counts, most)), make('div', 'figures', ...figuresOf(zone, counts))];

@@ -7,6 +7,7 @@ import { Overview } from './overview.js';
 import { ZoneView } from './zone.js';
 
 const TOKEN = 'bureau-token';
+const OLD = 7 * 86400000; // milliseconds, after which HOLDDATA is old
 let snapshot = null;
 let view = null; // what is shown: all zones, or one
 
@@ -58,6 +59,16 @@ function forget(words) {
   at('token').focus();
 }
 
+// How new the HOLDDATA is. From a week on that is marked.
+function agesOf({ newest, number, asked }) {
+  const dot = () => make('span', 'dot', ' · ');
+  const isOld = asked - Date.parse(newest) >= OLD;
+  return [
+    ...(newest ? [dot(), make('span', isOld ? 'old' : '', 'HOLDDATA up to ' + newest)] : []),
+    ...(number ? [dot(), 'publication ' + number] : []),
+  ];
+}
+
 // Asks for everything anew. What was shown before goes first.
 async function begin(token) {
   const opened = snapshot?.opened ?? null;
@@ -79,7 +90,7 @@ async function begin(token) {
     const { sysmods, holds } = mine.level;
     const published = several(sysmods, 'SYSMOD') + ' and ' + several(holds, 'hold') + ' published';
     const asked = make('span', 'asked', 'asked ' + timeOf(mine.asked));
-    at('level').replaceChildren(published, make('span', 'dot', ' · '), asked);
+    at('level').replaceChildren(published, ...agesOf(mine), make('span', 'dot', ' · '), asked);
     show();
   } catch (fault) {
     if (mine !== snapshot) return;

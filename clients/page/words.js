@@ -8,5 +8,8 @@ export const counted = (number) => NUMBERS.format(number);
 // `1 hold`, `2 holds`.
 export const several = (number, word) => counted(number) + ' ' + word + (number === 1 ? '' : 's');
 
+// The day of a time, as this machine has it.
+export const dayOf = (date) => timeOf(date).slice(0, 10);
+
 // Year, month, day and time, as this machine has them.
 export const timeOf = (date) => date.toLocaleString('sv-SE');

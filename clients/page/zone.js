@@ -4,10 +4,12 @@ import { counted, several } from './words.js';
 import { REPORT_OF, addressOf } from './address.js';
 import { ChainPanel } from './chain.js';
 import { HoldsView } from './holdsview.js';
+import { NewsView } from './newsview.js';
 import { PlanView } from './planview.js';
+import { sinceWords } from './news.js';
 import { NoSymptoms, Symptoms } from './symptoms.js';
 
-const TITLES = { errors: 'Errors', fixes: 'Fixes', plan: 'Plan' };
+const TITLES = { errors: 'Errors', fixes: 'Fixes', plan: 'Plan', new: 'New' };
 
 // Why a report has no rows, as far as the desk tells. It does not tell the categories.
 function emptyWords(tab, { level, zones }, zone) {
@@ -24,6 +26,7 @@ export class ZoneView {
     Object.assign(this, { snapshot, zone, ways, views: {}, where: { zone, tab: 'errors' }, plan: 'errsysmods' });
     this.tabs = Object.fromEntries(Object.keys(TITLES).map((tab) => [tab, this.tab(tab)]));
     this.tabs.plan.hidden = true;
+    this.tabs.new.hidden = true;
     this.body = make('div', 'tab-body');
     this.body.setAttribute('role', 'tabpanel');
     this.chain = new ChainPanel({
@@ -84,6 +87,10 @@ export class ZoneView {
     for (const [tab, name] of Object.entries(REPORT_OF)) {
       this.snapshot.report(this.zone, name).then(({ holds }) => mark(tab, counted(holds.length)), () => mark(tab, '?'));
     }
+    this.snapshot.newsOf(this.zone).then((news) => {
+      this.tabs.new.hidden = news === null && this.where.tab !== 'new';
+      mark('new', counted(news?.changes.length ?? 0));
+    }, () => mark('new', '?'));
     try {
       const plan = await this.snapshot.plan(this.zone, 'errsysmods');
       this.tabs.plan.hidden = plan === null;
@@ -102,7 +109,8 @@ export class ZoneView {
     }
     this.body.setAttribute('aria-labelledby', 'tab-' + where.tab);
     const isNew = !this.view || before.tab !== where.tab || before.words !== where.words;
-    if (isNew) await (where.tab === 'plan' ? this.showPlan() : this.showReport(where));
+    const shows = { plan: () => this.showPlan(), new: () => this.showNews() };
+    if (isNew) await (shows[where.tab] ?? (() => this.showReport(where)))();
     // what was asked for is seen first, and the counts of the other tabs follow
     this.counting ??= painted().then(() => this.count());
     if (this.where !== where) return;
@@ -170,6 +178,26 @@ export class ZoneView {
     this.showChain(this.where);
   }
 
+  showNews() {
+    return this.fill(async () => {
+      this.tabs.new.hidden = false;
+      const news = await this.snapshot.newsOf(this.zone);
+      if (news === null) {
+        this.view = {};
+        return [make('p', 'nothing', 'This browser has no report of an earlier day on this zone. From tomorrow on it tells what is new.')];
+      }
+      this.view = new NewsView(this.zone, sinceWords(news.since, this.snapshot.day), news.changes, {
+        choose: (sysmod, isEntered, hold) => {
+          this.hold = hold;
+          this.isEntered = isEntered;
+          this.ways.go({ ...this.where, sysmod });
+        },
+        say: this.ways.say,
+      });
+      return [this.view.element];
+    });
+  }
+
   showPlan() {
     return this.fill(async () => {
       const plan = await this.snapshot.plan(this.zone, this.plan);
@@ -202,8 +230,9 @@ export class ZoneView {
 
   showChain({ sysmod, tab }) {
     const hold = sysmod && tab !== 'plan' ? this.holdOf(sysmod) : undefined;
+    const isReport = tab in REPORT_OF;
     const member = hold?.resolvers.find((each) => each.id === sysmod) ?? hold?.best;
-    if (tab !== 'plan') this.view?.table?.reveal(hold, member);
+    if (isReport) this.view?.table?.reveal(hold, member);
     if (!sysmod) {
       this.chain.empty();
       return;
@@ -237,7 +266,7 @@ export class ZoneView {
   // What would give a need that nothing good gives, as the plan's row of it tells, or the best resolver of a hold for it:
   // {giver, published}, where `giver` is null if nothing for this zone gives it. Undefined is not known.
   async giverOf(need) {
-    const name = this.where.tab === 'plan' ? this.plan : REPORT_OF[this.where.tab];
+    const name = REPORT_OF[this.where.tab] ?? this.plan;
     const asked = [this.snapshot.plan(this.zone, name), this.snapshot.report(this.zone, 'errsysmods')];
     const [plan, report] = await Promise.all(asked.map((answer) => answer.catch(() => null)));
     const row = plan?.blocked.find((each) => each.need === need);
