@@ -274,6 +274,54 @@ def histories():
     bench.desk.end()
 
 
+def accepted_holds():
+    """Holds of accepted.csv are told as such, count apart, and are left out of alerts and news until their day."""
+    bench, site = sample(), folder()
+    north, day = bench.north, datetime.date.today()
+    later, before = (str(day + datetime.timedelta(days)) for days in (3, -1))
+    bench.publish("++HOLD(UJ92001) ERROR REASON(AJ9) CLASS(HIPER).\n")
+    shutil.copytree(SITE + "/north", site + "/north")
+    path = site + "/north/accepted.csv"
+    sync = lambda *records: (write(path, "\n".join(["ZONE,SYSMOD,REASON,UNTIL,WHY", *records]) + "\n"), north.run("sync", site + "/north"))[1]
+    north.run("news")
+    report, rows = north.run("errsysmods", "MVSPROD")[1], north.run("errsysmods", "--csv", "MVSPROD")[1]
+    same("an alert", north.run("errsysmods", "--alert", "HIPER", "MVSPROD")[0], 4)
+    same("the list is taken", sync("MVSPROD,UJ92001,AJ9,%s,we do not use it" % later, "OTHER,UJ92001,AJ64001,,", "*,UJ92001,AJ64001,%s," % before)[0], 0)
+    status, out, err = north.run("errsysmods", "--alert", "HIPER", "MVSPROD")
+    lines = [(line.ljust(61) + ("ACCEPTED UNTIL %s we do not use it" % later if "AJ9 " in line else "")).rstrip() for line in report.splitlines()]
+    lines[1] = lines[1].ljust(61) + "ACCEPTED"
+    same("no alert any more", (status, out, err), (0, "\n".join([lines[0].rstrip(), *lines[1:-1], lines[-1].rstrip()]) + "\n", ""))
+    same("nor as CSV", north.run("errsysmods", "--csv", "--alert", "HIPER", "MVSPROD")[0], 0)
+    same("another one is told", north.run("errsysmods", "--alert", "PE", "MVSPROD")[0], 4)
+    lines = rows.splitlines()
+    wanted = [lines[0] + ",UNTIL,WHY", *(line + (",%s,we do not use it" % later if ",AJ9," in line else ",,") for line in lines[1:])]
+    same("as CSV", north.run("errsysmods", "--csv", "MVSPROD")[1].splitlines(), wanted)
+    grey = re.findall("\033\\[90m(.*?)\033", on_terminal(north, "errsysmods", "MVSPROD"))
+    same("grey on a terminal", [line[9:22] for line in grey], ["UJ92001  AJ9 "])
+    line = "MVSPROD  3       1        1      0      1      0      0      0      1      1      1        %s" % TODAY
+    same("counted apart", north.run("overview")[1].splitlines()[:2], [OVERVIEW.rstrip().replace("SENT", "ACCEPTED SENT"), line])
+    same("not among the history", north.run("history", "--csv")[1].splitlines()[-1], TODAY + ",MVSPROD,0,1,0,0,0,1")
+    same("no news", north.run("news"), (0, "", ""))
+    bench.publish("++HOLD(UJ92001) ERROR REASON(AJ9) CLASS(PE).\n")
+    same("nor of a change of it", north.run("news"), (0, "", ""))
+    same("its day has come", sync("MVSPROD,UJ92001,AJ9,%s," % before)[0], 0)
+    out = north.run("news")[1]
+    check("then it is news", "CAME -        UJ92001  AJ9 " in out and out.endswith("CAME 1 WENT 0 CHANGED 0\n"), out)
+    same("a fix too", (sync("*,HBB77E0,AJ64005,,")[0], north.run("overview", "--csv")[1].splitlines()[1].split(",")[-3:]), (0, ["0", "1", TODAY]))
+    for name, record, words in (
+        ("a field too few", "A,UJ1,AJ1,", "line 3: it has 4 fields"), ("no id", "A,uj1,AJ1,,", "line 3: ZONE, SYSMOD or REASON is no id"),
+        ("no day", "A,UJ1,AJ1,2026-02-30,", "line 3: UNTIL is no day"), ("another form of a day", "A,UJ1,AJ1,20260230,", "line 3: UNTIL is no day"),
+    ):
+        status, _, err = sync("A,UJ1,AJ1,,", record)
+        check(name, status == 1 and "accepted.csv, " + words in err, (status, err))
+    write(path, "ZONE,SYSMOD\n")
+    check("another table", "line 1: it does not begin with ZONE,SYSMOD,REASON,UNTIL,WHY" in north.run("sync", site + "/north")[2])
+    same("what was there before stays", north.run("overview", "--csv")[1].splitlines()[1].split(",")[-2], "1")
+    os.remove(path)
+    same("without the file nothing is accepted", (north.run("sync", site + "/north")[0], "ACCEPTED" in north.run("overview")[1]), (0, False))
+    bench.desk.end()
+
+
 def overview_of_many(bench):
     status, out, err = bench.north.run("overview", "--csv")
     same("an overview of many", (status, err), (0, WITHOUT + " SMALL\n"))
@@ -586,7 +634,7 @@ def many(count):
     bench.desk.end()
 
 
-for part in (words_that_are_wrong, alerts, why_empty, overviews, histories, news, symptoms, jobs, jobs_that_are_none, alone):
+for part in (words_that_are_wrong, alerts, why_empty, overviews, histories, accepted_holds, news, symptoms, jobs, jobs_that_are_none, alone):
     part()
 many(int(sys.argv[1]) if len(sys.argv) > 1 else 1000)
 finish("client's reports" + (", " + PYTHON if PYTHON else ""))

@@ -316,6 +316,48 @@ def news(browser, front, publisher):
     enter(browser, NORTH)
 
 
+def accepted_holds(browser, north):
+    """What a site has accepted is grey, the last, and counted apart. It stays in the browser."""
+    give = """(input => { const data = new DataTransfer(); data.items.add(new File([%s], 'accepted.csv'));
+        input.files = data.files; input.dispatchEvent(new Event('change')); })(document.querySelectorAll('input[type=file]')[1])"""
+    text = "ZONE,SYSMOD,REASON,UNTIL,WHY\n*,UJ92001,AJ64001,2099-12-31,\"not used, says \"\"ops\"\"\"\nMVSPROD,UJ1,AJ1,,\n"
+    place = folder()
+    go(browser, "#MVSPROD/errors")
+    for wrong in ("SYSMOD\n", text.replace("2099-12-31", "soon"), text + "A,B\n"):
+        browser.run(give % json.dumps(wrong))
+        said(browser, "This file has no accepted holds")
+    browser.run(give % json.dumps(text))
+    said(browser, "The file has 2 accepted holds.")
+    browser.until("document.querySelector('tbody tr.accepted')")
+    same("grey", browser.run("[...new Set([...document.querySelectorAll('tr.accepted :is(td, .badge, .yes)')].map(e => getComputedStyle(e).color))]"), ["rgb(86, 96, 114)"])
+    click(browser, "tbody tr.first")
+    shows(browser, 'Accepted until 2099-12-31: not used, says "ops".', ".beside")
+    picture(browser, "accepted")
+    browser.call("Browser.setDownloadBehavior", behavior="allow", downloadPath=place)
+    click(browser, ".report [aria-label='Save as CSV']")
+    check("it is saved", until(lambda: os.path.exists(place + "/MVSPROD-errsysmods.csv")))
+    time.sleep(0.2)
+    site = folder()
+    write(site + "/zones/MVSPROD.csv", open(SITE + "/north/zones/MVSPROD.csv").read())
+    write(site + "/accepted.csv", text)
+    same("the client takes the same file", north.run("sync", site)[0], 0)
+    same("and joins the same", open(place + "/MVSPROD-errsysmods.csv").read(), north.run("errsysmods", "--csv", "MVSPROD")[1])
+    os.remove(site + "/accepted.csv")
+    same("which is taken back", north.run("sync", site)[0], 0)
+    for _ in range(2):
+        go(browser, "#")
+        shows(browser, "0\nin 0 of 1 zone, 1 accepted", ".tile.of-all")
+        browser.call("Page.reload")
+        browser.until("document.querySelector('.figures')")
+    browser.run("new Promise(done => { const opening = indexedDB.open('bureau', 1); opening.onsuccess = () => {"
+                "opening.result.transaction('zones', 'readwrite').objectStore('zones').clear().onsuccess = done; }; }).then(() => 1)")
+    click(browser, "#leave")
+    enter(browser, NORTH)
+    go(browser, "#MVSPROD/errors")
+    browser.until("document.querySelector('tbody tr.first')")
+    same("forgotten", browser.run("document.querySelectorAll('tr.accepted').length"), 0)
+
+
 def refusals(browser, front):
     browser.open(front.url + "/page/?refused")
     click(browser, "#leave")
@@ -483,6 +525,7 @@ def main():
     symptoms(browser, north)
     fixes_by_name(browser, front, publisher)
     news(browser, front, publisher)
+    accepted_holds(browser, north)
     refusals(browser, front)
     publisher.run(
         "publish",

@@ -44,6 +44,6 @@ def is_old(day):
     return days is not None and days >= OLD
 
 
-def yellow(text, is_wanted):
-    """A text that whoever looks at a terminal sees in yellow."""
-    return f"\033[33m{text}\033[0m" if is_wanted and os.isatty(1) else text
+def coloured(colour, text):
+    """A text that whoever looks at a terminal sees in a colour: 33 is yellow, and 90 grey."""
+    return f"\033[{colour}m{text}\033[0m" if os.isatty(1) else text

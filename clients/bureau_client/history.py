@@ -3,6 +3,7 @@ import csv
 import os
 
 from . import ages, reports, run
+from .accepted import Accepted
 from .changes import Changes
 from .run import Stop, csv_line, say
 
@@ -40,8 +41,9 @@ def keep(changes, is_fresh):
 
 
 def counts_of(desk, zone, sysmods):
-    counts = dict(zip(reports.OVERVIEW, reports.counts_of(zone, sysmods, *(reports.report_of(desk, kind, zone) for kind in reports.KINDS))))
-    return [counts[name] for name in list(COLUMNS)[1:]]
+    errors, fixes = (reports.report_of(desk, kind, zone) for kind in reports.KINDS)
+    counts = reports.counts_of(zone, sysmods, errors, fixes, Accepted(desk, zone))
+    return [str(counts[name]) for name in list(COLUMNS)[1:]]
 
 
 def history(desk, zone="", csv=False):

@@ -79,8 +79,9 @@ class Lists:
             if not os.path.isfile(f"{folder}/zones/{zone}.csv"):
                 drops = f"'bureau-client drop-zone {zone}' drops it"
                 say(f"{desk.url} also has the zone {zone}, which has no file in {folder}/zones; {drops}")
-        from . import history  # it stands on this module
+        from . import accepted, history  # they stand on this module
 
+        accepted.keep(self.changes, folder)
         history.keep(self.changes, not self.changes.is_idle)
 
     def in_folder(self, folder):

@@ -9,6 +9,7 @@ from collections import Counter
 from contextlib import suppress
 
 from . import ages, run
+from .accepted import Accepted
 from .changes import Changes
 from .desk import ZONES, Unanswered, escaped, in_form, zones_in
 from .lists import rows as rows_in_list
@@ -25,7 +26,8 @@ COLUMNS = {
 }
 # Which columns make a row the same row.
 KEYS = {"errsysmods": ("SYSMOD", "REASON", "RESOLVER"), "missingfix": ("CATEGORY", "FMID", "REASON", "RESOLVER")}
-FIX = 61  # where the column FIX begins, from 0, which this client adds to the text of exception SYSMODs
+HELD = {"errsysmods": "SYSMOD", "missingfix": "FMID"}  # the column of the SYSMOD that is held
+FIX, FIX_OF_FIXES = 61, 109  # where a column begins that this client adds to the text of a report, from 0
 
 
 # --- What a desk answers ------------------------------------------------------------------------------------------------
@@ -70,14 +72,24 @@ class Text:
     """A report that stands as text. Its heading tells where its columns begin."""
 
     def __init__(self, kind, lines):
+        self.kind = kind
         self.zone, self.head, self.lines, self.keys = lines[0][len(TITLES[kind] % "REPORT") :], lines[:2], lines[2:], KEYS[kind]
         starts = {found[0]: found.start() for found in re.finditer(r"\S+", lines[1])}
         self.columns = dict(zip(starts, map(slice, starts.values(), [*list(starts.values())[1:], None])))
-        if "FIX" in starts:  # it is no part of what a desk reports
-            self.head[1], *self.lines = (line[: starts["FIX"]].rstrip() for line in (lines[1], *lines[2:]))
+        more = min((starts[name] for name in ("FIX", "ACCEPTED") if name in starts), default=None)
+        self.head[1], *self.lines = (line[:more].rstrip() for line in (lines[1], *lines[2:]))  # what a desk reports
 
     def column(self, line, name):
         return line[self.columns.get(name, slice(0))].rstrip()
+
+    def hold(self, line):
+        """The SYSMOD and the reason of a row."""
+        return self.column(line, HELD[self.kind]), self.column(line, "REASON")
+
+    def without(self, accepted):
+        """The report without the rows of accepted holds."""
+        self.lines = [line for line in self.lines if self.hold(line) not in accepted]
+        return self
 
     def by_key(self):
         return {tuple(self.column(line, name) for name in self.keys): line for line in self.lines}
@@ -117,17 +129,20 @@ def zones(desk, csv=False):
 
 
 def report(kind, desk, zone, csv=False, alert=(), symptoms=None):
+    known, accepted = None, Accepted(desk, zone)
     if csv:
         rows = report_of(desk, kind, zone)
-        classes = {row.get("CLASS") for row in rows}
-        answer = csv_of(kind, rows, known_of(desk, kind, rows, symptoms))
+        known, held = known_of(desk, kind, rows, symptoms), HELD[kind]
+        answer = csv_of(kind, rows, known, accepted)
+        classes = {row.get("CLASS") for row in rows if (row[held], row["REASON"]) not in accepted}
     else:
         answer = report_text(desk, kind, zone)
         rows = not answer.endswith((b"\nROWS 0\n", b"\nROWS 0"))
-        text = texts_in(answer)[kind] if alert else None
-        classes = {text.column(line, "CLASS") for line in text.lines} if alert else ()
-        answer = with_fixes(answer, known_of(desk, kind, rows, symptoms))
-    if rows and ("ANY" in alert or any(each in classes for each in alert)):
+        known = known_of(desk, kind, rows, symptoms)
+        text = texts_in(answer)[kind] if alert or known or accepted.holds else None
+        classes = {text.column(line, "CLASS") for line in text.lines if text.hold(line) not in accepted} if alert else ()
+        answer = with_more(text, known, accepted) if known or accepted.holds else answer
+    if classes and ("ANY" in alert or any(each in classes for each in alert)):
         run.ends_with(4)
     run.out(answer)
     if not rows:
@@ -142,23 +157,34 @@ def known_of(desk, kind, rows, path):
     return symptoms_of(desk, path) if kind == "errsysmods" and (rows or path) else None
 
 
-def csv_of(kind, rows, known):
-    """The rows with what is known of the symptoms of their holds."""
-    more = (lambda row: known.fields(row["SYSMOD"], row["REASON"])) if known else lambda row: ()
-    return csv_line([*COLUMNS[kind], *(JOINED if known else ())]) + "".join(csv_line([*row.values(), *more(row)]) for row in rows)
+def csv_of(kind, rows, known, accepted):
+    """The rows with what is known of the symptoms of their holds, and with UNTIL and WHY of those that are accepted, where a site has a
+    list of these."""
+    heading = [*COLUMNS[kind], *(JOINED if known else ()), *(("UNTIL", "WHY") if accepted.is_known else ())]
+    lines = [csv_line(heading)]
+    for row in rows:
+        hold = row[HELD[kind]], row["REASON"]
+        more = [*(known.fields(*hold) if known else ()), *(accepted.holds.get(hold, ("", "")) if accepted.is_known else ())]
+        lines.append(csv_line([*row.values(), *more]))
+    return "".join(lines)
 
 
-def with_fixes(answer, known):
-    """The text of exception SYSMODs with a column more: the fix by name, and of a hold that nothing resolves what can be done."""
-    if not known:
-        return answer
-    text = texts_in(answer)["errsysmods"]
-    lines = [text.head[0], text.head[1].ljust(FIX) + "FIX"]
+def with_more(text, known, accepted):
+    """The text of a report with more columns: the fix by name, or of a hold that nothing resolves what can be done; and that a hold is
+    accepted. On a terminal such a row is grey."""
+    at = FIX if text.kind == "errsysmods" else FIX_OF_FIXES
+    width = max([0, *(len(fix_of(text, line, known)) for line in text.lines)]) + 2 if known else 0
+    mark = "FIX".ljust(width) if known else ""
+    lines = [text.head[0], text.head[1].ljust(at) + (mark + "ACCEPTED" if accepted.holds else mark).rstrip()]
     for line in text.lines:
-        hold = text.column(line, "SYSMOD"), text.column(line, "REASON")
-        told = known.fix(*hold) if text.column(line, "STATUS") in ("GOOD", "HELD") else known.order(*hold)
-        lines.append((line.ljust(FIX) + told).rstrip())
-    return "\n".join([*lines, f"ROWS {len(text.lines)}\n"]).encode()
+        told = accepted.told(text.hold(line))
+        whole = (line.ljust(at) + (fix_of(text, line, known).ljust(width) if known else "") + told).rstrip()
+        lines.append(ages.coloured("90", whole) if told else whole)
+    return "\n".join([*lines, f"ROWS {len(text.lines)}\n"])
+
+
+def fix_of(text, line, known):
+    return known.fix(*text.hold(line)) if text.column(line, "STATUS") in ("GOOD", "HELD") else known.order(*text.hold(line))
 
 
 # --- A report without rows ----------------------------------------------------------------------------------------------
@@ -209,35 +235,37 @@ OVERVIEW = {"ZONE": 9, "SYSMODS": 8, "IN-ERROR": 9, "HOLDS": 7, "HIPER": 7, "PE"
 
 def holds_of(kind, rows):
     """The rows of each hold: of a SYSMOD and a reason. A hold of a fix category may have several categories."""
-    found, held = {}, "SYSMOD" if kind == "errsysmods" else "FMID"
+    found, held = {}, HELD[kind]
     for row in rows:
         found.setdefault((row[held], row["REASON"]), []).append(row)
     return found
 
 
-def counts_of(zone, sysmods, errors, fixes, known=None, sent=None):
-    holds, counts = holds_of("errsysmods", errors), Counter()
-    for rows in holds.values():
+def counts_of(zone, sysmods, errors, fixes, accepted, known=None):
+    """The counts of a zone, by the columns of the overview. Holds that are accepted count apart."""
+    all_holds, all_fixes = holds_of("errsysmods", errors), holds_of("missingfix", fixes)
+    holds = {hold: rows for hold, rows in all_holds.items() if hold not in accepted}
+    left = [hold for hold in all_fixes if hold not in accepted]
+    counts = Counter(dict.fromkeys([*OVERVIEW, "ORDER"], 0))
+    for hold, rows in holds.items():
         statuses, kind = {row["STATUS"] for row in rows}, rows[0]["CLASS"]
         counts["GOOD" if "GOOD" in statuses else "HELD" if "HELD" in statuses else "NONE"] += 1
         counts[kind if kind in ("HIPER", "PE") else "OTHER"] += 1
-    in_error = len({sysmod for sysmod, _ in holds})
-    told = {"ZONE": zone, "SYSMODS": sysmods, "IN-ERROR": in_error, "HOLDS": len(holds), "FIXES": len(holds_of("missingfix", fixes))}
-    told["SENT"] = sent or ""
-    if known:
-        told["ORDER"] = sum(1 for hold, rows in holds.items() if not rows[0]["RESOLVER"] and known.fix(*hold))
-    return [str(told.get(name, counts[name])) for name in columns_of(known)]
+        counts["ORDER"] += bool(known and not rows[0]["RESOLVER"] and known.fix(*hold))
+    in_error, apart = len({sysmod for sysmod, _ in holds}), len(all_holds) - len(holds) + len(all_fixes) - len(left)
+    return {**counts, "ZONE": zone, "SYSMODS": sysmods, "IN-ERROR": in_error, "HOLDS": len(holds), "FIXES": len(left), "ACCEPTED": apart}
 
 
-def columns_of(known):
-    """The columns of the overview with their widths. ORDER counts the holds of NONE for which a fix is known by name. SENT is the day on
-    which this client sent the list of the zone."""
-    return {**OVERVIEW, **({"ORDER": 7} if known else {}), "SENT": 0}
+def columns_of(known, is_accepting):
+    """The columns of the overview with their widths. ORDER counts the holds of NONE for which a fix is known by name, and ACCEPTED those
+    that are accepted. SENT is the day on which this client sent the list of the zone."""
+    return {**OVERVIEW, **({"ORDER": 7} if known else {}), **({"ACCEPTED": 9} if is_accepting else {}), "SENT": 0}
 
 
 def age_line(newest, number):
     """How new the HOLDDATA of the desk is, where a front tells it. On a terminal an old day is yellow."""
-    words = [f"HOLDDATA UP TO {ages.yellow(newest, ages.is_old(newest))}"] if newest else []
+    shown = ages.coloured("33", newest) if ages.is_old(newest) else newest
+    words = ["HOLDDATA UP TO " + shown] if newest else []
     return " ".join([*words, *([f"PUBLICATION {number}"] if number else [])]) + "\n" if words or number else ""
 
 
@@ -249,21 +277,23 @@ def overview(desk, csv=False, symptoms=None):
     zones = zones_in(in_form(desk.need_200(), ZONES, desk.no_report))
     known = symptoms_of(desk, symptoms) if zones else None
     newest, number = ages.published_at(desk) if zones else ("", 0)
-    lines, without, old = [list(columns_of(known))], [], []
+    columns = columns_of(known, any(Accepted(desk, zone).is_known for zone, _ in zones[:1]))
+    lines, without, old = [list(columns)], [], []
     for zone, sysmods in zones:
         errors, fixes = (report_of(desk, kind, zone) for kind in KINDS)
         if not fixes and not categories_sent(desk, zone):
             without.append(zone)
         sent = ages.sent_on(desk, zone)
         old += [f"{zone} ({ages.days_since(sent)} days)"] if sent and ages.is_old(sent) else []
-        lines.append(counts_of(zone, sysmods, errors, fixes, known, sent and sent.isoformat()))
+        counts = {**counts_of(zone, sysmods, errors, fixes, Accepted(desk, zone), known), "SENT": sent.isoformat() if sent else ""}
+        lines.append([str(counts[name]) for name in columns])
     if csv:
         run.out("".join(map(csv_line, lines)))
     else:
-        padded = ["".join(map(str.ljust, line, columns_of(known).values())).rstrip() for line in lines]
+        padded = ["".join(map(str.ljust, line, columns.values())).rstrip() for line in lines]
         for at, line in enumerate(lines[1:], 1):
             if line[-1] and ages.is_old(line[-1]):
-                padded[at] = padded[at].removesuffix(line[-1]) + ages.yellow(line[-1], True)
+                padded[at] = padded[at].removesuffix(line[-1]) + ages.coloured("33", line[-1])
         run.out("\n".join([*padded, f"ROWS {len(lines) - 1}\n"]).encode() + desk.ask("/published") + age_line(newest, number).encode())
     if old:
         say("lists that were sent long ago: " + ", ".join(old))
@@ -297,21 +327,31 @@ def news_of(desk, zone, since):
     folder of the desk. They are replaced once the news is told."""
     kept = f"{Changes(desk).folder}/news/{zone}"
     old = run.bytes_of(since) if since else run.bytes_in(kept) if os.path.isfile(kept) else None
-    new = b"".join(report_text(desk, kind, zone) for kind in KINDS)
+    accepted = Accepted(desk, zone)
+    new = b"".join(without(report_text(desk, kind, zone), accepted) for kind in KINDS)
     if old is None:
         say(f"this is the first news of the zone {zone}: the next tells what came, went or changed from now on")
     else:
-        run.out(what_is_new(zone, old, new, since or kept))
+        run.out(what_is_new(zone, old, new, since or kept, accepted))
     if not since:
         run.make_folder(os.path.dirname(kept))
         run.write(kept, new)
 
 
-def what_is_new(zone, old, new, path):
+def without(data, accepted):
+    """A report as it is kept: without accepted holds. So one whose UNTIL has passed comes as new."""
+    if not accepted.holds:
+        return data
+    (text,) = texts_in(data).values()
+    text.without(accepted)
+    return "\n".join([*text.head, *text.lines, f"ROWS {len(text.lines)}\n"]).encode()
+
+
+def what_is_new(zone, old, new, path, accepted):
     new, reports = texts_in(new), {}
     with suppress(NoAnswer, UnicodeDecodeError):
         reports = texts_in(old)
     if not reports or any(report.zone != zone for report in reports.values()):
         say(f"what was kept is no report on the zone {zone}")
         raise Stop(1, "nothing can be told of " + path)
-    return "".join(changes_of(reports[kind], report) for kind, report in new.items() if kind in reports)
+    return "".join(changes_of(reports[kind].without(accepted), report) for kind, report in new.items() if kind in reports)

@@ -57,6 +57,8 @@ function planOf(chain, hold, isReceived, isInstalled) {
   return { zone: chain.zone, members, unresolved: [], held: [] };
 }
 
+const acceptedWords = ({ until, why }) => 'Accepted' + (until ? ' until ' + until : '') + (why ? ': ' + why : '') + '.';
+
 const NEEDED = {
   LACK: 'is needed. What would give it is held, or is not for this zone, or is not published',
   HELD: 'is needed, and is held itself',
@@ -202,6 +204,7 @@ export class ChainPanel {
       make('p', '', ...names, ' ', make('strong', 'id', hold.sysmod), ' is held for ', make('strong', 'id', hold.reason)),
       ...hold.categories.map((name) => make('p', 'soft category', name)),
       ...(symptoms ? [make('p', 'soft symptoms', symptoms)] : []),
+      ...(hold.accepted ? [make('p', 'soft', acceptedWords(hold.accepted))] : []),
       make('div', 'picks', ...resolvers),
     ];
   }

@@ -1,4 +1,5 @@
 // Questions to the desk, and what is kept of its answers. The desk stands one folder above this page.
+import { Accepted } from './accepted.js';
 import { HoldReport, countsOf } from './holds.js';
 import { NoReport, chainOf, levelOf, zonesOf } from './report.js';
 import { Memory } from './memory.js';
@@ -45,6 +46,7 @@ export class Snapshot {
     this.newest = ''; // the day of the newest hold, and the number of the last publication, where the publisher keeps them here
     this.number = 0;
     this.memory = Memory.of(token);
+    this.accepted = null; // what the site has accepted, where its file was opened in this browser
     this.served = null; // the symptoms that stand beside this page
     this.opened = null; // those of a file, where one was opened
     this.ending = new AbortController();
@@ -60,6 +62,18 @@ export class Snapshot {
   open(symptoms) {
     this.opened = symptoms;
     this.counts.clear();
+  }
+
+  // What a site accepts is kept in this browser, and all is counted anew.
+  async accept(accepted) {
+    this.accepted = accepted;
+    for (const each of [this.answers, this.counts, this.days, this.news]) each.clear();
+    await (await this.memory)?.put('accepted', accepted.text);
+  }
+
+  // The holds of a zone that are accepted on a day.
+  acceptedOf(zone, day = this.day) {
+    return this.accepted?.of(zone, day) ?? new Map();
   }
 
   // Nothing more is asked, and what is under way is dropped.
@@ -138,7 +152,7 @@ export class Snapshot {
 
   // The zones, and how much is published.
   async begin() {
-    const [zones, level] = await Promise.all([this.ask('/zones'), this.ask('/published'), this.askSymptoms(), this.askNumber()]);
+    const [zones, level] = await Promise.all([this.ask('/zones'), this.ask('/published'), this.askSymptoms(), this.askNumber(), this.recall()]);
     this.zones = zonesOf(zones);
     this.level = levelOf(level);
   }
@@ -149,6 +163,16 @@ export class Snapshot {
       this.served = new Symptoms(await this.send('symptoms.csv'));
     } catch (fault) {
       this.served = null;
+    }
+  }
+
+  // What the site has accepted, as it was opened in this browser.
+  async recall() {
+    try {
+      const text = await (await this.memory)?.get('accepted');
+      if (text) this.accepted = new Accepted(text);
+    } catch (fault) {
+      // then nothing is accepted
     }
   }
 
@@ -169,7 +193,7 @@ export class Snapshot {
 
   report(zone, name, isUrgent) {
     return this.kept(name + ' ' + zone, async () =>
-      new HoldReport(name, zone, await this.ask(this.pathOf(zone, name), isUrgent)));
+      new HoldReport(name, zone, await this.ask(this.pathOf(zone, name), isUrgent)).accept(this.acceptedOf(zone)));
   }
 
   // The counts of a zone. They stay, also where its reports are not kept.
@@ -197,10 +221,13 @@ export class Snapshot {
   }
 
   changesSince(zone, before, errors, fixes) {
-    const old = (name, report, text) => (text === report.text ? report : new HoldReport(name, zone, text));
-    return [
-      ...changesOf(old('errsysmods', errors, before.errors), errors), ...changesOf(old('missingfix', fixes, before.fixes), fixes),
-    ];
+    const [then, now] = [before.day, this.day].map((day) => this.acceptedOf(zone, day));
+    const isSame = then.size === now.size;
+    return [['errsysmods', before.errors, errors], ['missingfix', before.fixes, fixes]].flatMap(([name, text, report]) => {
+      if (isSame && text === report.text) return [];
+      const old = text === report.text ? report : new HoldReport(name, zone, text);
+      return changesOf(old, report, (key) => then.has(key), (key) => now.has(key));
+    });
   }
 
   // What is new in a zone: {since, changes}, or null where this browser has no report of an earlier day.

@@ -50,6 +50,7 @@ class Hold {
     this.order = order;
     this.class = report.field(row, 'CLASS');
     this.classRank = classRankOf(this.class);
+    this.accepted = null; // {until, why}, where a site has accepted it
     this.rank = rankOf(report, row); // that of its best resolver
   }
 
@@ -129,20 +130,28 @@ export class HoldReport extends Report {
     super(name, zone, text);
     this.holds = holdsOf(this);
   }
+
+  // Marks the holds that are accepted: by SYSMOD and reason.
+  accept(accepted) {
+    for (const hold of accepted.size > 0 ? this.holds : []) hold.accepted = accepted.get(hold.sysmod + ' ' + hold.reason) ?? null;
+    return this;
+  }
 }
 
 // What has to be looked at first: HIPER, then PE; of these what can be resolved; else as the desk has it. What nothing
-// resolves comes last, since nothing can be done for it, unless its fix is known by name.
+// resolves comes last, since nothing can be done for it, unless its fix is known by name; and after it what is accepted.
 export const byUrgency = (symptoms) => (one, other) => {
-  const isLast = (hold) => (hold.status === 'none' && !symptoms?.fixOf(hold) ? 1 : 0);
+  const isLast = (hold) => (hold.accepted ? 2 : hold.status === 'none' && !symptoms?.fixOf(hold) ? 1 : 0);
   return isLast(one) - isLast(other) || one.classRank - other.classRank ||
     RANKS[one.rank].at - RANKS[other.rank].at || one.order - other.order;
 };
 
-// The counts of a zone that the overview shows.
-export function countsOf(errors, fixes, symptoms) {
+// The counts of a zone that the overview shows. Holds that are accepted count apart.
+export function countsOf(allErrors, allFixes, symptoms) {
+  const [errors, fixes] = [allErrors, allFixes].map((all) => all.filter((hold) => !hold.accepted));
   const of = (test) => errors.filter(test).length;
   return {
+    accepted: allErrors.length - errors.length + allFixes.length - fixes.length,
     holds: errors.length,
     hiper: of((hold) => hold.class === 'HIPER'),
     pe: of((hold) => hold.class === 'PE'),

@@ -55,9 +55,10 @@ const COLUMNS = {
 
 const STATUS = { name: 'status', title: 'Status', of: (hold) => [hold.status], order: ['GOOD', 'HELD', 'LACK', 'none'] };
 const RECEIVED = { name: 'received', title: 'Received', of: (hold) => [hold.received], order: ['received'] };
+const ACCEPTED = { name: 'accepted', title: 'Accepted', of: (hold) => [hold.accepted ? 'accepted' : 'open'], order: ['open', 'accepted'] };
 const KINDS = {
-  errsysmods: [{ name: 'class', title: 'Class', of: (hold) => [hold.class], order: ['HIPER', 'PE'] }, STATUS, RECEIVED],
-  missingfix: [{ name: 'category', title: 'Category', of: (hold) => hold.categories, isList: true }, STATUS, RECEIVED],
+  errsysmods: [{ name: 'class', title: 'Class', of: (hold) => [hold.class], order: ['HIPER', 'PE'] }, STATUS, RECEIVED, ACCEPTED],
+  missingfix: [{ name: 'category', title: 'Category', of: (hold) => hold.categories, isList: true }, STATUS, RECEIVED, ACCEPTED],
 };
 
 // What symptoms add to the columns, and to the filters.
@@ -81,18 +82,22 @@ const symptomKinds = (symptoms) => [
   { name: 'symptom', title: 'Symptom', of: (hold) => symptoms.of(hold), isList: true, label: meaningOf },
 ];
 
-// The rows of these holds, as the report has them: its columns first, and last what symptoms add.
-function rowsFor(report, holds, symptoms) {
-  const rows = holds.flatMap((hold) => hold.rows).sort((one, other) => one - other);
-  if (!symptoms) return [report.names, ...rows.map((row) => report.fields(row))];
-  const more = (row) => symptoms.fieldsOf(report.field(row, 'SYSMOD'), report.field(row, 'REASON'));
-  return [[...report.names, ...SYMPTOMS], ...rows.map((row) => [...report.fields(row), ...more(row)])];
+// The rows of these holds, as the report has them: its columns first, and last what symptoms and the list
+// of accepted holds add.
+function rowsFor(report, holds, symptoms, accepted) {
+  const rows = holds.flatMap((hold) => hold.rows.map((row) => ({ row, hold }))).sort((one, other) => one.row - other.row);
+  const heading = [...report.names, ...(symptoms ? SYMPTOMS : []), ...(accepted ? ['UNTIL', 'WHY'] : [])];
+  const fields = ({ row, hold }) => [
+    ...report.fields(row), ...(symptoms ? symptoms.fieldsOf(hold.sysmod, hold.reason) : []),
+    ...(accepted ? [hold.accepted?.until ?? '', hold.accepted?.why ?? ''] : []),
+  ];
+  return [heading, ...rows.map(fields)];
 }
 
-// WAYS are {choose(hold, member), changed(words), say(text), read(text)}. SYMPTOMS may be absent, and so are they of
-// missing fixes.
+// WAYS are {choose(hold, member), changed(words), say(text), read(text), accept(text)}. SYMPTOMS may be absent, and so are
+// they of missing fixes. ACCEPTED is the site's list of accepted holds, if there is one.
 export class HoldsView {
-  constructor(name, zone, report, words, symptoms, ways) {
+  constructor(name, zone, report, words, symptoms, accepted, ways) {
     this.report = report;
     this.title = TITLES[name] + zone;
     const more = symptoms ? { columns: symptomColumns(symptoms), kinds: symptomKinds(symptoms) } : { columns: [], kinds: [] };
@@ -108,7 +113,7 @@ export class HoldsView {
     });
     this.nothing = make('p', 'nothing', 'No ' + UNITS[name][0] + ' has all that is chosen above.');
     this.table.element.append(this.nothing);
-    const rows = () => rowsFor(report, this.shown, symptoms);
+    const rows = () => rowsFor(report, this.shown, symptoms, accepted);
     const forms = [
       { title: 'CSV', name: zone + '-' + name + '.csv', kind: 'text/csv', text: () => csvOf(rows()) },
       { title: 'JSON', name: zone + '-' + name + '.json', kind: 'application/json', text: () => this.json(rows()) },
@@ -116,7 +121,9 @@ export class HoldsView {
     const saves = saveButtons(forms, ways.say);
     if (name === 'errsysmods') {
       const open = fileButton('Open', ways.read, 'Open a file of symptoms');
-      saves.prepend(make('span', 'pair', make('span', 'pair-name', 'Symptoms'), open));
+      const accept = fileButton('Open', ways.accept, 'Open a file of accepted holds');
+      const pair = (title, made) => make('span', 'pair', make('span', 'pair-name', title), made);
+      saves.prepend(pair('Symptoms', open), pair('Accepted', accept));
     }
     const bar = make('div', 'bar', this.filters.element, saves);
     this.element = make('div', 'report ' + name + (symptoms ? ' with-symptoms' : ''), bar, this.table.element);

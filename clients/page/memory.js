@@ -35,6 +35,15 @@ export class Memory {
     return this.base.transaction(STORE, mode).objectStore(STORE);
   }
 
+  // A text of the caller's, by its name.
+  get(name) {
+    return done(this.at('readonly').get(this.caller + ' ' + name));
+  }
+
+  put(name, text) {
+    return done(this.at('readwrite').put(text, this.caller + ' ' + name));
+  }
+
   // Keeps what was reported on a day, and gives what is known of the zone: {before, counts}. BEFORE is the last report of an
   // earlier day, {day, errors, fixes}, or null. COUNTS are [day, counts] of each day, the earliest first.
   async keep(zone, day, errors, fixes, counts) {

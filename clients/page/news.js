@@ -3,12 +3,13 @@
 const signOf = (hold) => [hold.class, hold.best.id, hold.status, hold.received].join(' ');
 const keyOf = (hold) => hold.sysmod + ' ' + hold.reason;
 
-// The holds of two reports, as {mark, hold, was}: `came`, `went`, or `changed`, where WAS is what it was before.
-export function changesOf(before, now) {
-  if (before.text === now.text) return [];
-  const old = new Map(before.holds.map((hold) => [keyOf(hold), hold]));
+// The holds of two reports, as {mark, hold, was}: `came`, `went`, or `changed`, where WAS is what it was before. What is accepted
+// now is no news, and one that was accepted before and is not any more came.
+export function changesOf(before, now, isAcceptedBefore, isAccepted) {
+  const old = new Map(before.holds.map((hold) => [keyOf(hold), hold]).filter(([key]) => !isAcceptedBefore(key) && !isAccepted(key)));
   const changes = [];
   for (const hold of now.holds) {
+    if (isAccepted(keyOf(hold))) continue;
     const was = old.get(keyOf(hold));
     old.delete(keyOf(hold));
     if (!was) changes.push({ mark: 'came', hold });

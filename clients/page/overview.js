@@ -107,7 +107,8 @@ export class Overview {
     for (const [name, { number, words, element }] of Object.entries(this.tiles)) {
       number.textContent = counted(sum(name));
       const toOrder = name === 'unresolved' && sum('order') > 0 ? ', ' + counted(sum('order')) + ' to order' : '';
-      words.textContent = 'in ' + zonesWith(name) + ' of ' + several(known.length, 'zone') + toOrder;
+      const apart = name === 'holds' && sum('accepted') > 0 ? ', ' + counted(sum('accepted')) + ' accepted' : '';
+      words.textContent = 'in ' + zonesWith(name) + ' of ' + several(known.length, 'zone') + toOrder + apart;
       element.classList.toggle('zero', sum(name) === 0);
     }
   }

@@ -72,9 +72,11 @@ function agesOf({ newest, number, asked }) {
 // Asks for everything anew. What was shown before goes first.
 async function begin(token) {
   const opened = snapshot?.opened ?? null;
+  const accepted = snapshot?.accepted ?? null;
   empty();
   const mine = new Snapshot(token);
   mine.opened = opened;
+  mine.accepted = accepted;
   snapshot = mine;
   lay(true);
   at('level').textContent = '';

@@ -7,6 +7,15 @@ function field(text) {
   return /[",\n]/.test(safe) ? '"' + safe.replaceAll('"', '""') + '"' : safe;
 }
 
+// The fields of a line of CSV. An apostrophe in front keeps a text from a spreadsheet, and is no part of it.
+export function fieldsOf(line) {
+  if (!/["']/.test(line)) return line.split(',');
+  const found = [...line.matchAll(/("(?:[^"]|"")*"|[^,]*)(,|$)/g)];
+  const last = found.findIndex(([, , end]) => end === '');
+  const plain = (field) => (field.startsWith('"') ? field.slice(1, -1).replaceAll('""', '"') : field);
+  return found.slice(0, last + 1).map(([, field]) => plain(field).replace(/^'/, ''));
+}
+
 export const csvOf = (rows) => rows.map((row) => row.map(field).join(',') + '\n').join('');
 
 function saveAs(name, text, kind) {

@@ -1,5 +1,6 @@
 // What SMRTDATA in the COMMENT of holds says, from the file that `publish` keeps beside this page, or one that was opened.
 // Nothing here touches the page.
+import { fieldsOf } from './save.js';
 
 export const SYMPTOMS = ['DATE', 'CHGDT', 'SYMP', 'FIX'];
 const FIRST = ['SYSMOD', 'REASON', ...SYMPTOMS].join(',');
@@ -13,14 +14,6 @@ export const meaningOf = (flag) => MEANINGS[flag] ?? flag;
 
 // A file that is none of symptoms.
 export class NoSymptoms extends Error {}
-
-// The fields of a line of CSV. An apostrophe in front keeps a text from a spreadsheet, and is no part of it.
-function fieldsOf(line) {
-  if (!/["']/.test(line)) return line.split(',');
-  const found = [...line.matchAll(/("(?:[^"]|"")*"|[^,]*)(?:,|$)/g)].slice(0, 2 + SYMPTOMS.length);
-  const plain = (field) => (field.startsWith('"') ? field.slice(1, -1).replaceAll('""', '"') : field);
-  return found.map(([, field]) => plain(field).replace(/^'/, ''));
-}
 
 // DATE of a hold is yyddd, and CHGDT yymmdd. The years are 1970 to 2069.
 function dayOf(text) {

@@ -150,6 +150,7 @@ export class Table {
     row.setAttribute('aria-rowindex', String(at + 2));
     if (isSame(line, this.chosen)) row.classList.add('chosen');
     if (at === this.at) row.classList.add('at');
+    if (group.accepted) row.classList.add('accepted');
     if (isFirst && group.resolvers.length > 1) row.querySelector('.of-resolver').append(this.opener(group));
     row.addEventListener('click', () => this.take(at, false));
     return row;

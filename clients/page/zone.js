@@ -2,6 +2,7 @@
 import { button, link, make, painted } from './make.js';
 import { counted, several } from './words.js';
 import { REPORT_OF, addressOf } from './address.js';
+import { Accepted, NoAccepted } from './accepted.js';
 import { ChainPanel } from './chain.js';
 import { HoldsView } from './holdsview.js';
 import { NewsView } from './newsview.js';
@@ -85,7 +86,7 @@ export class ZoneView {
   async count() {
     const mark = (tab, text) => (this.tabs[tab].querySelector('.tab-count').textContent = text);
     for (const [tab, name] of Object.entries(REPORT_OF)) {
-      this.snapshot.report(this.zone, name).then(({ holds }) => mark(tab, counted(holds.length)), () => mark(tab, '?'));
+      this.snapshot.report(this.zone, name).then(({ holds }) => mark(tab, counted(holds.filter((hold) => !hold.accepted).length)), () => mark(tab, '?'));
     }
     this.snapshot.newsOf(this.zone).then((news) => {
       this.tabs.new.hidden = news === null && this.where.tab !== 'new';
@@ -147,7 +148,7 @@ export class ZoneView {
         return [make('p', 'nothing', emptyWords(where.tab, this.snapshot, this.zone))];
       }
       const symptoms = name === 'errsysmods' ? this.snapshot.symptoms : null;
-      this.view = new HoldsView(name, this.zone, report, where.words, symptoms, {
+      this.view = new HoldsView(name, this.zone, report, where.words, symptoms, this.snapshot.accepted, {
         choose: (hold, member, isEntered) => {
           this.hold = hold;
           this.isEntered = isEntered;
@@ -159,6 +160,7 @@ export class ZoneView {
         },
         say: this.ways.say,
         read: (text) => this.readSymptoms(text),
+        accept: (text) => this.readAccepted(text),
       });
       return [this.view.element];
     });
@@ -176,6 +178,21 @@ export class ZoneView {
     this.ways.say('The file has the symptoms of ' + several(this.snapshot.symptoms.known.size, 'hold') + '.');
     await this.showReport(this.where);
     this.showChain(this.where);
+  }
+
+  // What the site has accepted is kept in this browser until another file is opened.
+  async readAccepted(text) {
+    try {
+      await this.snapshot.accept(new Accepted(text));
+    } catch (fault) {
+      if (!(fault instanceof NoAccepted)) throw fault;
+      this.ways.say('This file has no accepted holds: its first line is ZONE,SYSMOD,REASON,UNTIL,WHY.', true);
+      return;
+    }
+    this.ways.say('The file has ' + several(this.snapshot.accepted.records.length, 'accepted hold') + '.');
+    await this.showReport(this.where);
+    this.showChain(this.where);
+    this.count();
   }
 
   showNews() {
