@@ -84,6 +84,12 @@ def words_that_are_wrong():
         ("job", "A", "uj1"),
         ("job", "A", "UJ1", "UJ1234567"),
         ("zones", "--all"),
+        ("errsysmods", "--all", "A"),
+        ("errsysmods",),
+        ("compare", "A"),
+        ("compare", "A", "b"),
+        ("installed", "uj1"),
+        ("installed",),
     ):
         same("no such words: %s" % (words,), north.run(*words)[0], 2)
 
@@ -271,6 +277,45 @@ def histories():
     same("lists that are sent count anew", bench.north.run("history", "--csv")[1].splitlines()[-1] + "\n", line)
     same("of another zone", bench.north.run("history", "A")[1].splitlines()[-1], "ROWS 0")
     same("as text", bench.north.run("history", "MVSPROD")[1].splitlines()[1], "2026-01-31 MVSPROD  0      1      0      0      0      1")
+    bench.desk.end()
+
+
+def across():
+    """One list over all zones, two lists beside each other, and where a SYSMOD is."""
+    bench = sample()
+    north, place = bench.north, bench.place
+    bench.zone("A", "HBB77E0", "UJ92001", "UJ92004")
+    bench.zone("B", "HDZ33E0", "UJ92004")
+    symptoms = write(place + "/symptoms.csv", "SYSMOD,REASON,DATE,CHGDT,SYMP,FIX\nUJ92004,AJ64003,,,,UJ92013\n")
+    heading = "SYSMOD,REASON,CLASS,DATE,RESOLVER,STATUS,ZONES\n"
+    first, second = "UJ92001,AJ64001,PE,2025-06-25,UJ92005,GOOD,A MVSPROD\n", "UJ92004,AJ64003,PE,2025-08-19,,,A B\n"
+    same("as CSV", north.run("errsysmods", "--all", "--csv"), (0, heading + first + second, ""))
+    wanted = (
+        "SYSMOD   REASON   CLASS   DATE       RESOLVER STATUS ZONES\n"
+        "UJ92001  AJ64001  PE      2025-06-25 UJ92005  GOOD   A MVSPROD\nUJ92004  AJ64003  PE      2025-08-19                 A B\nROWS 2\n"
+    )
+    same("as text", north.run("errsysmods", "--all"), (0, wanted, ""))
+    out = north.run("errsysmods", "--all", "--csv", "--symptoms", symptoms)[1]
+    same("with fixes by name", out, (heading + first.replace("GOOD,", "GOOD,,") + second.replace(",,A", ",,order UJ92013,A")).replace("STATUS,", "STATUS,FIX,"))
+    same("alerts", [north.run("errsysmods", "--all", "--alert", each)[0] for each in ("HIPER", "PE", "ANY")], [0, 4, 4])
+    bench.publish("++HOLD(UJ92004) ERROR REASON(AJ1) CLASS(HIPER).\n")
+    same("HIPER comes first", north.run("errsysmods", "--all", "--csv")[1], heading + "UJ92004,AJ1,HIPER,,,,A B\n" + first + second)
+    write(place + "/north/accepted.csv", "ZONE,SYSMOD,REASON,UNTIL,WHY\nA,UJ92004,AJ1,,\n*,UJ92004,AJ64003,,\n")
+    shutil.copy(SITE + "/north/received.csv", place + "/north")
+    same("accepted", north.run("sync", place + "/north")[0], 0)
+    lines = ["UJ92004,AJ1,HIPER,,,,B,A\n", first.replace("\n", ",\n"), second.replace(",A B", ",,A B")]
+    same("zones apart", north.run("errsysmods", "--all", "--csv")[1], heading.replace("ZONES", "ZONES,ACCEPTED") + "".join(lines))
+    other = client(bench.desk.url, "south-token")
+    same("no zones", other.run("errsysmods", "--all", "--csv"), (0, heading, ""))
+    same("two zones", north.run("compare", "MVSPROD", "A"), (0, "SYSMOD   MVSPROD     A\nHBB77E0  ACCEPTED    APPLIED\nHDZ33E0  ACCEPTED\nUJ92004              APPLIED\nROWS 3\n", ""))
+    same("as CSV", north.run("compare", "--csv", "A", "A")[1], "SYSMOD,A,A\n")
+    bench.send("zone", "B", text="SYSMOD,STATE\nUJ92004,ACCEPTED\n")
+    same("another state", north.run("compare", "B", "A", "--csv")[1].splitlines()[-1], "UJ92004,ACCEPTED,APPLIED")
+    status, _, err = north.run("compare", "A", "C")
+    check("a list that was not sent", status == 1 and "no list of the zone C was sent from here" in err, (status, err))
+    same("where it is", north.run("installed", "UJ92004"), (0, "ZONE     STATE\nA        APPLIED\nB        ACCEPTED\nROWS 2\n", ""))
+    status, out, err = north.run("installed", "UJ99999", "--csv")
+    check("nowhere", (status, out) == (0, "ZONE,STATE\n") and "of the 3 zones whose lists were sent from here none has UJ99999" in err, (status, out, err))
     bench.desk.end()
 
 
@@ -634,7 +679,7 @@ def many(count):
     bench.desk.end()
 
 
-for part in (words_that_are_wrong, alerts, why_empty, overviews, histories, accepted_holds, news, symptoms, jobs, jobs_that_are_none, alone):
+for part in (words_that_are_wrong, alerts, why_empty, overviews, histories, accepted_holds, across, news, symptoms, jobs, jobs_that_are_none, alone):
     part()
 many(int(sys.argv[1]) if len(sys.argv) > 1 else 1000)
 finish("client's reports" + (", " + PYTHON if PYTHON else ""))

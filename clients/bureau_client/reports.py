@@ -33,9 +33,9 @@ FIX, FIX_OF_FIXES = 61, 109  # where a column begins that this client adds to th
 # --- What a desk answers ------------------------------------------------------------------------------------------------
 
 
-def report_of(desk, kind, zone):
-    """The rows of a report, each a dictionary of its columns. An absent value is empty."""
-    columns, texts = COLUMNS[kind], {None: "", True: "YES", False: "NO"}
+def report_of(desk, kind, zone, **more):
+    """The rows of a report, each a dictionary of its columns, and of MORE ones. An absent value is empty."""
+    columns, texts = {**COLUMNS[kind], **more}, {None: "", True: "YES", False: "NO"}
     form = {"report": kind, "zone": zone, "rows": [dict.fromkeys(columns.values(), (str, bool, type(None)))]}
     rows = desk.ask_json(f"/zones/{escaped(zone)}/{kind}.json", form)["rows"]
     return [{name: texts.get(row[key], row[key]) for name, key in columns.items()} for row in rows]
@@ -128,7 +128,11 @@ def zones(desk, csv=False):
         run.out(text_of(desk, "/zones", "ZONE     SYSMODS", 1))
 
 
-def report(kind, desk, zone, csv=False, alert=(), symptoms=None):
+def report(kind, desk, zone="", csv=False, alert=(), symptoms=None, all=False):
+    if all:
+        from .across import errsysmods_of_all  # it stands on this module
+
+        return errsysmods_of_all(desk, csv, alert, symptoms)
     known, accepted = None, Accepted(desk, zone)
     if csv:
         rows = report_of(desk, kind, zone)

@@ -11,7 +11,7 @@ from .run import Stop
 # the words, and the options by their names.
 QUESTIONS = {
     "zones": ("", "reports", "csv"),
-    "errsysmods": ("ZONE", "reports", "csv alert symptoms"),
+    "errsysmods": ("ZONE", "reports", "csv all alert symptoms"),
     "missingfix": ("ZONE", "reports", "csv"),
     "chain": ("ZONE SYSMOD", "jobs", ""),
     "plan": ("ZONE", "jobs", "fixes symptoms"),
@@ -20,6 +20,8 @@ QUESTIONS = {
     "overview": ("", "reports", "csv symptoms"),
     "news": ("ZONE, or nothing for all zones", "reports", "since"),
     "history": ("ZONE, or nothing for all zones", "history", "csv"),
+    "compare": ("ZONE ZONE", "across", "csv"),
+    "installed": ("SYSMOD", "across", "csv"),
     "job": ("ZONE, or ZONE SYSMOD..", "jobs", "fixes"),
     "last-publication": ("", "reports", ""),
 }
@@ -82,15 +84,16 @@ class Words:
             self.desks, self.named = self.desks + [word.removesuffix("/") for word in named[:1]], []
             is_good = self.desks
         else:
-            is_good = named if self.command == "job" else len(named) < 2 if "nothing" in wants else len(named) == len(wants.split())
+            is_all = self.command == "errsysmods" and "all" in self.options
+            is_good = named if self.command == "job" else not named if is_all else len(named) < 2 if "nothing" in wants else len(named) == len(wants.split())
         if not is_good:
             raise usage(f"{self.command} wants: {wants or 'no more words'}")
 
     def check_names(self):
         """Refuses names that are none, and files that aren't there."""
         kinds, named = re.findall("[A-Z]+", COMMANDS[self.command][0]), self.named
-        if "ZONE" in kinds and named:
-            need_id("name of a zone", named[0])
+        for word in named[: kinds.count("ZONE")]:
+            need_id("name of a zone", word)
         for word in named if "SYSMOD" in kinds else ():
             need_id("SYSMOD", word)
         for word in self.options.get("alert", ()):
