@@ -10,7 +10,7 @@ read_crates() { # FOLDER
     local -a left=(bureau_main)
     listed=() crates=()
     while IFS= read -r line; do
-        [[ $line =~ ^([a-z0-9_]+): ]] && listed[${BASH_REMATCH[1]}]=$line
+        [[ $line =~ ^([a-z0-9_]+):( |$) ]] && listed[${BASH_REMATCH[1]}]=$line
     done <"$1/crates.txt"
     while [ ${#left[@]} -gt 0 ]; do
         name=${left[0]}
