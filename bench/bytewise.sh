@@ -8,7 +8,7 @@
 set -euo pipefail
 top=$(cd "$(dirname "$0")/.." && pwd)
 work=$top/bench/out/bytewise
-below='lemmas faults transfer mcs_reader requests'
+below='lemmas questions faults transfer mcs_reader requests'
 mkdir -p "$work/crates/bytewise_bench/src"
 : > "$work/crates.txt"
 for crate in $below; do

@@ -7,9 +7,9 @@
 set -euo pipefail
 top=$(cd "$(dirname "$0")/.." && pwd)
 work=$top/bench/out/connection_tests
-below='lemmas testing columns faults transfer mcs_reader zone_lists holddata catalogue supersede requisites listings chains reports install_order
-    blocked_needs report_holds zone_plans plan_members plan_texts plan_reports bureau_store
-    failing_store report_json bureau requests log_lines bureau_http connections socket_desk'
+below='lemmas questions testing columns faults transfer mcs_reader zone_lists holddata catalogue supersede requisites verdicts listings chains reports install_order
+    blocked_needs report_holds zone_plans plan_reports bureau_store
+    failure_count failing_store report_json bureau requests log_lines bureau_http connections socket_desk'
 rm -rf "$work/crates/connection_tests/src"
 mkdir -p "$work/crates/connection_tests/src/tests"
 : > "$work/crates.txt"

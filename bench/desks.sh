@@ -9,9 +9,9 @@
 set -euo pipefail
 top=$(cd "$(dirname "$0")/.." && pwd)
 work=$top/bench/out/desks
-below='lemmas faults columns transfer mcs_reader holddata zone_lists catalogue supersede requisites listings chains chain_cache reports
-  install_order blocked_needs report_holds zone_plans plan_members plan_texts plan_reports
-  requests bureau_store failing_store report_json bureau log_lines bureau_http'
+below='lemmas questions faults columns transfer mcs_reader holddata zone_lists catalogue supersede requisites verdicts listings chains chain_cache reports
+  install_order blocked_needs report_holds zone_plans plan_reports
+  requests bureau_store failure_count failing_store report_json bureau log_lines bureau_http'
 mkdir -p "$work/crates/desks/src"
 : > "$work/crates.txt"
 for crate in $below; do
@@ -19,7 +19,7 @@ for crate in $below; do
     cp -a "$top/crates/$crate" "$work/crates/$crate"
     grep "^$crate:" "$top/crates.txt" >> "$work/crates.txt"
 done
-echo 'desks: faults transfer bureau_store chain_cache bureau bureau_http' >> "$work/crates.txt"
+echo 'desks: faults transfer chains chain_cache bureau_http' >> "$work/crates.txt"
 cp "$top/bench/desks/main.rt.txt" "$work/crates/desks/src/main.rt"
 cp "$top/HANDLES" "$work/"
 cd "$work/crates/desks"

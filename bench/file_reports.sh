@@ -8,8 +8,8 @@
 set -euo pipefail
 top=$(cd "$(dirname "$0")/.." && pwd)
 work=$top/bench/out/file_reports
-below='lemmas faults columns mcs_reader holddata zone_lists catalogue flat_content supersede requisites listings chains reports
-  install_order blocked_needs report_holds zone_plans plan_members plan_texts plan_reports
+below='lemmas questions faults columns mcs_reader holddata zone_lists catalogue flat_content supersede requisites verdicts listings chains reports
+  install_order blocked_needs report_holds zone_plans plan_reports
   bureau_store report_json bureau file_reports'
 mkdir -p "$work/crates/from_files/src"
 : > "$work/crates.txt"

@@ -7,7 +7,7 @@
 set -euo pipefail
 top=$(cd "$(dirname "$0")/.." && pwd)
 work=$top/bench/out/frames
-below='lemmas faults columns mcs_reader holddata zone_lists catalogue supersede requisites listings chains chain_cache'
+below='lemmas faults columns mcs_reader holddata zone_lists catalogue supersede requisites verdicts listings chains chain_cache'
 mkdir -p "$work/crates/frame_bench/src"
 : > "$work/crates.txt"
 for crate in $below; do

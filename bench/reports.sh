@@ -4,7 +4,7 @@
 # the least of seven.
 set -euo pipefail
 top=$(cd "$(dirname "$0")/.." && pwd)
-below='lemmas faults columns mcs_reader holddata zone_lists catalogue supersede requisites listings chains reports'
+below='lemmas faults columns mcs_reader holddata zone_lists catalogue supersede requisites verdicts listings chains reports'
 work=$(mktemp -d)
 trap 'rm -rf "$work"' EXIT
 mkdir -p "$work/crates/report_bench/src"

@@ -7,7 +7,7 @@
 set -euo pipefail
 top=$(cd "$(dirname "$0")/.." && pwd)
 work=$top/bench/out/verdicts
-below='lemmas faults columns mcs_reader holddata zone_lists catalogue supersede requisites listings chains'
+below='lemmas faults columns mcs_reader holddata zone_lists catalogue supersede requisites verdicts listings chains'
 mkdir -p "$work/crates/verdict_bench/src"
 : > "$work/crates.txt"
 for crate in $below; do

@@ -21,14 +21,14 @@ use Rattle.supersede.proofs.PathFacts.{AllSources, shorten}
 use Rattle.requisites.specs.Leads.{IsPath, Leads}
 use Rattle.requisites.specs.World.{IsGoodGiver}
 use Rattle.requisites.proofs.LeadsFacts.{leads_itself, leads_more}
-use Rattle.chains.specs.Judge.{status_of}
-use Rattle.chains.specs.Verdicts.{Judged, good, held, lack, verdict_of}
-use Rattle.chains.specs.Worlds.{IsVerdict, world_of}
-use Rattle.chains.specs.declared.verdict.Status.TheVariants as status
-use Rattle.chains.proofs.GoodFacts.{candidate_inside}
-use Rattle.chains.proofs.OrderFacts.{ascending_same, find_inside}
-use Rattle.chains.proofs.StatusFacts.{find_some}
-use Rattle.chains.proofs.VerdictFacts.{found_verdict}
+use Rattle.verdicts.specs.Judge.{status_of}
+use Rattle.verdicts.specs.Verdicts.{Judged, good, held, lack, verdict_of}
+use Rattle.verdicts.specs.Worlds.{IsVerdict, world_of}
+use Rattle.verdicts.specs.declared.verdict.Status.TheVariants as status
+use Rattle.verdicts.proofs.GoodFacts.{candidate_inside}
+use Rattle.verdicts.proofs.OrderFacts.{ascending_same, find_inside}
+use Rattle.verdicts.proofs.StatusFacts.{find_some}
+use Rattle.verdicts.proofs.VerdictFacts.{found_verdict}
 use Rattle.blocked_needs.specs.Blocked.{AreBlockedNeeds, HasRow, IsRightRow, blocked_at, blocked_by, giver_of, is_published, next_by, next_of, waits_within}
 use Rattle.blocked_needs.specs.Seen.{AreSeen, IsComeTo, IsNext, entry_of}
 use Rattle.blocked_needs.specs.declared.blocked.BlockedNeed.{BlockedNeed}

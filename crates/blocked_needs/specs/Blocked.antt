@@ -7,10 +7,10 @@ use Rattle.catalogue.specs.Content.{Content}
 use Rattle.catalogue.specs.Ids.{in_order}
 use Rattle.supersede.specs.Giving.{givers_of, is_candidate}
 use Rattle.requisites.specs.World.{IsGoodGiver}
-use Rattle.chains.specs.Judge.{status_of}
-use Rattle.chains.specs.Verdicts.{Judged, good, held, lack, verdict_of}
-use Rattle.chains.specs.Worlds.{world_of}
-use Rattle.chains.specs.declared.verdict.Status.TheVariants as status
+use Rattle.verdicts.specs.Judge.{status_of}
+use Rattle.verdicts.specs.Verdicts.{Judged, good, held, lack, verdict_of}
+use Rattle.verdicts.specs.Worlds.{world_of}
+use Rattle.verdicts.specs.declared.verdict.Status.TheVariants as status
 use Rattle.blocked_needs.specs.declared.blocked.BlockedNeed.{BlockedNeed}
 
 -- what would give a need in a zone: the least of the published SYSMODs that give it and apply

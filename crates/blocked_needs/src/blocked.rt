@@ -3,16 +3,16 @@ ghost use Rattle.std.specs.Prelude.{◌≡◌, ◌++◌, [], IfOk, OnOk};
 ghost use Rattle.std.specs.List.{cons_option};
 ghost use Rattle.catalogue.specs.View.{MayAsk, Tells};
 ghost use Rattle.catalogue.specs.declared.fault.SourceFault.TheVariants.{Device};
-ghost use Rattle.chains.specs.Verdicts.{held};
+ghost use Rattle.verdicts.specs.Verdicts.{held};
 ghost use Rattle.blocked_needs.specs.Blocked as Spec;
 
 use crate::applying::first_that_applies;
 use catalogue::{Published, SourceFault};
-use chains::{Judge, Verdict};
 use faults::NoMemory;
 use mcs_reader::Id;
 use std::alloc::Global;
 use supersede::{Zone, givers};
+use verdicts::{Judge, Verdict};
 
 /// What blocks a SYSMOD that is HELD.
 #[derive(Clone, Copy, Debug, PartialEq, Eq)]

@@ -11,12 +11,12 @@ ghost use Rattle.blocked_needs.specs.Seen.{HasFollowed};
 
 use crate::blocked::{BlockedNeed, blocked_at, next_by, push_some};
 use catalogue::{Published, SourceFault};
-use chains::Judge;
 use faults::NoMemory;
 use mcs_reader::Id;
 use std::alloc::Global;
 use std::collections::BTreeMap;
 use supersede::Zone;
+use verdicts::Judge;
 
 // What blocks each SYSMOD that was looked at, if it is HELD.
 type Seen = BTreeMap<Id, Option<BlockedNeed>>;

@@ -5,13 +5,16 @@ use Rattle.std.specs.Fmt.{digits}
 use Rattle.zone_lists.specs.declared.zones.ZoneState.TheVariants.{Applied}
 use Rattle.catalogue.specs.Content.{nothing}
 use Rattle.report_json.specs.Json.{err_json_of, missing_json_of, published_json_of, zones_json_of}
+use Rattle.questions.specs.declared.report.Report.TheVariants.{ErrSysmods, MissingFix}
+use Rattle.questions.specs.declared.wanted.Form.TheVariants.{Text, Json}
+use Rattle.questions.specs.declared.wanted.Wanted.TheVariants.{Rows, Plan}
 use Rattle.bureau_store.specs.Effect.{zone_dropped}
 use Rattle.bureau_store.specs.Tables.{ZoneTable, Zones}
 use Rattle.bureau_store.specs.declared.caller.Caller.TheVariants.{Publisher, Client}
-use Rattle.bureau.specs.Call.{Call, publish, drop_zone, list_zones, list_zones_json, err_sysmods, err_sysmods_json, missing_fix_json, err_plan_json, missing_plan, counts, counts_json}
+use Rattle.bureau.specs.Call.{Call, publish, drop_zone, list_zones, report_on, counts}
 use Rattle.bureau.specs.Outcome.{Answer, Outcome, accepted, answered, as_json, has_room, in_turn, outcome, plain}
 use Rattle.bureau.specs.Own.{Asked, Opening, own_answer}
-use Rattle.bureau.specs.Texts.{counts_json_text, counts_text}
+use Rattle.bureau.specs.Texts.{counts_text}
 use Rattle.bureau.specs.View.{View}
 
 -- a zone with one SYSMOD
@@ -36,13 +39,13 @@ publisher = record { caller = Publisher; content = nothing; last = record { numb
 pub client_publishes : outcome alpha (publish (Some 3) (codes "++VER(Z038).")) ≡ answered (plain 403 (codes "NOT ALLOWED\n"))
 client_publishes = refl
 
-pub publisher_lists_zones : outcome publisher list_zones ≡ answered (plain 403 (codes "NOT ALLOWED\n"))
+pub publisher_lists_zones : outcome publisher (list_zones Text) ≡ answered (plain 403 (codes "NOT ALLOWED\n"))
 publisher_lists_zones = refl
 
-pub publisher_lists_zones_as_json : outcome publisher list_zones_json ≡ answered (plain 403 (codes "NOT ALLOWED\n"))
+pub publisher_lists_zones_as_json : outcome publisher (list_zones Json) ≡ answered (plain 403 (codes "NOT ALLOWED\n"))
 publisher_lists_zones_as_json = refl
 
-pub publisher_asks_for_a_plan : outcome publisher (missing_plan (codes "TGT1   ")) ≡ answered (plain 403 (codes "NOT ALLOWED\n"))
+pub publisher_asks_for_a_plan : outcome publisher (report_on MissingFix (Plan Text) (codes "TGT1   ")) ≡ answered (plain 403 (codes "NOT ALLOWED\n"))
 publisher_asks_for_a_plan = refl
 
 pub who_may_not_ask_needs_no_number : outcome alpha (publish None []) ≡ answered (plain 403 (codes "NOT ALLOWED\n"))
@@ -81,30 +84,30 @@ zone_not_there = refl
 pub zone_dropped_now : outcome alpha (drop_zone (Some 3) (codes "TGT1   ")) ≡ accepted (zone_dropped (codes "TGT1   ")) (codes "ZONE TGT1 DROPPED\n")
 zone_dropped_now = refl
 
-pub report_on_no_zone : outcome alpha (err_sysmods (codes "TGT9   ")) ≡ answered (plain 404 (codes "NOT FOUND\n"))
+pub report_on_no_zone : outcome alpha (report_on ErrSysmods (Rows Text) (codes "TGT9   ")) ≡ answered (plain 404 (codes "NOT FOUND\n"))
 report_on_no_zone = refl
 
-pub report_as_json_on_no_zone : outcome alpha (err_sysmods_json (codes "TGT9   ")) ≡ answered (plain 404 (codes "NOT FOUND\n"))
+pub report_as_json_on_no_zone : outcome alpha (report_on ErrSysmods (Rows Json) (codes "TGT9   ")) ≡ answered (plain 404 (codes "NOT FOUND\n"))
 report_as_json_on_no_zone = refl
 
-pub missing_fixes_as_json_on_no_zone : outcome alpha (missing_fix_json (codes "TGT9   ")) ≡ answered (plain 404 (codes "NOT FOUND\n"))
+pub missing_fixes_as_json_on_no_zone : outcome alpha (report_on MissingFix (Rows Json) (codes "TGT9   ")) ≡ answered (plain 404 (codes "NOT FOUND\n"))
 missing_fixes_as_json_on_no_zone = refl
 
-pub plan_on_no_zone : outcome alpha (err_plan_json (codes "TGT9   ")) ≡ answered (plain 404 (codes "NOT FOUND\n"))
+pub plan_on_no_zone : outcome alpha (report_on ErrSysmods (Plan Json) (codes "TGT9   ")) ≡ answered (plain 404 (codes "NOT FOUND\n"))
 plan_on_no_zone = refl
 
-pub zones_listed : outcome alpha list_zones ≡ answered (plain 200 (codes "ZONE     SYSMODS\nTGT1     1\nROWS 1\n"))
+pub zones_listed : outcome alpha (list_zones Text) ≡ answered (plain 200 (codes "ZONE     SYSMODS\nTGT1     1\nROWS 1\n"))
 unfolding digits
 zones_listed = refl
 
-pub zones_listed_as_json : outcome alpha list_zones_json ≡ answered (as_json (zones_json_of ((codes "TGT1   ", 1) ∷ [])))
+pub zones_listed_as_json : outcome alpha (list_zones Json) ≡ answered (as_json (zones_json_of ((codes "TGT1   ", 1) ∷ [])))
 zones_listed_as_json = refl
 
 -- reports where nothing is published
-pub nothing_held_as_json : outcome alpha (err_sysmods_json (codes "TGT1   ")) ≡ answered (as_json (err_json_of nothing (codes "TGT1   ") [] []))
+pub nothing_held_as_json : outcome alpha (report_on ErrSysmods (Rows Json) (codes "TGT1   ")) ≡ answered (as_json (err_json_of nothing (codes "TGT1   ") [] []))
 nothing_held_as_json = refl
 
-pub nothing_missing_as_json : outcome alpha (missing_fix_json (codes "TGT1   ")) ≡ answered (as_json (missing_json_of nothing (codes "TGT1   ") [] []))
+pub nothing_missing_as_json : outcome alpha (report_on MissingFix (Rows Json) (codes "TGT1   ")) ≡ answered (as_json (missing_json_of nothing (codes "TGT1   ") [] []))
 nothing_missing_as_json = refl
 
 -- a client may have 64 zones; one of them may be put again
@@ -121,17 +124,17 @@ pub room_for_one_that_is_there : has_room (codes "TGT1   ") (zones_of 64) ≡ tr
 room_for_one_that_is_there = refl
 
 -- counts before anything is published
-pub counts_of_nothing : counts_text nothing ≡ codes "PUBLISHED SYSMODS 0 HOLDS 0\n"
+pub counts_of_nothing : counts_text Text nothing ≡ codes "PUBLISHED SYSMODS 0 HOLDS 0\n"
 unfolding digits
 counts_of_nothing = refl
 
-pub counts_of_nothing_as_json : counts_json_text nothing ≡ published_json_of 0 0
+pub counts_of_nothing_as_json : counts_text Json nothing ≡ published_json_of 0 0
 counts_of_nothing_as_json = refl
 
-pub both_may_count : outcome alpha counts ≡ outcome publisher counts
+pub both_may_count : outcome alpha (counts Text) ≡ outcome publisher (counts Text)
 both_may_count = refl
 
-pub both_may_count_as_json : outcome alpha counts_json ≡ outcome publisher counts_json
+pub both_may_count_as_json : outcome alpha (counts Json) ≡ outcome publisher (counts Json)
 both_may_count_as_json = refl
 
 -- ---- the own answer: no tables, only the calls that came, the latest first
@@ -153,7 +156,7 @@ abbrev own : List Asked → Call → Answer
 own history call = own_answer opening history (Client (codes "ALPHA  ")) call
 
 -- a change takes the next number, and what it did is there for the calls after it
-pub zone_dropped_before : own (by_alpha (drop_zone (Some 3) (codes "TGT1   ")) ∷ []) (err_sysmods (codes "TGT1   ")) ≡ plain 404 (codes "NOT FOUND\n")
+pub zone_dropped_before : own (by_alpha (drop_zone (Some 3) (codes "TGT1   ")) ∷ []) (report_on ErrSysmods (Rows Text) (codes "TGT1   ")) ≡ plain 404 (codes "NOT FOUND\n")
 zone_dropped_before = refl
 
 -- its number again gets the reply that is kept, though the zone is there no more

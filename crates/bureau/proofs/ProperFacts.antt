@@ -1,16 +1,19 @@
 -- What comes of a call is never 503, and it is a publication for the publisher alone.
 use Rattle.std.proofs.Common.{◌≡◌, ℕ, ◌+◌, ◌==◌, ◌&&◌, Bool, true, false, List, refl, sym, ap, subst}
 use Rattle.std.specs.Prelude.{Option, Some, None, Result, Ok, Err, codes, is_some, nat_le, nat_lt, if◌then◌else◌}
+use Rattle.questions.specs.Wanted.{form_of}
+use Rattle.questions.specs.declared.wanted.Form.{Form}
+use Rattle.questions.specs.declared.wanted.Form.TheVariants.{Text, Json}
 use Rattle.bureau_store.specs.Effect.{Effect, publication, zone_put, zone_dropped, received_put, patterns_put}
 use Rattle.bureau_store.specs.Tables.{LastChange, ZoneTable, Zones, zone_named}
 use Rattle.bureau_store.specs.declared.caller.Caller.{Caller}
 use Rattle.bureau_store.specs.declared.caller.Caller.TheVariants.{Publisher, Client}
-use Rattle.bureau.specs.Call.{Call, publish, put_zone, drop_zone, put_received, put_patterns, list_zones, list_zones_json, err_sysmods, err_sysmods_json, missing_fix, missing_fix_json, err_plan, err_plan_json, missing_plan, missing_plan_json, chain, counts, counts_json}
+use Rattle.bureau.specs.Call.{Call, publish, put_zone, drop_zone, put_received, put_patterns, list_zones, report_on, chain, counts}
 use Rattle.bureau_store.specs.Store.{greatest_number}
-use Rattle.bureau.specs.Outcome.{Outcome, answered, accepted, as_json, bad_number, by_number, forbidden, gap, has_room, in_turn, may_ask, of_zone, outcome, outcome_allowed, put_of_zone, refused, said, stale, told}
+use Rattle.bureau.specs.Outcome.{Outcome, answered, accepted, bad_number, by_number, forbidden, gap, has_room, in_form, in_turn, may_ask, of_zone, outcome, outcome_allowed, put_of_zone, refused, said, stale, told}
 use Rattle.bureau.specs.View.{View}
 use Rattle.bureau.specs.Bodies.{changes_in, ids_in, patterns_in, rows_in}
-use Rattle.bureau.specs.Texts.{chain_text, err_json_text, err_plan_json_text, err_plan_text, err_report, missing_json_text, missing_plan_json_text, missing_plan_text, missing_report, patterns_text, publication_text, received_text, zone_dropped_text, zone_put_text}
+use Rattle.bureau.specs.Texts.{chain_text, counts_text, patterns_text, publication_text, received_text, report_text, zone_dropped_text, zone_put_text, zones_text}
 
 -- who may make a change, and that patterns are those of a zone that is there
 abbrev pub IsPossible : Zones → Caller → Effect → Type 0
@@ -47,11 +50,12 @@ module _ (zones : Zones) (caller : Caller) where
   finds None answer h = refl
   finds (Some table) answer h = h table refl
 
-  tells : (found : Option ZoneTable) (text : ZoneTable → List ℕ) → IsProper zones caller (of_zone found (λ table. told (text table)))
-  tells found text = finds found (λ table. told (text table)) (λ table there. refl)
+  in_any_form : (form : Form) (text : List ℕ) → IsProper zones caller (answered (in_form form text))
+  in_any_form Text text = refl
+  in_any_form Json text = refl
 
-  tells_json : (found : Option ZoneTable) (text : ZoneTable → List ℕ) → IsProper zones caller (of_zone found (λ table. answered (as_json (text table))))
-  tells_json found text = finds found (λ table. answered (as_json (text table))) (λ table there. refl)
+  tells : (form : Form) (found : Option ZoneTable) (text : ZoneTable → List ℕ) → IsProper zones caller (of_zone found (λ table. answered (in_form form (text table))))
+  tells form found text = finds found (λ table. answered (in_form form (text table))) (λ table there. in_any_form form (text table))
 
 asked : (view : View) (caller : Caller) (call : Call) → IsProper view.zones caller (if may_ask caller call then outcome_allowed view call else answered forbidden)
 asked view Publisher (publish number body) =
@@ -61,19 +65,10 @@ asked view Publisher (put_zone number zone body) = refl
 asked view Publisher (drop_zone number zone) = refl
 asked view Publisher (put_received number body) = refl
 asked view Publisher (put_patterns number zone body) = refl
-asked view Publisher list_zones = refl
-asked view Publisher list_zones_json = refl
-asked view Publisher (err_sysmods zone) = refl
-asked view Publisher (err_sysmods_json zone) = refl
-asked view Publisher (missing_fix zone) = refl
-asked view Publisher (missing_fix_json zone) = refl
-asked view Publisher (err_plan zone) = refl
-asked view Publisher (err_plan_json zone) = refl
-asked view Publisher (missing_plan zone) = refl
-asked view Publisher (missing_plan_json zone) = refl
+asked view Publisher (list_zones form) = refl
+asked view Publisher (report_on report wanted zone) = refl
 asked view Publisher (chain zone sysmod) = refl
-asked view Publisher counts = refl
-asked view Publisher counts_json = refl
+asked view Publisher (counts form) = in_any_form view.zones Publisher form (counts_text form view.content)
 asked view (Client name) (publish number body) = refl
 asked view (Client name) (put_zone number zone body) =
     turned view.zones (Client name) view.last number (put_of_zone view.zones zone body)
@@ -92,19 +87,12 @@ asked view (Client name) (put_patterns number zone body) =
     (λ table. said (patterns_in body) (λ patterns. accepted (patterns_put zone patterns) (patterns_text zone patterns)))
     (λ table found. reads view.zones (Client name) (patterns_in body) (λ patterns. accepted (patterns_put zone patterns) (patterns_text zone patterns))
     (λ patterns. ap (λ (o : Option ZoneTable). is_some o) found)))
-asked view (Client name) list_zones = refl
-asked view (Client name) list_zones_json = refl
-asked view (Client name) (err_sysmods zone) = tells view.zones (Client name) (zone_named zone view.zones) (λ table. err_report view.content zone table view.received)
-asked view (Client name) (err_sysmods_json zone) = tells_json view.zones (Client name) (zone_named zone view.zones) (λ table. err_json_text view.content zone table view.received)
-asked view (Client name) (missing_fix zone) = tells view.zones (Client name) (zone_named zone view.zones) (λ table. missing_report view.content zone table view.received)
-asked view (Client name) (missing_fix_json zone) = tells_json view.zones (Client name) (zone_named zone view.zones) (λ table. missing_json_text view.content zone table view.received)
-asked view (Client name) (err_plan zone) = tells view.zones (Client name) (zone_named zone view.zones) (λ table. err_plan_text view.content zone table view.received)
-asked view (Client name) (err_plan_json zone) = tells_json view.zones (Client name) (zone_named zone view.zones) (λ table. err_plan_json_text view.content zone table view.received)
-asked view (Client name) (missing_plan zone) = tells view.zones (Client name) (zone_named zone view.zones) (λ table. missing_plan_text view.content zone table view.received)
-asked view (Client name) (missing_plan_json zone) = tells_json view.zones (Client name) (zone_named zone view.zones) (λ table. missing_plan_json_text view.content zone table view.received)
-asked view (Client name) (chain zone sysmod) = tells_json view.zones (Client name) (zone_named zone view.zones) (λ table. chain_text view.content zone table sysmod)
-asked view (Client name) counts = refl
-asked view (Client name) counts_json = refl
+asked view (Client name) (list_zones form) = in_any_form view.zones (Client name) form (zones_text form view.zones)
+asked view (Client name) (report_on report wanted zone) =
+    tells view.zones (Client name) (form_of wanted) (zone_named zone view.zones) (λ table. report_text report wanted view.content zone table view.received)
+asked view (Client name) (chain zone sysmod) =
+    tells view.zones (Client name) Json (zone_named zone view.zones) (λ table. chain_text view.content zone table sysmod)
+asked view (Client name) (counts form) = in_any_form view.zones (Client name) form (counts_text form view.content)
 
 pub proper : (view : View) (call : Call) (caller : Caller) → view.caller ≡ caller → IsProper view.zones caller (outcome view call)
 proper view call caller is =

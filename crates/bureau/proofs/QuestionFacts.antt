@@ -1,32 +1,24 @@
 -- The answers to questions, from what is read on the way.
 use Rattle.std.proofs.Common.{◌≡◌, ℕ, List, [], sym, ◌∙◌, ap, refl}
-use Rattle.std.specs.Prelude.{Option, Some, None, map}
+use Rattle.std.specs.Prelude.{Option, Some, None}
 use Rattle.std.specs.Option.{option_map}
-use Rattle.std.proofs.lemmas.Simd.{map-map}
 use Rattle.holddata.specs.declared.hold.Hold.{Hold}
 use Rattle.zone_lists.specs.declared.zones.ZoneRow.{ZoneRow}
 use Rattle.catalogue.specs.Content.{Content}
+use Rattle.questions.specs.Wanted.{form_of}
+use Rattle.questions.specs.declared.report.Report.{Report}
+use Rattle.questions.specs.declared.wanted.Wanted.{Wanted}
 use Rattle.bureau_store.specs.Held.{held_in}
-use Rattle.bureau_store.specs.Tables.{Tables, ZoneTable, Zones, rows_of, zone_named}
+use Rattle.bureau_store.specs.Tables.{Tables, ZoneTable, rows_of, zone_named}
 use Rattle.bureau_store.specs.declared.caller.Caller.TheVariants.{Client}
-use Rattle.bureau.specs.Outcomes.{IsReplyTo, counted_as}
-use Rattle.bureau.specs.Outcome.{Answer, Outcome, answered, as_json, not_found, of_zone, outcome}
+use Rattle.bureau.specs.Call.{report_on}
+use Rattle.bureau.specs.Outcomes.{IsReplyTo}
+use Rattle.bureau.specs.Outcome.{Answer, Outcome, answered, as_json, in_form, not_found, of_zone}
 use Rattle.bureau.specs.Replies.{reply_as}
-use Rattle.bureau.specs.Texts.{chain_text, chain_text_from, zone_fields, zones_text, zone_columns}
-use Rattle.bureau.specs.View.{view_of}
-use Rattle.bureau.specs.Wanted.{answer_as, kind_of, patterns_for, report_call, text_from}
+use Rattle.bureau.specs.Texts.{chain_text, chain_text_from, kind_of, patterns_for, text_from}
 use Rattle.bureau.specs.declared.reply.Reply.{Reply}
-use Rattle.bureau.specs.declared.wanted.Report.{Report}
-use Rattle.bureau.specs.declared.wanted.Report.TheVariants.{ErrSysmods, MissingFix}
-use Rattle.bureau.specs.declared.wanted.Wanted.{Wanted}
-use Rattle.bureau.specs.declared.wanted.Wanted.TheVariants.{Rows, RowsJson, Plan, PlanJson}
-use Rattle.columns.specs.Columns.{text_of as text_in}
 
--- ---- zones
-
--- the list of zones in print
-pub zones_printed : (zones : Zones) (counted : List (List ℕ × ℕ)) → counted ≡ map counted_as zones → text_in zone_columns None (map zone_fields counted) ≡ zones_text zones
-zones_printed zones counted is = ap (λ entries. text_in zone_columns None (map zone_fields entries)) is ∙ ap (text_in zone_columns None) (map-map zone_fields counted_as zones)
+-- ---- the rows of a zone
 
 abbrev rows_in : Option (List ZoneRow) → List ZoneRow
 rows_in None = []
@@ -52,19 +44,7 @@ no_rows (Some table) answer reply missing is = absurd (cc)
 -- what is answered of a zone that is there
 abbrev answer_on : Report → Wanted → Tables → List ℕ → List ℕ → ZoneTable → Outcome
 answer_on report wanted this client zone table =
-    answered (answer_as wanted (text_from report wanted this.content zone table.rows (this.received client) (patterns_for report (Some table)) (held_in this.content table.rows (kind_of report))))
-
--- it is what comes of the call
-answer_is : (report : Report) (wanted : Wanted) (client zone : List ℕ) (this : Tables)
-    → of_zone (zone_named zone (this.zones client)) (answer_on report wanted this client zone) ≡ outcome (view_of (Client client) this) (report_call report wanted zone)
-answer_is ErrSysmods Rows client zone this = refl
-answer_is ErrSysmods RowsJson client zone this = refl
-answer_is ErrSysmods Plan client zone this = refl
-answer_is ErrSysmods PlanJson client zone this = refl
-answer_is MissingFix Rows client zone this = refl
-answer_is MissingFix RowsJson client zone this = refl
-answer_is MissingFix Plan client zone this = refl
-answer_is MissingFix PlanJson client zone this = refl
+    answered (in_form (form_of wanted) (text_from report wanted this.content zone table.rows (this.received client) (patterns_for report (Some table)) (held_in this.content table.rows (kind_of report))))
 
 -- an answer, from its parts
 report_parts : (report : Report) (content : Content) (found : Option ZoneTable) (received known patterns : List (List ℕ)) (rows installed : List ZoneRow) (holds : List Hold)
@@ -81,18 +61,17 @@ report_parts report content (Some table) received known patterns rows installed 
 pub report_told : (report : Report) (wanted : Wanted) (client zone : List ℕ) (this : Tables) (received patterns : List (List ℕ)) (rows installed : List ZoneRow) (holds : List Hold) (reply : Reply)
     → Some rows ≡ option_map (λ (table : ZoneTable). table.rows) (zone_named zone (this.zones client)) → received ≡ this.received client
     → patterns ≡ patterns_for report (zone_named zone (this.zones client)) → holds ≡ held_in this.content (rows_of (zone_named zone (this.zones client))) (kind_of report) → installed ≡ rows
-    → reply_as reply ≡ answer_as wanted (text_from report wanted this.content zone installed received patterns holds)
-    → IsReplyTo (Client client) (report_call report wanted zone) this reply
+    → reply_as reply ≡ in_form (form_of wanted) (text_from report wanted this.content zone installed received patterns holds)
+    → IsReplyTo (Client client) (report_on report wanted zone) this reply
 report_told report wanted client zone this received patterns rows installed holds reply there has asked held same is =
     report_parts report this.content (zone_named zone (this.zones client)) received (this.received client) patterns rows installed holds
-    (λ rows ids patterns holds. answer_as wanted (text_from report wanted this.content zone rows ids patterns holds)) reply there has asked held same is
-    ∙ answer_is report wanted client zone this
+    (λ rows ids patterns holds. in_form (form_of wanted) (text_from report wanted this.content zone rows ids patterns holds)) reply there has asked held same is
 
 pub report_absent : (report : Report) (wanted : Wanted) (client zone : List ℕ) (this : Tables) (reply : Reply)
     → None ≡ option_map (λ (table : ZoneTable). table.rows) (zone_named zone (this.zones client)) → reply_as reply ≡ not_found
-    → IsReplyTo (Client client) (report_call report wanted zone) this reply
+    → IsReplyTo (Client client) (report_on report wanted zone) this reply
 report_absent report wanted client zone this reply missing is =
-    no_rows (zone_named zone (this.zones client)) (answer_on report wanted this client zone) reply missing is ∙ answer_is report wanted client zone this
+    no_rows (zone_named zone (this.zones client)) (answer_on report wanted this client zone) reply missing is
 
 -- ---- verdicts
 

@@ -9,7 +9,7 @@ use Rattle.bureau_store.specs.Tables.{LastChange, Tables, ZoneTable, zone_named}
 use Rattle.bureau_store.specs.declared.caller.Caller.{Caller}
 use Rattle.bureau_store.specs.declared.caller.Caller.TheVariants.{Publisher, Client}
 use Rattle.bureau.specs.Bodies.{changes_in, rows_in, ids_in, patterns_in}
-use Rattle.bureau.specs.Call.{Call, publish, put_zone, drop_zone, put_received, put_patterns, list_zones, list_zones_json, err_sysmods, err_sysmods_json, missing_fix, missing_fix_json, err_plan, err_plan_json, missing_plan, missing_plan_json, chain, counts, counts_json}
+use Rattle.bureau.specs.Call.{Call, publish, put_zone, drop_zone, put_received, put_patterns, list_zones, report_on, chain, counts}
 use Rattle.bureau.specs.Joint.{CallBy, IsRun, IsStep, tables_left}
 use Rattle.bureau_store.specs.Store.{greatest_number}
 use Rattle.bureau.specs.Outcome.{Answer, Outcome, answered, accepted, answer_of, bad_number, by_number, forbidden, gap, has_room, in_turn, may_ask, no_room, of_zone, outcome, outcome_allowed, plain, refused, said, stale, told}
@@ -57,19 +57,10 @@ allowed_in_turn view (put_received number body) n e =
     numbered view.last number n _ (said_refuses (ids_in body) _ (λ ids. tt)) e
 allowed_in_turn view (put_patterns number zone body) n e =
     numbered view.last number n _ (of_zone_refuses (zone_named zone view.zones) _ (λ table. said_refuses (patterns_in body) _ (λ patterns. tt))) e
-allowed_in_turn view list_zones n e = absurd (cc)
-allowed_in_turn view list_zones_json n e = absurd (cc)
-allowed_in_turn view (err_sysmods zone) n e = absurd (cc)
-allowed_in_turn view (err_sysmods_json zone) n e = absurd (cc)
-allowed_in_turn view (missing_fix zone) n e = absurd (cc)
-allowed_in_turn view (missing_fix_json zone) n e = absurd (cc)
-allowed_in_turn view (err_plan zone) n e = absurd (cc)
-allowed_in_turn view (err_plan_json zone) n e = absurd (cc)
-allowed_in_turn view (missing_plan zone) n e = absurd (cc)
-allowed_in_turn view (missing_plan_json zone) n e = absurd (cc)
+allowed_in_turn view (list_zones form) n e = absurd (cc)
+allowed_in_turn view (report_on report wanted zone) n e = absurd (cc)
 allowed_in_turn view (chain zone sysmod) n e = absurd (cc)
-allowed_in_turn view counts n e = absurd (cc)
-allowed_in_turn view counts_json n e = absurd (cc)
+allowed_in_turn view (counts form) n e = absurd (cc)
 
 view_last : (caller : Caller) (tables : Tables) → (view_of caller tables).last ≡ tables.last caller
 view_last Publisher tables = refl
@@ -167,19 +158,10 @@ allowed_accepted view (put_zone number zone body) effect text e = in_turn_accept
 allowed_accepted view (drop_zone number zone) effect text e = in_turn_accepted view.last number _ effect text e
 allowed_accepted view (put_received number body) effect text e = in_turn_accepted view.last number _ effect text e
 allowed_accepted view (put_patterns number zone body) effect text e = in_turn_accepted view.last number _ effect text e
-allowed_accepted view list_zones effect text e = absurd (cc)
-allowed_accepted view list_zones_json effect text e = absurd (cc)
-allowed_accepted view (err_sysmods zone) effect text e = none_of_zone (zone_named zone view.zones) _ effect text e
-allowed_accepted view (err_sysmods_json zone) effect text e = none_of_zone (zone_named zone view.zones) _ effect text e
-allowed_accepted view (missing_fix zone) effect text e = none_of_zone (zone_named zone view.zones) _ effect text e
-allowed_accepted view (missing_fix_json zone) effect text e = none_of_zone (zone_named zone view.zones) _ effect text e
-allowed_accepted view (err_plan zone) effect text e = none_of_zone (zone_named zone view.zones) _ effect text e
-allowed_accepted view (err_plan_json zone) effect text e = none_of_zone (zone_named zone view.zones) _ effect text e
-allowed_accepted view (missing_plan zone) effect text e = none_of_zone (zone_named zone view.zones) _ effect text e
-allowed_accepted view (missing_plan_json zone) effect text e = none_of_zone (zone_named zone view.zones) _ effect text e
+allowed_accepted view (list_zones form) effect text e = absurd (cc)
+allowed_accepted view (report_on report wanted zone) effect text e = none_of_zone (zone_named zone view.zones) _ effect text e
 allowed_accepted view (chain zone sysmod) effect text e = none_of_zone (zone_named zone view.zones) _ effect text e
-allowed_accepted view counts effect text e = absurd (cc)
-allowed_accepted view counts_json effect text e = absurd (cc)
+allowed_accepted view (counts form) effect text e = absurd (cc)
 
 asked_accepted : (view : View) (call : Call) (effect : Effect) (text : List ℕ) → outcome view call ≡ accepted effect text
     → (may_ask view.caller call ≡ true) × (number_of call ≡ Some (view.last.number + 1))

@@ -7,7 +7,7 @@ use Rattle.catalogue.specs.View.{IsLawful, MayAsk, Tells, View}
 use Rattle.catalogue.specs.declared.fault.SourceFault.{SourceFault}
 use Rattle.catalogue.specs.declared.fault.SourceFault.TheVariants.{Device}
 use Rattle.catalogue.proofs.SourceFacts.{no_fault, told_so, told_sooner}
-use Rattle.chains.proofs.AskingFacts.{failed_since}
+use Rattle.verdicts.proofs.AskingFacts.{failed_since}
 use Rattle.bureau.specs.Reading.{TellsText}
 use Rattle.bureau.proofs.SeenFacts.{told_on}
 

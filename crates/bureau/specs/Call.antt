@@ -1,5 +1,8 @@
 -- What a caller may ask.
 use Rattle.std.specs.Prelude.{ℕ, List, Option}
+use Rattle.questions.specs.declared.report.Report.{Report}
+use Rattle.questions.specs.declared.wanted.Form.{Form}
+use Rattle.questions.specs.declared.wanted.Wanted.{Wanted}
 
 -- A change has a number, or none where a request names none that reads; a body is the bytes that came with it.
 pub data Call : Type 0 where
@@ -8,16 +11,7 @@ pub data Call : Type 0 where
   drop_zone : Option ℕ → List ℕ → Call
   put_received : Option ℕ → List ℕ → Call
   put_patterns : Option ℕ → List ℕ → List ℕ → Call
-  list_zones : Call
-  list_zones_json : Call
-  err_sysmods : List ℕ → Call
-  err_sysmods_json : List ℕ → Call
-  missing_fix : List ℕ → Call
-  missing_fix_json : List ℕ → Call
-  err_plan : List ℕ → Call
-  err_plan_json : List ℕ → Call
-  missing_plan : List ℕ → Call
-  missing_plan_json : List ℕ → Call
+  list_zones : Form → Call
+  report_on : Report → Wanted → List ℕ → Call
   chain : List ℕ → List ℕ → Call
-  counts : Call
-  counts_json : Call
+  counts : Form → Call

@@ -19,4 +19,3 @@ pub mod RowsFound
 pub mod Runs
 pub mod Texts
 pub mod View
-pub mod Wanted

@@ -1,14 +1,17 @@
 -- What comes of a call, as far as one caller's view decides it.
 use Rattle.std.specs.Prelude.{ℕ, ◌+◌, ◌==◌, ◌&&◌, ◌++◌, Bool, true, false, List, [], Option, Some, None, Result, Ok, Err, codes, decimal, is_some, length, nat_le, nat_lt, if◌then◌else◌}
+use Rattle.questions.specs.Wanted.{form_of}
+use Rattle.questions.specs.declared.wanted.Form.{Form}
+use Rattle.questions.specs.declared.wanted.Form.TheVariants.{Text, Json}
 use Rattle.bureau_store.specs.Effect.{Effect, publication, zone_put, zone_dropped, received_put, patterns_put}
 use Rattle.bureau_store.specs.Store.{greatest_number}
 use Rattle.bureau_store.specs.Tables.{LastChange, ZoneTable, Zones, zone_named}
 use Rattle.bureau_store.specs.declared.caller.Caller.{Caller}
 use Rattle.bureau_store.specs.declared.caller.Caller.TheVariants.{Publisher, Client}
-use Rattle.bureau.specs.Call.{Call, publish, put_zone, drop_zone, put_received, put_patterns, list_zones, list_zones_json, err_sysmods, err_sysmods_json, missing_fix, missing_fix_json, err_plan, err_plan_json, missing_plan, missing_plan_json, chain, counts, counts_json}
+use Rattle.bureau.specs.Call.{Call, publish, put_zone, drop_zone, put_received, put_patterns, list_zones, report_on, chain, counts}
 use Rattle.bureau.specs.View.{View}
 use Rattle.bureau.specs.Bodies.{changes_in, rows_in, ids_in, patterns_in}
-use Rattle.bureau.specs.Texts.{publication_text, zone_put_text, zone_dropped_text, received_text, patterns_text, zones_text, zones_json_text, counts_text, counts_json_text, err_report, err_json_text, missing_report, missing_json_text, err_plan_text, err_plan_json_text, missing_plan_text, missing_plan_json_text, chain_text}
+use Rattle.bureau.specs.Texts.{publication_text, zone_put_text, zone_dropped_text, received_text, patterns_text, zones_text, counts_text, report_text, chain_text}
 
 -- an answer: its status, whether its body is JSON, and the body
 pub record Answer : Type 0 where
@@ -21,6 +24,11 @@ plain status body = record { status = status; json = false; body = body }
 
 abbrev pub as_json : List ℕ → Answer
 as_json body = record { status = 200; json = true; body = body }
+
+-- a text in a form
+abbrev pub in_form : Form → List ℕ → Answer
+in_form Text body = plain 200 body
+in_form Json body = as_json body
 
 -- the answers that have no other text
 abbrev pub bad_number : Answer
@@ -61,8 +69,7 @@ most_zones = 64
 -- who may ask what
 abbrev pub may_ask : Caller → Call → Bool
 may_ask Publisher (publish number body) = true
-may_ask Publisher counts = true
-may_ask Publisher counts_json = true
+may_ask Publisher (counts form) = true
 may_ask Publisher _ = false
 may_ask (Client name) (publish number body) = false
 may_ask (Client name) _ = true
@@ -112,31 +119,14 @@ outcome_allowed view (put_received number body) = in_turn view.last number
 outcome_allowed view (put_patterns number zone body) = in_turn view.last number
     (of_zone (zone_named zone view.zones) (λ table.
     said (patterns_in body) (λ patterns. accepted (patterns_put zone patterns) (patterns_text zone patterns))))
-outcome_allowed view list_zones = told (zones_text view.zones)
-outcome_allowed view list_zones_json = answered (as_json (zones_json_text view.zones))
-outcome_allowed view (err_sysmods zone) =
-    of_zone (zone_named zone view.zones) (λ table. told (err_report view.content zone table view.received))
-outcome_allowed view (err_sysmods_json zone) =
-    of_zone (zone_named zone view.zones) (λ table. answered (as_json (err_json_text view.content zone table view.received)))
-outcome_allowed view (missing_fix zone) =
-    of_zone (zone_named zone view.zones) (λ table. told (missing_report view.content zone table view.received))
-outcome_allowed view (missing_fix_json zone) =
-    of_zone (zone_named zone view.zones) (λ table. answered (as_json (missing_json_text view.content zone table view.received)))
-outcome_allowed view (err_plan zone) =
-    of_zone (zone_named zone view.zones) (λ table. told (err_plan_text view.content zone table view.received))
-outcome_allowed view (err_plan_json zone) =
+outcome_allowed view (list_zones form) = answered (in_form form (zones_text form view.zones))
+outcome_allowed view (report_on report wanted zone) =
     of_zone (zone_named zone view.zones) (λ table.
-    answered (as_json (err_plan_json_text view.content zone table view.received)))
-outcome_allowed view (missing_plan zone) =
-    of_zone (zone_named zone view.zones) (λ table. told (missing_plan_text view.content zone table view.received))
-outcome_allowed view (missing_plan_json zone) =
-    of_zone (zone_named zone view.zones) (λ table.
-    answered (as_json (missing_plan_json_text view.content zone table view.received)))
+    answered (in_form (form_of wanted) (report_text report wanted view.content zone table view.received)))
 outcome_allowed view (chain zone sysmod) =
     of_zone (zone_named zone view.zones) (λ table.
     answered (as_json (chain_text view.content zone table sysmod)))
-outcome_allowed view counts = told (counts_text view.content)
-outcome_allowed view counts_json = answered (as_json (counts_json_text view.content))
+outcome_allowed view (counts form) = answered (in_form form (counts_text form view.content))
 
 abbrev pub outcome : View → Call → Outcome
 outcome view call = if may_ask view.caller call then outcome_allowed view call else answered forbidden

@@ -2,7 +2,7 @@
 use Rattle.std.specs.Prelude.{◌≡◌, ◌<◌, ◌⊎◌, ◌++◌, ℕ, true, List, ◌∷◌, All, Any, Option, Some, None}
 use Rattle.bureau_store.specs.Tables.{Tables}
 use Rattle.bureau_store.specs.declared.caller.Caller.{Caller}
-use Rattle.bureau.specs.Call.{Call, publish, put_zone, drop_zone, put_received, put_patterns, list_zones, list_zones_json, err_sysmods, err_sysmods_json, missing_fix, missing_fix_json, err_plan, err_plan_json, missing_plan, missing_plan_json, chain, counts, counts_json}
+use Rattle.bureau.specs.Call.{Call, publish, put_zone, drop_zone, put_received, put_patterns, list_zones, report_on, chain, counts}
 use Rattle.bureau.specs.Joint.{CallBy, IsRun}
 use Rattle.bureau.specs.Outcome.{may_ask, no_room, stale}
 
@@ -13,19 +13,10 @@ number_of (put_zone number zone body) = number
 number_of (drop_zone number zone) = number
 number_of (put_received number body) = number
 number_of (put_patterns number zone body) = number
-number_of list_zones = None
-number_of list_zones_json = None
-number_of (err_sysmods zone) = None
-number_of (err_sysmods_json zone) = None
-number_of (missing_fix zone) = None
-number_of (missing_fix_json zone) = None
-number_of (err_plan zone) = None
-number_of (err_plan_json zone) = None
-number_of (missing_plan zone) = None
-number_of (missing_plan_json zone) = None
+number_of (list_zones form) = None
+number_of (report_on report wanted zone) = None
 number_of (chain zone sysmod) = None
-number_of counts = None
-number_of counts_json = None
+number_of (counts form) = None
 
 -- a change with this number, by a caller who may ask it
 pub record IsChange (n : ℕ) (call_by : CallBy) : Type 0 where

@@ -1,23 +1,30 @@
 -- The texts of answers.
-use Rattle.std.specs.Prelude.{ℕ, ◌++◌, Bool, true, false, List, [], ◌∷◌, codes, count_by, decimal, length, map, None}
+use Rattle.std.specs.Prelude.{ℕ, ◌++◌, Bool, true, false, List, [], ◌∷◌, codes, count_by, decimal, length, map, Option, Some, None}
 use Rattle.columns.specs.Columns.{text_of as text_in}
 use Rattle.mcs_reader.specs.Id.{text_of}
 use Rattle.holddata.specs.declared.hold.Hold.{Hold}
 use Rattle.holddata.specs.declared.hold.HoldChange.TheVariants.{Put, Release}
+use Rattle.holddata.specs.declared.key.Kind.{Kind}
 use Rattle.holddata.specs.declared.key.Kind.TheVariants.{ErrorHold, FixcatHold}
 use Rattle.zone_lists.specs.declared.zones.ZoneRow.{ZoneRow}
 use Rattle.catalogue.specs.Content.{Content}
 use Rattle.catalogue.specs.declared.change.Change.{Change}
 use Rattle.catalogue.specs.declared.change.Change.TheVariants.{Whole, OfHold}
-use Rattle.chains.specs.Verdicts.{verdict_of}
+use Rattle.verdicts.specs.Verdicts.{verdict_of}
 use Rattle.reports.specs.ChainText.{chain_text_of}
 use Rattle.reports.specs.ErrRows.{err_rows_of}
 use Rattle.reports.specs.MissingRows.{missing_rows_of}
 use Rattle.reports.specs.ReportText.{err_text_of, missing_text_of}
 use Rattle.report_json.specs.Json.{err_json_of, missing_json_of, published_json_of, zones_json_of}
-use Rattle.plan_reports.specs.Replies.{err_plan_json_of, err_plan_text_of, missing_plan_json_of, missing_plan_text_of}
+use Rattle.plan_reports.specs.Replies.{plan_answer_of}
+use Rattle.questions.specs.declared.report.Report.{Report}
+use Rattle.questions.specs.declared.report.Report.TheVariants.{ErrSysmods, MissingFix}
+use Rattle.questions.specs.declared.wanted.Form.{Form}
+use Rattle.questions.specs.declared.wanted.Form.TheVariants.{Text, Json}
+use Rattle.questions.specs.declared.wanted.Wanted.{Wanted}
+use Rattle.questions.specs.declared.wanted.Wanted.TheVariants.{Rows, Plan}
 use Rattle.bureau_store.specs.Held.{held_in}
-use Rattle.bureau_store.specs.Tables.{ZoneTable, Zones}
+use Rattle.bureau_store.specs.Tables.{ZoneTable, Zones, patterns_of}
 
 -- whether a change publishes a SYSMOD's record, puts a hold, or releases one
 abbrev pub is_record : Change → Bool
@@ -41,13 +48,13 @@ publication_text changes =
     ++ codes " HOLDS " ++ decimal (count_by is_put changes)
     ++ codes " RELEASES " ++ decimal (count_by is_release changes) ++ codes "\n"
 
--- how much is published, in print and as JSON
-abbrev pub counts_text : Content → List ℕ
-counts_text content =
-    codes "PUBLISHED SYSMODS " ++ decimal (length content.sysmods) ++ codes " HOLDS " ++ decimal (length content.holds) ++ codes "\n"
+-- how much is published, in a form
+abbrev pub counts_told : Form → ℕ → ℕ → List ℕ
+counts_told Text sysmods holds = codes "PUBLISHED SYSMODS " ++ decimal sysmods ++ codes " HOLDS " ++ decimal holds ++ codes "\n"
+counts_told Json sysmods holds = published_json_of sysmods holds
 
-abbrev pub counts_json_text : Content → List ℕ
-counts_json_text content = published_json_of (length content.sysmods) (length content.holds)
+abbrev pub counts_text : Form → Content → List ℕ
+counts_text form content = counts_told form (length content.sysmods) (length content.holds)
 
 abbrev pub zone_put_text : List ℕ → List ZoneRow → List ℕ
 zone_put_text zone rows = codes "ZONE " ++ text_of zone ++ codes " ROWS " ++ decimal (length rows) ++ codes "\n"
@@ -69,63 +76,55 @@ zone_columns = (1, codes "ZONE") ∷ (10, codes "SYSMODS") ∷ []
 abbrev pub zone_fields : List ℕ × ℕ → List (List ℕ)
 zone_fields zone = text_of zone.0 ∷ decimal zone.1 ∷ []
 
-abbrev pub zones_text : Zones → List ℕ
-zones_text zones = text_in zone_columns None (map (λ zone. zone_fields (zone.0, length zone.1.rows)) zones)
+abbrev pub zones_told : Form → List (List ℕ × ℕ) → List ℕ
+zones_told Text zones = text_in zone_columns None (map zone_fields zones)
+zones_told Json zones = zones_json_of zones
 
--- the same zones as JSON
-abbrev pub zones_json_text : Zones → List ℕ
-zones_json_text zones = zones_json_of (map (λ zone. (zone.0, length zone.1.rows)) zones)
+abbrev pub zones_text : Form → Zones → List ℕ
+zones_text form zones = zones_told form (map (λ zone. (zone.0, length zone.1.rows)) zones)
 
--- the exception SYSMOD report on a zone, from its rows and the holds that are read for it
+-- ---- reports, from the rows of a zone, the received list, the patterns and the holds that are read for the report
+
+-- the exception SYSMOD report in print, and as JSON
 abbrev pub err_report_from : Content → List ℕ → List ZoneRow → List (List ℕ) → List Hold → List ℕ
 err_report_from content zone rows received holds = err_text_of zone (err_rows_of content rows received holds)
 
--- the exception SYSMOD report on a zone
-abbrev pub err_report : Content → List ℕ → ZoneTable → List (List ℕ) → List ℕ
-err_report content zone table received =
-    err_report_from content zone table.rows received (held_in content table.rows ErrorHold)
-
--- the same report as JSON
 abbrev pub err_json_from : Content → List ℕ → List ZoneRow → List (List ℕ) → List Hold → List ℕ
 err_json_from content zone rows received holds = err_json_of content zone holds (err_rows_of content rows received holds)
 
-abbrev pub err_json_text : Content → List ℕ → ZoneTable → List (List ℕ) → List ℕ
-err_json_text content zone table received = err_json_from content zone table.rows received (held_in content table.rows ErrorHold)
-
--- the missing fix report on a zone, from its rows and patterns and the holds that are read for it
+-- the missing fix report in print, and as JSON
 abbrev pub missing_report_from : Content → List ℕ → List ZoneRow → List (List ℕ) → List (List ℕ) → List Hold → List ℕ
 missing_report_from content zone rows received patterns holds =
     missing_text_of zone (missing_rows_of content rows received patterns holds)
 
--- the missing fix report on a zone
-abbrev pub missing_report : Content → List ℕ → ZoneTable → List (List ℕ) → List ℕ
-missing_report content zone table received =
-    missing_report_from content zone table.rows received table.patterns (held_in content table.rows FixcatHold)
-
--- the same report as JSON
 abbrev pub missing_json_from : Content → List ℕ → List ZoneRow → List (List ℕ) → List (List ℕ) → List Hold → List ℕ
 missing_json_from content zone rows received patterns holds =
     missing_json_of content zone holds (missing_rows_of content rows received patterns holds)
 
-abbrev pub missing_json_text : Content → List ℕ → ZoneTable → List (List ℕ) → List ℕ
-missing_json_text content zone table received =
-    missing_json_from content zone table.rows received table.patterns (held_in content table.rows FixcatHold)
+-- what is wanted of a report
+abbrev pub text_from : Report → Wanted → Content → List ℕ → List ZoneRow → List (List ℕ) → List (List ℕ) → List Hold → List ℕ
+text_from ErrSysmods (Rows Text) content zone rows received patterns holds = err_report_from content zone rows received holds
+text_from ErrSysmods (Rows Json) content zone rows received patterns holds = err_json_from content zone rows received holds
+text_from MissingFix (Rows Text) content zone rows received patterns holds = missing_report_from content zone rows received patterns holds
+text_from MissingFix (Rows Json) content zone rows received patterns holds = missing_json_from content zone rows received patterns holds
+text_from report (Plan form) content zone rows received patterns holds = plan_answer_of report form content rows received patterns holds zone
 
--- the plan for the exception SYSMOD report on a zone, in print and as JSON
-abbrev pub err_plan_text : Content → List ℕ → ZoneTable → List (List ℕ) → List ℕ
-err_plan_text content zone table received = err_plan_text_of content table.rows received (held_in content table.rows ErrorHold) zone
+-- the kind of the holds from which a report is made
+abbrev pub kind_of : Report → Kind
+kind_of ErrSysmods = ErrorHold
+kind_of MissingFix = FixcatHold
 
-abbrev pub err_plan_json_text : Content → List ℕ → ZoneTable → List (List ℕ) → List ℕ
-err_plan_json_text content zone table received = err_plan_json_of content table.rows received (held_in content table.rows ErrorHold) zone
+-- the patterns of a zone, of a report that has some
+abbrev pub patterns_for : Report → Option ZoneTable → List (List ℕ)
+patterns_for ErrSysmods found = []
+patterns_for MissingFix found = patterns_of found
 
--- the plan for the missing fix report on a zone, in print and as JSON
-abbrev pub missing_plan_text : Content → List ℕ → ZoneTable → List (List ℕ) → List ℕ
-missing_plan_text content zone table received =
-    missing_plan_text_of content table.rows received table.patterns (held_in content table.rows FixcatHold) zone
+-- what is wanted of a report on a zone
+abbrev pub report_text : Report → Wanted → Content → List ℕ → ZoneTable → List (List ℕ) → List ℕ
+report_text report wanted content zone table received =
+    text_from report wanted content zone table.rows received (patterns_for report (Some table)) (held_in content table.rows (kind_of report))
 
-abbrev pub missing_plan_json_text : Content → List ℕ → ZoneTable → List (List ℕ) → List ℕ
-missing_plan_json_text content zone table received =
-    missing_plan_json_of content table.rows received table.patterns (held_in content table.rows FixcatHold) zone
+-- ---- verdicts
 
 -- the verdict on a SYSMOD in a zone, from its rows
 abbrev pub chain_text_from : Content → List ℕ → List ZoneRow → List ℕ → List ℕ

@@ -13,9 +13,9 @@ use crate::decide::decide;
 use crate::outcome::{NoRoom, Outcome};
 use crate::{Call, NoMemory, Reply};
 use bureau_store::{Caller, Store, StoreFault};
-use chains::Judge;
 use std::alloc::Global;
 use std::marker::Model;
+use verdicts::Judge;
 
 /// The bureau that all callers share, over a store and a judge. A contract sees both.
 #[derive(Drop)]

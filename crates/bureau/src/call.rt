@@ -1,5 +1,6 @@
 //! Calls: what a caller may ask of the bureau, with the number and the body of a change.
 use mcs_reader::Id;
+use questions::{Form, Wanted};
 
 /// A call: what a caller asks of the bureau.
 ///
@@ -46,49 +47,24 @@ pub enum Call<'a> {
         /// The patterns, as CSV.
         body: &'a [u8],
     },
-    /// A client asks which zones it has, in print.
-    ListZones,
-    /// A client asks which zones it has, as JSON.
-    ListZonesJson,
-    /// A client asks for the exception SYSMOD report on a zone, in print.
+    /// A client asks which zones it has.
+    ListZones {
+        /// The form of the answer.
+        form: Form,
+    },
+    /// A client asks for the exception SYSMOD report on a zone, or for the plan for it.
     ErrSysmods {
         /// The zone's name.
         zone: Id,
+        /// Its rows or the plan, and in which form.
+        wanted: Wanted,
     },
-    /// A client asks for the exception SYSMOD report on a zone, as JSON.
-    ErrSysmodsJson {
-        /// The zone's name.
-        zone: Id,
-    },
-    /// A client asks for the missing fix report on a zone, in print.
+    /// A client asks for the missing fix report on a zone, or for the plan for it.
     MissingFix {
         /// The zone's name.
         zone: Id,
-    },
-    /// A client asks for the missing fix report on a zone, as JSON.
-    MissingFixJson {
-        /// The zone's name.
-        zone: Id,
-    },
-    /// A client asks for the plan for the exception SYSMOD report on a zone, in print.
-    ErrPlan {
-        /// The zone's name.
-        zone: Id,
-    },
-    /// A client asks for the plan for the exception SYSMOD report on a zone, as JSON.
-    ErrPlanJson {
-        /// The zone's name.
-        zone: Id,
-    },
-    /// A client asks for the plan for the missing fix report on a zone, in print.
-    MissingPlan {
-        /// The zone's name.
-        zone: Id,
-    },
-    /// A client asks for the plan for the missing fix report on a zone, as JSON.
-    MissingPlanJson {
-        /// The zone's name.
-        zone: Id,
+        /// Its rows or the plan, and in which form.
+        wanted: Wanted,
     },
     /// A client asks for the verdict on a SYSMOD in a zone.
     Chain {
@@ -97,8 +73,9 @@ pub enum Call<'a> {
         /// The SYSMOD.
         sysmod: Id,
     },
-    /// Any caller asks how much is published, in print.
-    Counts,
-    /// Any caller asks how much is published, as JSON.
-    CountsJson,
+    /// Any caller asks how much is published.
+    Counts {
+        /// The form of the answer.
+        form: Form,
+    },
 }

@@ -6,7 +6,7 @@ ghost use Rattle.bureau.specs.Outcomes.{IsFitChange, TouchesNoMore, effect_as, u
 
 use crate::outcome::{AcceptedChange, Effect};
 use bureau_store::{Store, StoreFault};
-use chains::Judge;
+use verdicts::Judge;
 
 /// Makes the change. What the judge keeps of the SYSMODs that a publication touches is forgotten before, so
 /// that the judge is right whether the change is made or not.

@@ -7,16 +7,15 @@ ghost use Rattle.bureau.specs.Calls.{call_as};
 ghost use Rattle.bureau.specs.Outcomes.{IsReplyAlone, IsOutcome, IsFit};
 ghost use Rattle.bureau.specs.Outcome.{may_ask};
 
+use crate::answers::{chain, counts, list_zones, report_answer};
 use crate::changes::{drop_zone, publish, put_patterns, put_received, put_zone};
 use crate::outcome::{NoRoom, Outcome};
-use crate::questions::{chain, counts, counts_json, list_zones, list_zones_json, report_answer};
-use crate::wanted::Report::{ErrSysmods, MissingFix};
-use crate::wanted::Wanted::{Plan, PlanJson, Rows, RowsJson};
 use crate::{Call, Reply};
 use bureau_store::{Caller, Store};
-use chains::Judge;
 use mcs_reader::Id;
+use questions::Report::{ErrSysmods, MissingFix};
 use std::alloc::Global;
+use verdicts::Judge;
 
 /// What comes of a call by a caller.
 pub(crate) fn decide<S: Store, J: Judge<S>>(
@@ -58,8 +57,7 @@ fn decide_for_publisher<S: Store>(
 {
     match *call {
         Call::Publish { number, body } => publish(alloc, store, number, body),
-        Call::Counts => reply_alone(counts(alloc, store)),
-        Call::CountsJson => reply_alone(counts_json(alloc, store)),
+        Call::Counts { form } => reply_alone(counts(alloc, store, form)),
         _ => Ok(Outcome::Answered(Reply::forbidden(alloc)?)),
     }
 }
@@ -93,37 +91,17 @@ fn decide_for_client<S: Store, J: Judge<S>>(
         Call::PutPatterns { number, zone, body } => {
             put_patterns(alloc, store, client, number, &zone, body)
         }
-        Call::ListZones => reply_alone(list_zones(alloc, store, client)),
-        Call::ListZonesJson => reply_alone(list_zones_json(alloc, store, client)),
-        Call::ErrSysmods { zone } => {
-            reply_alone(report_answer(alloc, store, judge, client, &zone, ErrSysmods, Rows))
+        Call::ListZones { form } => reply_alone(list_zones(alloc, store, client, form)),
+        Call::ErrSysmods { zone, wanted } => {
+            reply_alone(report_answer(alloc, store, judge, client, &zone, ErrSysmods, wanted))
         }
-        Call::ErrSysmodsJson { zone } => {
-            reply_alone(report_answer(alloc, store, judge, client, &zone, ErrSysmods, RowsJson))
-        }
-        Call::ErrPlan { zone } => {
-            reply_alone(report_answer(alloc, store, judge, client, &zone, ErrSysmods, Plan))
-        }
-        Call::ErrPlanJson { zone } => {
-            reply_alone(report_answer(alloc, store, judge, client, &zone, ErrSysmods, PlanJson))
-        }
-        Call::MissingFix { zone } => {
-            reply_alone(report_answer(alloc, store, judge, client, &zone, MissingFix, Rows))
-        }
-        Call::MissingFixJson { zone } => {
-            reply_alone(report_answer(alloc, store, judge, client, &zone, MissingFix, RowsJson))
-        }
-        Call::MissingPlan { zone } => {
-            reply_alone(report_answer(alloc, store, judge, client, &zone, MissingFix, Plan))
-        }
-        Call::MissingPlanJson { zone } => {
-            reply_alone(report_answer(alloc, store, judge, client, &zone, MissingFix, PlanJson))
+        Call::MissingFix { zone, wanted } => {
+            reply_alone(report_answer(alloc, store, judge, client, &zone, MissingFix, wanted))
         }
         Call::Chain { zone, sysmod } => {
             reply_alone(chain(alloc, store, judge, client, &zone, &sysmod))
         }
-        Call::Counts => reply_alone(counts(alloc, store)),
-        Call::CountsJson => reply_alone(counts_json(alloc, store)),
+        Call::Counts { form } => reply_alone(counts(alloc, store, form)),
     }
 }
 

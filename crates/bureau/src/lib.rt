@@ -15,6 +15,7 @@
 //! use bureau::{Bureau, Call};
 //! use bureau_store::{ListStore, callers};
 //! use chains::Whole;
+//! use questions::Form;
 //! let rows = callers(alloc, b"NAME,TOKEN\nPUBLISH,publisher-token\nALPHA,alpha-token\n")?;
 //! let mut bureau = Bureau::new(alloc, ListStore::new(alloc, &rows)?, Whole::new());
 //! let publisher = bureau.caller_of(b"publisher-token")?.ok_or("a caller")?;
@@ -22,25 +23,25 @@
 //! let reply = bureau.answer(&publisher, &Call::Publish { number: Some(1), body });
 //! assert_eq!(rt; reply.body.as_slice(), b"ACCEPTED SYSMODS 0 HOLDS 1 RELEASES 0\n".as_slice());
 //! let alpha = bureau.caller_of(b"alpha-token")?.ok_or("a caller")?;
-//! let reply = bureau.answer(&alpha, &Call::Counts);
+//! let reply = bureau.answer(&alpha, &Call::Counts { form: Form::Text });
 //! assert_eq!(rt; reply.body.as_slice(), b"PUBLISHED SYSMODS 0 HOLDS 1\n".as_slice());
 //! ```
 #![tactic(auto)]
 
+mod answers;
 mod bureau;
 mod call;
 mod changes;
 mod commit;
 mod decide;
+mod forms;
 mod law;
 mod number_order;
 mod outcome;
 mod publication;
-mod questions;
 mod reply;
 mod report_texts;
 mod texts;
-mod wanted;
 
 pub use bureau::Bureau;
 pub use call::Call;

@@ -2,19 +2,18 @@
 ghost use Rattle.holddata.specs.HoldBook.{IsInKeyOrder};
 ghost use Rattle.catalogue.specs.Ids.{Ascend};
 ghost use Rattle.bureau.specs.Reading.{TellsText};
-ghost use Rattle.bureau.specs.Texts.{chain_text_from, err_json_from, err_report_from, missing_json_from, missing_report_from};
-ghost use Rattle.bureau.specs.Wanted.{text_from};
+ghost use Rattle.bureau.specs.Texts.{chain_text_from, err_json_from, err_report_from, missing_json_from, missing_report_from, text_from};
 
-use crate::wanted::{Report, Wanted};
 use catalogue::{Published, SourceFault};
-use chains::Judge;
 use holddata::Hold;
 use mcs_reader::Id;
-use plan_reports::{err_plan_json, err_plan_text, missing_plan_json, missing_plan_text};
+use plan_reports::plan_answer;
+use questions::{Form, Report, Wanted};
 use report_json::{err_json, missing_json};
 use reports::{err_rows, err_text, missing_rows, missing_text, plan_json};
 use std::alloc::Global;
 use supersede::Zone;
+use verdicts::Judge;
 use zone_lists::Pattern;
 
 /// What is wanted of a report. The exception SYSMOD report has no patterns.
@@ -36,31 +35,22 @@ pub(crate) fn report_text<P: Published, J: Judge<P>>(
         (λ content. text_from report wanted content
         zone.now installed.now received.now patterns.now holds.now) }
 {
-    match report {
-        Report::ErrSysmods => match wanted {
-            Wanted::Rows => err_report(alloc, source, judge, zone, installed, received, holds),
-            Wanted::RowsJson => {
-                err_report_json(alloc, source, judge, zone, installed, received, holds)
-            }
-            Wanted::Plan => err_plan_text(alloc, source, judge, installed, received, holds, zone),
-            Wanted::PlanJson => {
-                err_plan_json(alloc, source, judge, installed, received, holds, zone)
-            }
-        },
-        Report::MissingFix => match wanted {
-            Wanted::Rows => missing_report(
-                alloc, source, judge, zone, installed, received, patterns, holds,
-            ),
-            Wanted::RowsJson => missing_report_json(
-                alloc, source, judge, zone, installed, received, patterns, holds,
-            ),
-            Wanted::Plan => missing_plan_text(
-                alloc, source, judge, installed, received, patterns, holds, zone,
-            ),
-            Wanted::PlanJson => missing_plan_json(
-                alloc, source, judge, installed, received, patterns, holds, zone,
-            ),
-        },
+    match (report, wanted) {
+        (Report::ErrSysmods, Wanted::Rows(Form::Text)) => {
+            err_report(alloc, source, judge, zone, installed, received, holds)
+        }
+        (Report::ErrSysmods, Wanted::Rows(Form::Json)) => {
+            err_report_json(alloc, source, judge, zone, installed, received, holds)
+        }
+        (Report::MissingFix, Wanted::Rows(Form::Text)) => missing_report(
+            alloc, source, judge, zone, installed, received, patterns, holds,
+        ),
+        (Report::MissingFix, Wanted::Rows(Form::Json)) => missing_report_json(
+            alloc, source, judge, zone, installed, received, patterns, holds,
+        ),
+        (_, Wanted::Plan(form)) => plan_answer(
+            alloc, source, judge, report, form, zone, installed, received, patterns, holds,
+        ),
     }
 }
 

@@ -11,6 +11,8 @@ use columns::{Column, Table};
 use holddata::HoldChange;
 use itoa::Buffer;
 use mcs_reader::Id;
+use questions::Form;
+use report_json::{published_json, zones_json};
 use std::alloc::Global;
 use zone_lists::{Pattern, ZoneRow};
 
@@ -26,8 +28,23 @@ const ZONE_COLUMNS: [Column; 2] = [
     },
 ];
 
-/// How much is published: so many SYSMODs and so many holds.
-pub(crate) fn counts_line(alloc: Global, sysmods: u64, holds: u64) -> Result<Vec<u8>, NoMemory>
+/// How much is published, in a form: so many SYSMODs and so many holds.
+pub(crate) fn counts_told(
+    alloc: Global,
+    form: Form,
+    sysmods: u64,
+    holds: u64,
+) -> Result<Vec<u8>, NoMemory>
+    ensures { IfOk result (λ text. text.items ≡ Spec.counts_told form sysmods holds) }
+{
+    match form {
+        Form::Text => counts_line(alloc, sysmods, holds),
+        Form::Json => published_json(alloc, sysmods, holds),
+    }
+}
+
+// The same in print.
+fn counts_line(alloc: Global, sysmods: u64, holds: u64) -> Result<Vec<u8>, NoMemory>
     ensures { IfOk result (λ text. text.items ≡
         codes "PUBLISHED SYSMODS " ++ decimal sysmods ++ codes " HOLDS " ++ decimal holds ++ codes "\n") }
 {
@@ -93,8 +110,22 @@ pub(crate) fn received_line(alloc: Global, ids: &[Id]) -> Result<Vec<u8>, NoMemo
     Ok(text)
 }
 
-/// A client's zones with how many SYSMODs each has, in columns.
-pub(crate) fn zones_table(alloc: Global, zones: &[(Id, u64)]) -> Result<Vec<u8>, NoMemory>
+/// A client's zones with how many SYSMODs each has, in a form.
+pub(crate) fn zones_told(
+    alloc: Global,
+    form: Form,
+    zones: &[(Id, u64)],
+) -> Result<Vec<u8>, NoMemory>
+    ensures { IfOk result (λ text. text.items ≡ Spec.zones_told form zones.now) }
+{
+    match form {
+        Form::Text => zones_table(alloc, zones),
+        Form::Json => zones_json(alloc, zones),
+    }
+}
+
+// The same in columns.
+fn zones_table(alloc: Global, zones: &[(Id, u64)]) -> Result<Vec<u8>, NoMemory>
     ensures { IfOk result (λ text. text.items ≡ text_in zone_columns None (map zone_fields zones.now)) }
 {
     let mut table = Table::new(alloc, &ZONE_COLUMNS, None)?;

@@ -10,27 +10,18 @@ use Rattle.requests.specs.declared.refusal.Refusal.TheVariants.{UnknownToken}
 use Rattle.bureau_store.specs.Caller.{caller_with}
 use Rattle.bureau_store.specs.declared.caller.Caller.{Caller}
 use Rattle.bureau_store.specs.declared.caller.CallerRow.{CallerRow}
-use Rattle.bureau.specs.Call.{Call, publish, put_zone, drop_zone, put_received, put_patterns, list_zones, list_zones_json, err_sysmods, err_sysmods_json, missing_fix, missing_fix_json, err_plan, err_plan_json, missing_plan, missing_plan_json, chain, counts, counts_json}
+use Rattle.bureau.specs.Call.{Call, publish, put_zone, drop_zone, put_received, put_patterns, list_zones, report_on, chain, counts}
 
 -- the call of an action, with its number and its body
 abbrev pub call_of : Action → Option ℕ → List ℕ → Call
 call_of Action.Publish number body = publish number body
-call_of Action.Counts number body = counts
-call_of Action.CountsJson number body = counts_json
-call_of Action.ListZones number body = list_zones
-call_of Action.ListZonesJson number body = list_zones_json
+call_of (Action.Counts form) number body = counts form
+call_of (Action.ListZones form) number body = list_zones form
 call_of (Action.PutZone zone) number body = put_zone number zone body
 call_of (Action.DropZone zone) number body = drop_zone number zone
 call_of (Action.PutPatterns zone) number body = put_patterns number zone body
 call_of Action.PutReceived number body = put_received number body
-call_of (Action.ErrSysmods zone) number body = err_sysmods zone
-call_of (Action.ErrSysmodsJson zone) number body = err_sysmods_json zone
-call_of (Action.MissingFix zone) number body = missing_fix zone
-call_of (Action.MissingFixJson zone) number body = missing_fix_json zone
-call_of (Action.ErrPlan zone) number body = err_plan zone
-call_of (Action.ErrPlanJson zone) number body = err_plan_json zone
-call_of (Action.MissingPlan zone) number body = missing_plan zone
-call_of (Action.MissingPlanJson zone) number body = missing_plan_json zone
+call_of (Action.Report report wanted zone) number body = report_on report wanted zone
 call_of (Action.Chain zone sysmod) number body = chain zone sysmod
 
 -- a caller's call, or why there is none

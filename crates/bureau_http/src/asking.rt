@@ -1,5 +1,6 @@
 //! What a whole request asks, and what it is told.
 ghost use Rattle.std.specs.Prelude.{◌≡◌, true};
+ghost use Rattle.bureau.specs.Call.{report_on};
 ghost use Rattle.bureau.specs.Calls.{call_as};
 ghost use Rattle.bureau_http.specs.Asked as Spec;
 ghost use Rattle.bureau_http.specs.Asked.{has_token, what_of};
@@ -16,6 +17,8 @@ use crate::desk::Desk;
 use crate::reply::Told;
 use bureau::Call;
 use bureau_store::Caller;
+use mcs_reader::Id;
+use questions::{Report, Wanted};
 use requests::{Action, Refusal, Request, Routes};
 
 /// Asks the desk what a whole request asks, and answers what it is told, and whose token it has.
@@ -70,10 +73,8 @@ fn call_of<'a>(action: Action, request: &Request, bytes: &'a [u8]) -> Call<'a>
             number: request.number(bytes),
             body: request.body(bytes),
         },
-        Action::Counts => Call::Counts,
-        Action::CountsJson => Call::CountsJson,
-        Action::ListZones => Call::ListZones,
-        Action::ListZonesJson => Call::ListZonesJson,
+        Action::Counts(form) => Call::Counts { form },
+        Action::ListZones(form) => Call::ListZones { form },
         Action::PutZone(zone) => Call::PutZone {
             number: request.number(bytes),
             zone,
@@ -92,14 +93,17 @@ fn call_of<'a>(action: Action, request: &Request, bytes: &'a [u8]) -> Call<'a>
             number: request.number(bytes),
             body: request.body(bytes),
         },
-        Action::ErrSysmods(zone) => Call::ErrSysmods { zone },
-        Action::ErrSysmodsJson(zone) => Call::ErrSysmodsJson { zone },
-        Action::MissingFix(zone) => Call::MissingFix { zone },
-        Action::MissingFixJson(zone) => Call::MissingFixJson { zone },
-        Action::ErrPlan(zone) => Call::ErrPlan { zone },
-        Action::ErrPlanJson(zone) => Call::ErrPlanJson { zone },
-        Action::MissingPlan(zone) => Call::MissingPlan { zone },
-        Action::MissingPlanJson(zone) => Call::MissingPlanJson { zone },
+        Action::Report(report, wanted, zone) => report_call(report, wanted, zone),
         Action::Chain(zone, sysmod) => Call::Chain { zone, sysmod },
+    }
+}
+
+// The call for what is wanted of a report on a zone.
+fn report_call<'a>(report: Report, wanted: Wanted, zone: Id) -> Call<'a>
+    ensures { call_as result ≡ report_on report wanted zone }
+{
+    match report {
+        Report::ErrSysmods => Call::ErrSysmods { zone, wanted },
+        Report::MissingFix => Call::MissingFix { zone, wanted },
     }
 }

@@ -4,7 +4,7 @@ ghost use Rattle.bureau.specs.Answering.{bureau_lawful, bureau_view};
 use crate::desk::Desk;
 use bureau::{Bureau, Call, Reply};
 use bureau_store::{Caller, Store, StoreFault};
-use chains::Judge;
+use verdicts::Judge;
 
 impl<S: Store, J: Judge<S>> Desk for Bureau<S, J> {
     ghost tables_view = { bureau_view S.tables_view J.is_right };

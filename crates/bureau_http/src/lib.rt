@@ -4,7 +4,7 @@
 //! - [`serve_one`]: one connection, to its end; [`Served`], [`ConnFault`]
 //! - [`serve_next`]: the next request of a connection; [`Step`], with what the log notes of it; [`Retries`]
 //! - [`serve_list`]: connections in memory, one after the other; [`RunFault`]
-//! - [`replay`]: the same over a store in memory that begins with the callers of a file
+//! - [`replay`]: the same over a store in memory that begins with the callers of a file, with any judge
 //! - [`one_connection`]: a law: a connection's bytes are requests and a stop in one way only
 //!
 //! ```

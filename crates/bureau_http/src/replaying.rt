@@ -5,33 +5,37 @@ ghost use Rattle.bureau_store.specs.Callers.{callers_of};
 ghost use Rattle.bureau_store.specs.Lists.{IsOurs, tables_of};
 ghost use Rattle.bureau_store.specs.Tables.{opened};
 ghost use Rattle.bureau_store.specs.declared.caller.CallerRow.{CallerRow};
+ghost use Rattle.catalogue.specs.Content.{Content};
 ghost use Rattle.bureau_http.specs.List.{AreServed};
 ghost use Rattle.bureau_http.specs.Replay.{IsOutOfMemory, IsReplayFault, IsReplayed};
 
 use crate::list::serve_list;
 use bureau::Bureau;
 use bureau_store::{CallerRow, ListStore, callers};
-use chains::Whole;
 use faults::AnyFault;
 use std::alloc::Global;
+use verdicts::Judge;
 
 /// Serves connections one after the other over a store in memory that begins with the callers of a file and
-/// nothing else, and gives what was written to each.
+/// nothing else, and gives what was written to each. It is told what that is where the judge is right for every content, as
+/// a judge that keeps nothing is, and a new one.
 ///
 /// # Errors
 ///
 /// The fault of the callers file; or memory ran out.
-pub fn replay(
+pub fn replay<J: Judge<ListStore> + Drop>(
     alloc: Global,
+    judge: J,
     text: &[u8],
     connections: Vec<Vec<u8>>,
 ) -> Result<Vec<Vec<u8>>, AnyFault>
-    ensures replayed { IfOk result (λ written. IsReplayed text.now
+    ensures replayed { ((content : Content) → J.is_right judge content)
+        → IfOk result (λ written. IsReplayed text.now
         (map (λ connection. connection.items) connections.items) (map (λ text. text.items) written.items)) }
     ensures refused { IfErr result (IsReplayFault text.now) }
 {
     let rows = callers_in(alloc, text)?;
-    serve_rows(alloc, rows.as_slice(), connections)
+    serve_rows(alloc, judge, rows.as_slice(), connections)
 }
 
 // The callers of a file.
@@ -43,31 +47,35 @@ fn callers_in(alloc: Global, text: &[u8]) -> Result<Vec<CallerRow>, AnyFault>
 }
 
 // What is written to connections that are served with these callers.
-fn serve_rows(
+fn serve_rows<J: Judge<ListStore> + Drop>(
     alloc: Global,
+    judge: J,
     rows: &[CallerRow],
     connections: Vec<Vec<u8>>,
 ) -> Result<Vec<Vec<u8>>, AnyFault>
-    ensures served { IfOk result (λ written. AreServed IsRun (opened rows.now)
+    ensures served { ((content : Content) → J.is_right judge content)
+        → IfOk result (λ written. AreServed IsRun (opened rows.now)
         (map (λ connection. connection.items) connections.items) (map (λ text. text.items) written.items)) }
     ensures memory { IfErr result IsOutOfMemory }
 {
     let store = ListStore::new(alloc, rows)?;
-    serve_store(alloc, store, connections)
+    serve_store(alloc, judge, store, connections)
 }
 
 // What is written to connections that a store is served to.
-fn serve_store(
+fn serve_store<J: Judge<ListStore> + Drop>(
     alloc: Global,
+    judge: J,
     store: ListStore,
     connections: Vec<Vec<u8>>,
 ) -> Result<Vec<Vec<u8>>, AnyFault>
     requires { IsOurs store }
-    ensures served { IfOk result (λ written. AreServed IsRun (tables_of store)
+    ensures served { ((content : Content) → J.is_right judge content)
+        → IfOk result (λ written. AreServed IsRun (tables_of store)
         (map (λ connection. connection.items) connections.items) (map (λ text. text.items) written.items)) }
     ensures memory { IfErr result IsOutOfMemory }
 {
-    let mut bureau = Bureau::new(alloc, store, Whole::new());
+    let mut bureau = Bureau::new(alloc, store, judge);
     match serve_list(alloc, &mut bureau, connections) {
         Ok(written) => Ok(written),
         Err((fault, _)) => Err(AnyFault::from(fault)),

@@ -22,8 +22,8 @@ use Rattle.bureau_sql.proofs.FilesFacts.{earlier_found, store_found}
 use Rattle.catalogue.specs.View.{Goes}
 use Rattle.chain_cache.specs.Cache.{CacheLists, IsRightFor}
 use Rattle.faults.specs.declared.any.AnyFault.{AnyFault}
-use Rattle.sql_state.specs.Ours.{IsOurs, held_by}
-use Rattle.sql_state.proofs.StopFacts.{was_clean}
+use Rattle.sql_tables.specs.Ours.{IsOurs, held_by}
+use Rattle.sql_tables.proofs.StopFacts.{was_clean}
 use Rattle.sql_tables.specs.InTrees.{stored_in}
 use Rattle.sql_tables.specs.Stored.{tables_of}
 use Rattle.sql_tables.proofs.ChangeFacts.{tables_in_order}

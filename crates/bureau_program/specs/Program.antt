@@ -13,7 +13,8 @@ use Rattle.command_line.specs.declared.line.LineFault.{LineFault}
 use Rattle.command_line.specs.declared.line.LineFault.TheVariants as line_fault
 use Rattle.report_runs.specs.Holds.{IsHolds}
 use Rattle.report_runs.specs.ReportFiles.{IsChain, IsReport}
-use Rattle.report_runs.specs.declared.reporting.Report.TheVariants.{ErrSysmods, MissingFix}
+use Rattle.questions.specs.declared.report.Report.TheVariants.{ErrSysmods, MissingFix}
+use Rattle.report_runs.specs.declared.reporting.Question.TheVariants.{Report}
 use Rattle.run_parts.specs.Files.{KnownFile, AreContents, IsContent}
 pub use Rattle.run_parts.specs.Outputs.{Outputs, IsEndedBy, IsExplained, outputs_of}
 use Rattle.run_parts.specs.declared.fault.ProgramFault.TheVariants.{NotRead, Memory}
@@ -82,9 +83,9 @@ module _ (found : Found) (from : Image) {D : Type 0} {g : disk.Ghosts D} where
   IsAnswered (Ok (line.Migrate store)) input rest outputs status ended =
       Keeps input rest × NobodyCame found × IsMigrate found.stores from (string_bytes store) outputs status ended
   IsAnswered (Ok (line.ErrSysmods files)) input rest outputs status ended =
-      IsReport found.files ErrSysmods files input rest outputs status × NobodyCame found × IsNothing ended
+      IsReport found.files (Report ErrSysmods) files input rest outputs status × NobodyCame found × IsNothing ended
   IsAnswered (Ok (line.MissingFix files)) input rest outputs status ended =
-      IsReport found.files MissingFix files input rest outputs status × NobodyCame found × IsNothing ended
+      IsReport found.files (Report MissingFix) files input rest outputs status × NobodyCame found × IsNothing ended
   IsAnswered (Ok (line.Chain sysmod files)) input rest outputs status ended =
       IsChain found.files (string_bytes sysmod) files input rest outputs status × NobodyCame found × IsNothing ended
   IsAnswered (Ok (line.Check store)) input rest outputs status ended =

@@ -10,7 +10,8 @@ use crate::replay::run_replay;
 use crate::serving::{Service, run_serve};
 use crate::surroundings::Surroundings;
 use command_line::{Line, LineFault, line_of};
-use report_runs::{Report, do_chain, do_holds, do_report};
+use questions::Report;
+use report_runs::{Question, do_chain, do_holds, do_report};
 use run_parts::{ProgramFault, explain, read_file, refuse};
 use sqlite::{FileFrom, Start};
 use std::alloc::Global;
@@ -114,13 +115,13 @@ fn answer<S: Surroundings, D: Start, I: Read, O: Write, E: Write>(
             migrate_file(surroundings, alloc, store.as_str(), start, output, errors)
         }
         Ok(Line::ErrSysmods { files }) => {
-            let report = Report::ErrSysmods;
-            let status = do_report(surroundings, alloc, report, files, input, output, errors);
+            let question = Question::Report(Report::ErrSysmods);
+            let status = do_report(surroundings, alloc, question, files, input, output, errors);
             (status, Ended::Nothing)
         }
         Ok(Line::MissingFix { files }) => {
-            let report = Report::MissingFix;
-            let status = do_report(surroundings, alloc, report, files, input, output, errors);
+            let question = Question::Report(Report::MissingFix);
+            let status = do_report(surroundings, alloc, question, files, input, output, errors);
             (status, Ended::Nothing)
         }
         Ok(Line::Chain { sysmod, files }) => {

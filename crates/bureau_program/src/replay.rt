@@ -19,7 +19,6 @@ use bureau::Bureau;
 use bureau_http::serve_list;
 use bureau_sql::{SqlStore, init};
 use bureau_store::{CallerRow, Store, StoreFault};
-use chains::Judge;
 use faults::AnyFault;
 use ram_disk::RamDisk;
 use run_parts::{ProgramFault, told};
@@ -30,6 +29,7 @@ use std::hash::RandomState;
 use std::io::Write;
 use store_runs::{callers_in, of_store};
 use transfer::{RETRIES, write_whole};
+use verdicts::Judge;
 
 // How many pages are kept besides those in the files, which stand in memory too: one mebibyte of them.
 const PAGES: usize = 256;

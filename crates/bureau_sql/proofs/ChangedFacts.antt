@@ -14,13 +14,13 @@ use Rattle.sqlite_trees.specs.declared.store.Store.{Ghosts}
 use Rattle.sql_tables.specs.InTrees.{stored_in}
 use Rattle.sql_tables.specs.Stored.{Stored, tables_of}
 use Rattle.sql_tables.specs.Whole.{IsWhole}
-use Rattle.sql_state.specs.Ours.{AreOurs, IsOurs, held_by}
+use Rattle.sql_tables.specs.Ours.{AreOurs, IsOurs, held_by}
 use Rattle.bureau_sql.specs.Committed.{AreChanged, HaveChange, IsCommitted}
 use Rattle.bureau_sql.specs.Laws.{sql_lawful}
 use Rattle.bureau_sql.specs.SqlState.{SqlState}
 use Rattle.bureau_sql.specs.SqlView.{IsAtRest, IsOurStore, shown, sql_view}
 use Rattle.bureau_sql.specs.Told.{IsTold}
-use Rattle.sql_state.proofs.StopFacts.{was_clean}
+use Rattle.sql_tables.proofs.StopFacts.{was_clean}
 use Rattle.bureau_sql.proofs.ToldFacts.{failed_since, never_failed}
 
 -- a store settles by what its connection rests on

@@ -10,12 +10,12 @@ use Rattle.sqlite.proofs.StateLemmas.{survives_then}
 use Rattle.sqlite_trees.specs.declared.store.Store.{Ghosts}
 use Rattle.sql_texts.specs.Schema.{bureau}
 use Rattle.sql_tables.specs.Stored.{Stored}
-use Rattle.sql_state.specs.Ours.{IsOurs, held_by}
-use Rattle.sql_state.proofs.OursFacts as own
-use Rattle.sql_state.specs.Writing.{Changes, IsKnown}
+use Rattle.sql_tables.specs.Ours.{IsOurs, held_by}
+use Rattle.sql_tables.proofs.OursFacts as own
+use Rattle.sql_tables.specs.Writing.{Changes, IsKnown}
 use Rattle.bureau_sql.specs.Failing.{FailsToEnd}
 use Rattle.bureau_sql.specs.Committed.{AreChanged, HaveChange, IsCommitted}
-use Rattle.sql_state.proofs.StopFacts.{kept_begun, kept_failing, kept_then, kept_unchanged, no_read, was_clean}
+use Rattle.sql_tables.proofs.StopFacts.{kept_begun, kept_failing, kept_then, kept_unchanged, no_read, was_clean}
 
 failed_commit_keeps : (old new : State) (e : Error) → FailsToCommit old new e → KeepsCommit old new
 failed_commit_keeps old new e (inl failed) = kept_failing old new ⊥ e failed

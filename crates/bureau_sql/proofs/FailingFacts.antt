@@ -18,11 +18,11 @@ use Rattle.sql_writes.specs.Excused.{Excuses, IsExcused}
 use Rattle.sql_writes.specs.Making.{Leads}
 use Rattle.sql_writes.specs.Room.{AreUpTo, HasRoom, IsRoomy}
 use Rattle.sql_tables.specs.Stored.{Stored}
-use Rattle.sql_state.specs.Ours.{IsOurs, held_by}
-use Rattle.sql_state.specs.Reading.{HasFailed, OnlyReads}
-use Rattle.sql_state.specs.Writing.{Changes, IsKnown}
-use Rattle.sql_state.proofs.OursFacts.{known}
-use Rattle.sql_state.proofs.StopFacts.{was_clean}
+use Rattle.sql_tables.specs.Ours.{IsOurs, held_by}
+use Rattle.sql_tables.specs.Reading.{HasFailed, OnlyReads}
+use Rattle.sql_tables.specs.Writing.{Changes, IsKnown}
+use Rattle.sql_tables.proofs.OursFacts.{known}
+use Rattle.sql_tables.proofs.StopFacts.{was_clean}
 use Rattle.bureau_sql.specs.Failing.{CannotWrite, FailsToChange, FailsToEnd, RefusesExcused}
 use Rattle.bureau_sql.specs.SqlState.{SqlState}
 use Rattle.bureau_sql.specs.SqlView.{shown}

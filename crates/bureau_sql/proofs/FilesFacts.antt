@@ -5,9 +5,9 @@ use Rattle.sqlite.specs.Effect.{Database, IsDatabase}
 use Rattle.sqlite.specs.Files.{HoldsDatabase}
 use Rattle.sqlite_trees.specs.Tree.{Trees}
 use Rattle.sqlite_wal.specs.Recovery.{Image}
-use Rattle.sql_state.specs.Earlier.{AreOfVersion1, IsOfVersion1, held_by_version_1}
-use Rattle.sql_state.specs.Ours.{AreOurs, IsOurs, held_by}
-use Rattle.sql_state.proofs.OursFacts.{found_earlier, found_ours}
+use Rattle.sql_tables.specs.Earlier.{AreOfVersion1, IsOfVersion1, held_by_version_1}
+use Rattle.sql_tables.specs.Ours.{AreOurs, IsOurs, held_by}
+use Rattle.sql_tables.proofs.OursFacts.{found_earlier, found_ours}
 use Rattle.sql_tables.specs.InTrees.{stored_in}
 use Rattle.sql_tables.specs.Stored.{tables_of}
 use Rattle.bureau_sql.specs.Files.{HoldsEarlier, HoldsStore}

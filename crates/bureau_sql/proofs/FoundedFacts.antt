@@ -11,14 +11,14 @@ use Rattle.std.specs.List.{AllByRecursion}
 use Rattle.mcs_reader.specs.Id.{IsId}
 use Rattle.bureau_store.specs.Tables as tables
 use Rattle.bureau_store.specs.declared.caller.CallerRow.{CallerRow}
-use Rattle.sql_state.specs.Ours.{IsOurs, held_by}
+use Rattle.sql_tables.specs.Ours.{IsOurs, held_by}
 use Rattle.sql_tables.proofs.ChangeFacts.{opened_tables}
 use Rattle.sql_tables.proofs.WholeFacts.{whole_opened}
 use Rattle.sql_tables.specs.Stored.{tables_of}
 use Rattle.sql_tables.specs.Whole.{IsWhole}
 use Rattle.sql_writes.specs.Making.{IsOpened, Leads}
 use Rattle.bureau_sql.specs.Founded.{AreLed, IsLed}
-use Rattle.sql_state.proofs.StopFacts.{kept_begun, kept_then, no_read, was_clean}
+use Rattle.sql_tables.proofs.StopFacts.{kept_begun, kept_then, no_read, was_clean}
 
 -- The connection at rest, as its transaction begins, after what was written, and after the end.
 module _ (old begun mid new : State) (From To : Database → Type 0) (same_now : begun.now ≡ old.now) (same_committed : begun.committed ≡ old.committed)

@@ -12,12 +12,12 @@ use Rattle.sqlite_trees.specs.Tree.{Trees}
 use Rattle.sqlite_trees.specs.declared.error.StoreError.TheVariants.{OutOfMemory}
 use Rattle.sqlite.proofs.StateLemmas.{survives_then}
 use Rattle.sqlite_catalog.specs.Listing.{IsSound}
-use Rattle.sql_state.specs.Earlier.{IsOfVersion1, held_by_version_1}
-use Rattle.sql_state.specs.Ours.{IsOurs, version_rows}
-use Rattle.sql_state.specs.Reading.{HasFailed, OnlyReads}
+use Rattle.sql_tables.specs.Earlier.{IsOfVersion1, held_by_version_1}
+use Rattle.sql_tables.specs.Ours.{IsOurs, version_rows}
+use Rattle.sql_tables.specs.Reading.{HasFailed, OnlyReads}
 use Rattle.sql_tables.specs.Whole.{IsWhole}
 use Rattle.sql_writes.specs.Migrating.{HeldEarlier, HoldsAll, IsMigration}
-use Rattle.sql_state.proofs.StopFacts.{failed_before, kept_then, was_clean}
+use Rattle.sql_tables.proofs.StopFacts.{failed_before, kept_then, was_clean}
 use Rattle.sql_writes.specs.Excused.{Excuses}
 use Rattle.bureau_sql.specs.Failing.{CannotWrite}
 use Rattle.bureau_sql.proofs.FailingFacts.{cannot_write, since}

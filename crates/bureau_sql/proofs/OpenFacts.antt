@@ -17,15 +17,15 @@ use Rattle.sqlite.specs.Query.{Query}
 use Rattle.sqlite.specs.Table.{Table}
 use Rattle.sqlite_resolve.specs.declared.compiled.Compiled.{Compiled}
 use Rattle.sqlite_resolve.specs.declared.error.CompileError.{CompileError}
-use Rattle.sql_state.specs.Earlier.{IsOfVersion1}
-use Rattle.sql_state.specs.Ours.{IsOurs}
-use Rattle.sql_state.specs.Reading.{HasFailed, OnlyReads}
+use Rattle.sql_tables.specs.Earlier.{IsOfVersion1}
+use Rattle.sql_tables.specs.Ours.{IsOurs}
+use Rattle.sql_tables.specs.Reading.{HasFailed, OnlyReads}
 use Rattle.sql_reads.specs.Columns.{ShowEach, ShowsAll, tables_of_version_1}
 use Rattle.sql_reads.specs.Version.{MeansNothing, Withholds, WithholdsVersion}
 use Rattle.sql_texts.specs.Meaning.{MakesTable, Reads}
 use Rattle.sql_texts.specs.Schema.{bureau, bureau_1, sysmod_cond}
-use Rattle.sql_state.proofs.StopFacts.{failed_after, was_clean}
-pub use Rattle.sql_state.proofs.StopFacts.{no_read, read_on}
+use Rattle.sql_tables.proofs.StopFacts.{failed_after, was_clean}
+pub use Rattle.sql_tables.proofs.StopFacts.{no_read, read_on}
 use Rattle.bureau_sql.specs.Opening.{Asked, CanAsk, CanMakeConditions, CannotAsk, CannotMakeConditions, HasOtherShape, HasTables, IsAskedBy, IsNoStore, IsNotEarlier, IsNotMigrated, IsNotOf, IsOfBureau, IsOneStatement, IsOther, IsSeen, IsUnderstood, LacksConditions, LacksMore, LacksTables, LacksText, LacksVersion, TellsVersion, of_conditions, of_table, of_version}
 use Rattle.bureau_sql.proofs.FitFacts.{all_seen, all_so_far}
 

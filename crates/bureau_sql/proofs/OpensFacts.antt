@@ -15,7 +15,7 @@ use Rattle.sqlite.specs.declared.error.Error.{Error}
 use Rattle.sqlite_resolve.specs.declared.compiled.Compiled.{Compiled}
 use Rattle.sqlite_value.specs.Order.{Row}
 use Rattle.sql_reads.specs.Version.{Withholds, WithholdsVersion}
-use Rattle.sql_state.specs.Ours.{IsOurs}
+use Rattle.sql_tables.specs.Ours.{IsOurs}
 use Rattle.sql_texts.specs.Meaning.{Reads, selection, statement}
 use Rattle.sql_texts.specs.Reads as read
 use Rattle.sql_texts.specs.Schema.{bureau}

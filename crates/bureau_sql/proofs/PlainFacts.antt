@@ -10,9 +10,9 @@ use Rattle.sqlite_trees.specs.declared.error.StoreError.{StoreError}
 use Rattle.sqlite_trees.specs.declared.error.StoreError.TheVariants.{OutOfMemory, Io, Corrupt, Full, Broken, Unstorable}
 use Rattle.sqlite.specs.State.{store_error}
 use Rattle.sqlite_value.specs.Order.{Row}
-use Rattle.sql_state.specs.Reading.{OnlyReads}
-use Rattle.sql_state.proofs.ReadFacts.{refused_keeps, refused_unless, shown_unchanged, survives_read}
-use Rattle.sql_state.proofs.StopFacts.{kept_unchanged, kept_unrun}
+use Rattle.sql_tables.specs.Reading.{OnlyReads}
+use Rattle.sql_tables.proofs.StateReadFacts.{refused_keeps, refused_unless, shown_unchanged, survives_read}
+use Rattle.sql_tables.proofs.StopFacts.{kept_unchanged, kept_unrun}
 
 no_store_error : (cause : StoreError) → InvalidQuery ≡ store_error cause → ⊥
 no_store_error OutOfMemory is = cc

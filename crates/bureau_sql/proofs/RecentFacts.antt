@@ -7,11 +7,11 @@ use Rattle.bureau_store.specs.Caller.{caller_with}
 use Rattle.bureau_store.specs.Tables.{zone_named}
 use Rattle.bureau_store.specs.declared.caller.Caller.{Caller}
 use Rattle.sqlite.specs.State.{HasCleanDisk, State}
-use Rattle.sql_state.specs.Ours.{IsOurs, held_by}
-use Rattle.sql_state.specs.Reading.{OnlyReads}
+use Rattle.sql_tables.specs.Ours.{IsOurs, held_by}
+use Rattle.sql_tables.specs.Reading.{OnlyReads}
 use Rattle.zone_lists.specs.declared.zones.ZoneRow.{ZoneRow}
 use Rattle.sql_tables.specs.Stored.{Stored, tables_of}
-use Rattle.sql_state.proofs.StopFacts.{was_clean}
+use Rattle.sql_tables.proofs.StopFacts.{was_clean}
 use Rattle.bureau_sql.specs.Recent.{AreReadFrom, AreZonesOf, HasMore, IsRecent, RecentLists}
 
 -- what the committed rows are after a read, they were before

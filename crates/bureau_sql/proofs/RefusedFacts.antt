@@ -16,8 +16,8 @@ use Rattle.sqlite_trees.specs.declared.error.StoreError.{StoreError}
 use Rattle.sqlite_trees.specs.declared.error.StoreError.TheVariants.{OutOfMemory, Io, Corrupt, Full, Broken, Unstorable}
 use Rattle.lemmas.proofs.TestFacts.{low_itself}
 use Rattle.sql_texts.specs.Meaning.{Means}
-use Rattle.sql_state.specs.Reading.{HasFailed}
-use Rattle.sql_state.proofs.StopFacts.{failed_by}
+use Rattle.sql_tables.specs.Reading.{HasFailed}
+use Rattle.sql_tables.proofs.StopFacts.{failed_by}
 use Rattle.bureau_sql.specs.Opening.{IsOneStatement, IsSeen, IsToldOf}
 
 -- a text that these tables give one meaning is not refused for it

@@ -5,9 +5,9 @@ use Rattle.bureau_store.specs.Tables.{Tables}
 use Rattle.sqlite.specs.State.{HasCleanDisk}
 use Rattle.sqlite_trees.specs.declared.store.Store.{Ghosts}
 use Rattle.sql_tables.specs.Stored.{Stored, tables_of}
-use Rattle.sql_state.specs.Ours.{IsOurs, held_by}
-use Rattle.sql_state.specs.Reading.{Finds}
-use Rattle.sql_state.proofs.StopFacts.{read_on}
+use Rattle.sql_tables.specs.Ours.{IsOurs, held_by}
+use Rattle.sql_tables.specs.Reading.{Finds}
+use Rattle.sql_tables.proofs.StopFacts.{read_on}
 use Rattle.bureau_sql.specs.SqlState.{SqlState}
 use Rattle.bureau_sql.specs.SqlView.{Stays, shown, sql_view}
 use Rattle.bureau_sql.specs.Told.{IsTold}

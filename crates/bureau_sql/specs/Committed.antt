@@ -7,8 +7,8 @@ use Rattle.sqlite_trees.specs.Tree.{Trees}
 use Rattle.sql_texts.specs.Schema.{bureau}
 use Rattle.sql_tables.specs.InTrees.{stored_in}
 use Rattle.sql_tables.specs.Stored.{Stored}
-use Rattle.sql_state.specs.Numbered.{AreNumbered}
-use Rattle.sql_state.specs.Ours.{IsOurs, held_by}
+use Rattle.sql_tables.specs.Numbered.{AreNumbered}
+use Rattle.sql_tables.specs.Ours.{IsOurs, held_by}
 
 -- The trees list the tables of version 2 and obey them. Their rows are those of a database with this change, under numbers that
 -- rise, and the version is the same.

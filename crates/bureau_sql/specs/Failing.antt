@@ -9,7 +9,7 @@ use Rattle.sqlite.specs.Steps.{FailsToCommit}
 use Rattle.sqlite.specs.declared.error.Error.{Error}
 use Rattle.sqlite_trees.specs.Tree.{Trees}
 use Rattle.sqlite_trees.specs.declared.store.Store.{Ghosts}
-use Rattle.sql_state.specs.Reading.{HasFailed}
+use Rattle.sql_tables.specs.Reading.{HasFailed}
 use Rattle.sql_writes.specs.Excused.{Excuses}
 use Rattle.sql_writes.specs.Room.{AreUpTo, HasRoom}
 use Rattle.bureau_sql.specs.SqlState.{SqlState}

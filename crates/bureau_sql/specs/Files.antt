@@ -4,8 +4,8 @@ use Rattle.bureau_store.specs.Tables.{Tables}
 use Rattle.sqlite.specs.Files.{HoldsDatabase}
 use Rattle.sqlite_trees.specs.Tree.{Trees}
 use Rattle.sqlite_wal.specs.Recovery.{Image}
-use Rattle.sql_state.specs.Earlier.{AreOfVersion1}
-use Rattle.sql_state.specs.Ours.{AreOurs}
+use Rattle.sql_tables.specs.Earlier.{AreOfVersion1}
+use Rattle.sql_tables.specs.Ours.{AreOurs}
 use Rattle.sql_tables.specs.InTrees.{stored_in}
 use Rattle.sql_tables.specs.Stored.{tables_of}
 

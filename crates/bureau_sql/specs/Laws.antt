@@ -9,9 +9,9 @@ use Rattle.sqlite.specs.State.{HasCleanDisk}
 use Rattle.sqlite_trees.specs.declared.store.Store.{Ghosts}
 use Rattle.sql_tables.specs.Stored.{tables_of}
 use Rattle.sql_tables.proofs.ChangeFacts.{tables_in_order}
-use Rattle.sql_state.specs.Ours.{IsOurs, held_by}
-use Rattle.sql_state.specs.Reading.{OnlyReads}
-use Rattle.sql_state.proofs.StopFacts.{no_read, read_on, was_clean}
+use Rattle.sql_tables.specs.Ours.{IsOurs, held_by}
+use Rattle.sql_tables.specs.Reading.{OnlyReads}
+use Rattle.sql_tables.proofs.StopFacts.{no_read, read_on, was_clean}
 use Rattle.bureau_sql.specs.SqlState.{SqlState}
 use Rattle.bureau_sql.specs.SqlView.{IsOurStore, shown, sql_view, tables_in}
 

@@ -5,9 +5,9 @@ use Rattle.bureau_store.specs.declared.fault.StoreFault.TheVariants.{Device, Mem
 use Rattle.sqlite.specs.Effect.{Database}
 use Rattle.sqlite.specs.State.{HasCleanDisk, KeepsCommit, State}
 use Rattle.sqlite_trees.specs.Tree.{Trees}
-use Rattle.sql_state.specs.Earlier.{IsOfVersion1, held_by_version_1}
-use Rattle.sql_state.specs.Ours.{IsOurs, version_rows}
-use Rattle.sql_state.specs.Reading.{HasFailed}
+use Rattle.sql_tables.specs.Earlier.{IsOfVersion1, held_by_version_1}
+use Rattle.sql_tables.specs.Ours.{IsOurs, version_rows}
+use Rattle.sql_tables.specs.Reading.{HasFailed}
 use Rattle.sql_writes.specs.Migrating.{HeldEarlier, HoldsAll, IsMigration}
 use Rattle.bureau_sql.specs.Founded.{IsLed}
 use Rattle.bureau_sql.specs.Opening.{IsTaken}

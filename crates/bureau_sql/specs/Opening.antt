@@ -17,9 +17,9 @@ use Rattle.sqlite_trees.specs.declared.error.StoreError.TheVariants.{Broken, Cor
 use Rattle.sql_reads.specs.Columns.{all_of, tables_of_version_1}
 use Rattle.sql_reads.specs.Version.{HasVersion, WithholdsVersion}
 use Rattle.bureau_sql.specs.Failing.{CannotWrite}
-use Rattle.sql_state.specs.Earlier.{IsOfVersion1}
-use Rattle.sql_state.specs.Ours.{IsOurs}
-use Rattle.sql_state.specs.Reading.{HasFailed}
+use Rattle.sql_tables.specs.Earlier.{IsOfVersion1}
+use Rattle.sql_tables.specs.Ours.{IsOurs}
+use Rattle.sql_tables.specs.Reading.{HasFailed}
 use Rattle.sql_texts.specs.Meaning.{MakesTable, Reads}
 use Rattle.sql_texts.specs.Reads as read
 use Rattle.sql_texts.specs.Schema.{bureau, bureau_1, columns_of, sysmod_cond}

@@ -5,7 +5,7 @@ use Rattle.bureau_store.specs.Caller.{caller_with}
 use Rattle.bureau_store.specs.Tables.{Tables, zone_named}
 use Rattle.bureau_store.specs.declared.caller.Caller.{Caller}
 use Rattle.sqlite.specs.State.{HasCleanDisk, State}
-use Rattle.sql_state.specs.Ours.{IsOurs, held_by}
+use Rattle.sql_tables.specs.Ours.{IsOurs, held_by}
 use Rattle.sql_tables.specs.Stored.{tables_of}
 use Rattle.zone_lists.specs.declared.zones.ZoneRow.{ZoneRow}
 

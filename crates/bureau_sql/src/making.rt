@@ -3,7 +3,7 @@ ghost use Rattle.std.specs.Prelude.{◌≡◌, ◌↔◌, IfErr, IsTrue, OnErr, 
 ghost use Rattle.bureau_store.specs.Tables.{opened};
 ghost use Rattle.sqlite.specs.Held.{state};
 ghost use Rattle.sqlite.specs.State.{HasCleanDisk, KeepsCommit, Survives};
-ghost use Rattle.sql_state.specs.Ours.{IsOurs, held_by};
+ghost use Rattle.sql_tables.specs.Ours.{IsOurs, held_by};
 ghost use Rattle.sql_tables.specs.Stored.{tables_of};
 ghost use Rattle.sql_writes.specs.Making.{AreFit, IsEmpty, IsOpened};
 ghost use Rattle.bureau_sql.specs.Failing.{RefusesExcused};

@@ -4,7 +4,7 @@ ghost use Rattle.sqlite.specs.State.{HasCleanDisk, store_error};
 ghost use Rattle.sqlite.specs.declared.error.Error.TheVariants.{InvalidQuery};
 ghost use Rattle.sqlite_trees.specs.declared.error.StoreError.TheVariants.{OutOfMemory};
 ghost use Rattle.sqlite.specs.Held.{state};
-ghost use Rattle.sql_state.specs.Reading.{HasFailed, OnlyReads};
+ghost use Rattle.sql_tables.specs.Reading.{HasFailed, OnlyReads};
 ghost use Rattle.bureau_store.specs.declared.fault.StoreFault.TheVariants.{Device};
 ghost use Rattle.bureau_store.specs.Store.{IsOfRead};
 

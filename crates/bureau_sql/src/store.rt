@@ -7,8 +7,8 @@ ghost use Rattle.bureau_store.specs.declared.fault.StoreFault.TheVariants.{Devic
 ghost use Rattle.sqlite.specs.Held.{state};
 ghost use Rattle.sqlite.specs.State.{HasCleanDisk, store_error};
 ghost use Rattle.sqlite_trees.specs.declared.error.StoreError.TheVariants.{OutOfMemory};
-ghost use Rattle.sql_state.specs.Ours.{IsOurs, held_by};
-ghost use Rattle.sql_state.specs.Reading.{HasFailed as HasFailedSince, OnlyReads};
+ghost use Rattle.sql_tables.specs.Ours.{IsOurs, held_by};
+ghost use Rattle.sql_tables.specs.Reading.{HasFailed as HasFailedSince, OnlyReads};
 ghost use Rattle.sql_tables.specs.Stored.{tables_of};
 ghost use Rattle.bureau_sql.specs.SqlView.{IsAtRest, IsOurStore, shown, sql_view};
 ghost use Rattle.bureau_sql.specs.Told.{IsOutOfRoom, IsRefusedAs, IsRefusedFor, IsTold};
@@ -17,6 +17,7 @@ use crate::probe::look;
 use crate::recent::Recent;
 use bureau_store::StoreFault;
 use catalogue::SourceFault;
+use failure_count::count_failure;
 use sql_reads::ReadFault;
 use sqlite::{Connection, Error, ErrorCode};
 use sqlite_trees::store::Alter;
@@ -94,7 +95,7 @@ impl<S: Alter> SqlStore<S> {
         ensures rises { self.old.failures ≤ self.new.failures }
         ensures closed { 0 < self.new.failures }
     {
-        self.failures = self.failures.saturating_add(1);
+        count_failure(&mut self.failures);
     }
 
     // Closes a store whose connection was not seen to be open, for this fault of the look.

@@ -10,10 +10,10 @@ use Rattle.catalogue.specs.Ids.{Ascend, in_order}
 use Rattle.catalogue.specs.Touched.{AgreeOutside}
 use Rattle.catalogue.proofs.IdFacts.{in_order_has}
 use Rattle.zone_lists.specs.declared.zones.ZoneRow.{ZoneRow}
-use Rattle.chains.specs.Marks.{IsListingBut}
-use Rattle.chains.specs.Sights.{IsListing, ListingLists}
+use Rattle.listings.specs.Marks.{IsListingBut}
+use Rattle.listings.specs.Sights.{IsListing, ListingLists}
 use Rattle.chains.specs.Surveys.{IsSurvey, SurveyLists}
-use Rattle.chains.proofs.MarkFacts.{listing_but, more_marks, still_listed}
+use Rattle.listings.proofs.MarkFacts.{listing_but, more_marks, still_listed}
 use Rattle.chain_cache.specs.Cache.{AreSurveys, MayBeMarked, SurveyedLists, ZoneSurvey, nothing_surveyed}
 
 -- what is catalogued is put

@@ -7,7 +7,7 @@ use Rattle.std.proofs.lemmas.List.Sums.{fold-append}
 use Rattle.zone_lists.specs.declared.zones.ZoneRow.{ZoneRow}
 use Rattle.catalogue.specs.Content.{Content}
 use Rattle.catalogue.specs.Ids.{id_cmp, in_order, put_among}
-use Rattle.chains.specs.United.{plan_in, united}
+use Rattle.verdicts.specs.United.{plan_in, united}
 
 -- the plan of one more id is put among those of the ids before it
 united_push : (content : Content) (rows : List ZoneRow) (ids : List (List ℕ)) (id : List ℕ) → put_among (united content rows ids) (plan_in content rows id) ≡ united content rows (ids ++ id ∷ [])

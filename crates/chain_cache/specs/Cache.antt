@@ -6,8 +6,8 @@ use Rattle.zone_lists.specs.declared.zones.ZoneRow.{ZoneRow}
 use Rattle.catalogue.specs.Content.{Content}
 use Rattle.catalogue.specs.Ids.{same_id}
 use Rattle.chains.specs.Frames.{FrameLists, IsFrame, shares}
-use Rattle.chains.specs.Marks.{IsListingBut}
-use Rattle.chains.specs.Sights.{ListingLists}
+use Rattle.listings.specs.Marks.{IsListingBut}
+use Rattle.listings.specs.Sights.{ListingLists}
 use Rattle.chains.specs.Surveys.{IsSurvey, SurveyLists}
 
 -- a zone that was looked over whole, with its survey

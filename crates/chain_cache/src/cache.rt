@@ -9,16 +9,16 @@ ghost use Rattle.catalogue.specs.View.{MayAsk, Tells};
 ghost use Rattle.catalogue.specs.declared.fault.SourceFault.TheVariants.{Device};
 ghost use Rattle.chain_cache.specs.Cache.{AreFew, AreFilled, CacheLists, IsAsked, IsFilled, IsFresh, IsRightFor, KeepsFrames, MayBeMarked, after_hit, has, nothing_surveyed, untouched};
 ghost use Rattle.chain_cache.specs.Lent.{ends_filled};
-ghost use Rattle.chains.specs.Candidates.{candidates_unless_there};
+ghost use Rattle.verdicts.specs.Candidates.{candidates_unless_there};
 ghost use Rattle.chains.specs.Frames.{FrameLists, IsFrame};
-ghost use Rattle.chains.specs.Judge as judge;
-ghost use Rattle.chains.specs.United.{united};
-ghost use Rattle.chains.specs.Verdicts.{verdict_of};
+ghost use Rattle.verdicts.specs.Judge as judge;
+ghost use Rattle.verdicts.specs.United.{united};
+ghost use Rattle.verdicts.specs.Verdicts.{verdict_of};
 
 use crate::dropping::drop_among;
 use crate::surveys::Surveys;
 use catalogue::{Published, SourceFault};
-use chains::{Frame, Judge, Status, Verdict, frame, frame_within, plan};
+use chains::{Frame, frame, frame_within, plan};
 use lru::{Iter, LruCache};
 use mcs_reader::{Id, NoMemory};
 use std::alloc::Global;
@@ -26,6 +26,7 @@ use std::hash::RandomState;
 use std::marker::Model;
 use std::num::NonZeroUsize;
 use supersede::Zone;
+use verdicts::{Judge, Status, Verdict};
 
 /// Frames by their ids, the one that was used last first.
 pub(crate) type Frames = LruCache<Id, Frame, RandomState>;

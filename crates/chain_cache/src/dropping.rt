@@ -8,8 +8,9 @@ ghost use Rattle.lru.specs.LruCache.{last_entry, lru_cache};
 ghost use Rattle.chain_cache.specs.Cache.{untouched};
 
 use crate::cache::Frames;
-use chains::{do_ascend, touches};
+use chains::touches;
 use mcs_reader::Id;
+use verdicts::do_ascend;
 
 /// Takes out the frames that have one of these ids. The others stay, in their order. It takes no memory.
 pub(crate) fn drop_among(frames: &mut Frames, ids: &[Id])

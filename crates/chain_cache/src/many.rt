@@ -4,18 +4,18 @@ ghost use Rattle.catalogue.specs.Ids.{Ascend};
 ghost use Rattle.catalogue.specs.View.{MayAsk, Tells};
 ghost use Rattle.catalogue.specs.declared.fault.SourceFault.TheVariants.{Device};
 ghost use Rattle.chain_cache.specs.Cache.{AreFew, AreFilled, IsFresh, IsRightFor, KeepsFrames};
-ghost use Rattle.chains.specs.Judge as judge;
-ghost use Rattle.chains.specs.United.{united};
-ghost use Rattle.chains.specs.Verdicts.{verdict_of};
+ghost use Rattle.verdicts.specs.Judge as judge;
+ghost use Rattle.verdicts.specs.United.{united};
+ghost use Rattle.verdicts.specs.Verdicts.{verdict_of};
 
 use crate::ChainCache;
 use crate::cache::NODES_MOST;
 use catalogue::{Published, SourceFault};
-use chains::{Status, listed, put_plan};
 use mcs_reader::Id;
 use std::alloc::Global;
 use std::collections::BTreeSet;
 use supersede::Zone;
+use verdicts::{Status, listed, put_plan};
 
 // How many nodes more the frames of several SYSMODs may have for each of them.
 const NODES_EACH: usize = 8;

@@ -6,16 +6,17 @@ ghost use Rattle.catalogue.specs.Seen.{seen_in};
 ghost use Rattle.catalogue.specs.View.{MayAsk, Tells};
 ghost use Rattle.catalogue.specs.declared.fault.SourceFault.TheVariants.{Device};
 ghost use Rattle.chain_cache.specs.Cache.{AreFew, AreSurveys, IsFresh, MayBeMarked, ZoneSurvey, nothing_surveyed};
-ghost use Rattle.chains.specs.Candidates.{candidates_unless_there};
-ghost use Rattle.chains.specs.Marks.{IsAtHand};
+ghost use Rattle.verdicts.specs.Candidates.{candidates_unless_there};
+ghost use Rattle.listings.specs.Marks.{IsAtHand};
 ghost use Rattle.chains.specs.Surveys.{IsSurvey};
 
 use catalogue::{Published, Seen, SourceFault};
-use chains::{Listing, Survey, candidates_for, listing_of, sort_each_once};
+use chains::{Listing, Survey, candidates_for, listing_of};
 use mcs_reader::{Id, NoMemory};
 use std::alloc::Global;
 use std::marker::Model;
 use supersede::Zone;
+use verdicts::sort_each_once;
 
 // Of how many zones surveys are kept.
 const MOST: usize = 16;

@@ -18,13 +18,14 @@ use Rattle.requisites.specs.Leads.{IsPath, Leads}
 use Rattle.requisites.specs.Nodes.{AreReversed, Links, mark_of, row}
 use Rattle.requisites.proofs.LeadsFacts.{leads_closed, leads_itself, leads_more}
 use Rattle.chains.specs.Climbs.{AreAbove, IsMarkedAbove}
-use Rattle.listings.specs.Cuts.{IndexOf, id_at}
-use Rattle.listings.specs.Indices.{AreThere, AreIndicesOf, InstalledAt}
+use Rattle.verdicts.specs.Indices.{IndexOf, id_at, AreIndicesOf}
+use Rattle.listings.specs.SeenIndices.{AreThere, InstalledAt}
 use Rattle.chains.proofs.FrameFacts.{giver_is, givers_ascend}
 use Rattle.listings.proofs.MadeCutFacts.{candidate_catalogued}
 use Rattle.listings.proofs.SupersederFacts.{unheld}
-use Rattle.listings.proofs.OrderFacts.{ascending_same}
-use Rattle.listings.proofs.IndexFacts.{at_inside, at_map, inside_at}
+use Rattle.verdicts.proofs.OrderFacts.{ascending_same}
+use Rattle.verdicts.proofs.IndexFacts.{at_inside, inside_at}
+use Rattle.std.proofs.lemmas.List.{get_or-map}
 
 -- ---- lists that lead the other way round
 
@@ -44,7 +45,7 @@ listed_if_installed rows id h =
 
 module _ (content : Content) (ordered : IsInOrder content) (ids above : List (List ℕ)) (are : AreAbove content ids above) where
   above_at : (p : ℕ) → p < length ids → AreIndicesOf ids (superseders content (id_at ids p)) (row above p)
-  above_at p below = let P : List (List ℕ) → Type 0 = λ l. AreIndicesOf ids l (row above p) in subst P (at_map (superseders content) ids p [] [] below) (are.indexed.each p below)
+  above_at p below = let P : List (List ℕ) → Type 0 = λ l. AreIndicesOf ids l (row above p) in subst P (get_or-map (superseders content) ids p [] [] below) (are.indexed.each p below)
 
   -- a way from what stands at an index
   record WayFrom (to : List ℕ) (q : ℕ) : Type 0 where

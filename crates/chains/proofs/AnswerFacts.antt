@@ -15,16 +15,12 @@ use Rattle.requisites.specs.Leads.{IsPath, Leads}
 use Rattle.requisites.specs.Nodes.{AreReversed, Links, mark_of, row}
 use Rattle.requisites.specs.Sources.{AreLeastSources, HasSource, source_of}
 use Rattle.requisites.proofs.LeadsFacts.{leads_closed}
-use Rattle.chains.specs.Candidates.{candidates_unless_there}
+use Rattle.verdicts.specs.Candidates.{candidates_unless_there}
 use Rattle.chains.specs.Climbs.{AreAbove, AreFrom, IsAnswer, IsFound, IsMarkedAbove, with_source}
-use Rattle.listings.specs.Cuts.{id_at}
-use Rattle.listings.specs.Indices.{AreThere, IsAt, MarksAre, RowsAre}
+use Rattle.verdicts.specs.Indices.{id_at, IsAt, MarksAre, RowsAre}
+use Rattle.listings.specs.SeenIndices.{AreThere}
 use Rattle.chains.proofs.AboveFacts.{candidates_found, leads_turned, marks_there}
-use Rattle.listings.proofs.IndexFacts.{inside_at, made_more, one_index}
-
--- an id stands at one index alone
-pub index_is : (ids : List (List ℕ)) (id : List ℕ) (p q : ℕ) → Ascend ids → IsAt ids id p → IsAt ids id q → p ≡ q
-index_is ids id p q up first second = one_index ids p q [] up first.within second.within (first.is ∙ sym second.is)
+use Rattle.verdicts.proofs.IndexFacts.{index_is, inside_at, made_more}
 
 -- ---- marked ids above an index
 

@@ -8,7 +8,7 @@ use Rattle.lemmas.proofs.ListFacts.{map_inside, none_inside, get_any}
 use Rattle.catalogue.specs.Content.{Content, superseders}
 use Rattle.catalogue.specs.Ids.{id_cmp}
 use Rattle.chains.specs.Climbs.{AreAbove, AreListed}
-use Rattle.listings.specs.Indices.{AreIndexed, AreIndicesOf, list_at}
+use Rattle.verdicts.specs.Indices.{AreIndexed, AreIndicesOf, list_at}
 use Rattle.listings.proofs.WalkFacts.{all_asked, asked_reads, key_put, keys_stay, says_more, values_now}
 
 -- nothing is listed

@@ -8,7 +8,8 @@ use Rattle.catalogue.specs.Ids.{same_id}
 use Rattle.catalogue.proofs.IdFacts.{itself, one_id}
 use Rattle.requisites.specs.Leads.{IsPath}
 use Rattle.requisites.specs.World.{IsChosen, IsChosenPlan, IsGivenIn, IsGood, IsGoodGiver, IsHeldFor, IsPick, PicksFor, World}
-use Rattle.listings.specs.Cuts.{IndexOf, IsCut, id_at}
+use Rattle.verdicts.specs.Indices.{IndexOf, id_at}
+use Rattle.listings.specs.Cuts.{IsCut}
 
 -- the indices below n
 indices_below : ℕ → List ℕ

@@ -16,12 +16,12 @@ use Rattle.requisites.proofs.LeadsFacts.{leads_closed, leads_itself, leads_more}
 use Rattle.supersede.specs.Giving.{always_needs, conds_of, each_need, fmids_of, gives, givers_of, may_need, requisites_of}
 use Rattle.supersede.specs.Leading.{Gives, IsWay}
 use Rattle.supersede.proofs.LeadingFacts.{gives_is}
-use Rattle.listings.specs.Cuts.{id_at}
+use Rattle.verdicts.specs.Indices.{id_at}
 use Rattle.chains.specs.Frames as frames
 use Rattle.chains.specs.Frames.{AreApart, FrameLists, FramesStay, IsFrame, StepsTo, node_of, shares}
 use Rattle.chains.specs.declared.frames.FrameNode.{FrameNode}
-use Rattle.listings.proofs.OrderFacts.{ascending_same}
-use Rattle.listings.proofs.IndexFacts.{at_inside}
+use Rattle.verdicts.proofs.OrderFacts.{ascending_same}
+use Rattle.verdicts.proofs.IndexFacts.{at_inside}
 use Rattle.listings.proofs.WayFacts.{listed_record, record_listed}
 
 -- ---- givers and records

@@ -1,12 +1,4 @@
-pub use Rattle.listings.proofs.IndexFacts
-pub use Rattle.listings.proofs.MarkFacts
-pub use Rattle.listings.proofs.OrderFacts
-pub mod AskingFacts
-pub mod SearchFacts
-pub mod GoodFacts
-pub mod StatusFacts
 pub mod CutFacts
-pub mod VerdictFacts
 pub mod NodeVerdictFacts
 pub mod UnitedFacts
 pub mod FrameFacts

@@ -4,7 +4,7 @@ use Rattle.std.specs.Prelude.{◌↔◌}
 use Rattle.std.specs.List.{Contains, list_any}
 use Rattle.std.specs.Map.{keys_of, values_of}
 use Rattle.std.specs.Option.{IsSomeAnd}
-use Rattle.std.proofs.lemmas.List.{length-map, map-append, take_all, take_more}
+use Rattle.std.proofs.lemmas.List.{length-map, map-append, take_all, take_more, get_or-map}
 use Rattle.std.proofs.lemmas.List.Elements.{Contains-append_cases, Contains-append_left, Contains-append_right}
 use Rattle.lemmas.proofs.ListFacts.{inside_cases, map_from, map_inside, none_inside, get_any}
 use Rattle.catalogue.specs.Content.{Content, IsInOrder, Supersedes, ids_of, record_of, superseders}
@@ -18,8 +18,7 @@ use Rattle.supersede.specs.Leading.{Gives, IsWay}
 use Rattle.requisites.specs.Leads.{Leads}
 use Rattle.requisites.specs.Nodes.{row}
 use Rattle.requisites.proofs.LeadsFacts.{leads_closed, leads_itself, leads_more}
-use Rattle.listings.specs.Cuts.{IndexOf, id_at}
-use Rattle.listings.specs.Indices.{AreIndexed, AreIndicesOf, list_at}
+use Rattle.verdicts.specs.Indices.{IndexOf, id_at, AreIndexed, AreIndicesOf, list_at}
 use Rattle.listings.specs.Links.{IsAbove, IsGiverAt}
 use Rattle.chains.specs.FrameIndices.{AreNodesOf, IsFramed, IsNodeAt, has_conds}
 use Rattle.chains.specs.Frames.{FrameLists, IsClosed, IsFrame, StepsTo, ids_in, node_of}
@@ -28,8 +27,8 @@ use Rattle.listings.specs.Gathered.{AreNamed, IsGathered, Names, gathered_of}
 use Rattle.chains.specs.declared.frames.FrameNode.{FrameNode}
 use Rattle.listings.specs.declared.gathered.Gathered.{Gathered}
 use Rattle.chains.proofs.FrameFacts.{direct_gives, giver_is, givers_ascend}
-use Rattle.listings.proofs.OrderFacts.{ascending_same}
-use Rattle.listings.proofs.IndexFacts.{at_inside, at_map, inside_at}
+use Rattle.verdicts.proofs.OrderFacts.{ascending_same}
+use Rattle.verdicts.proofs.IndexFacts.{at_inside, inside_at}
 use Rattle.listings.proofs.WayFacts.{listed_record, record_listed}
 
 -- ---- one step by what is named, and by what is needed and gives
@@ -80,8 +79,8 @@ module _ (content : Content) (start : List ℕ) (ids : List (List ℕ)) (all : L
   read_at {Y} f p e below =
       let as_many : length (map (gathered_of content) ids) ≡ length ids = length-map ids (gathered_of content) in
       ap (λ (l : List Gathered). get_or (map f l) p e) is.says
-      ∙ at_map f (map (gathered_of content) ids) p (gathered_of content []) e (omega (arith, below, as_many))
-      ∙ ap f (at_map (gathered_of content) ids p [] (gathered_of content []) below)
+      ∙ get_or-map f (map (gathered_of content) ids) p (gathered_of content []) e (omega (arith, below, as_many))
+      ∙ ap f (get_or-map (gathered_of content) ids p [] (gathered_of content []) below)
 
   above_at : (p : ℕ) → p < length ids → AreIndicesOf ids (superseders content (id_at ids p)) (row above p)
   above_at p below = let P : List (List ℕ) → Type 0 = λ l. AreIndicesOf ids l (row above p) in subst P (read_at (λ g. g.above) p [] below) (indexed.each p below)
@@ -149,7 +148,7 @@ module _ (content : Content) (start : List ℕ) (ids : List (List ℕ)) (all : L
   node_is index node below at =
       let id = id_at ids index in
       let read : at.gathered ≡ gathered_of content id =
-      at.at ∙ ap (λ (l : List Gathered). get_or l index at.gathered) is.says ∙ at_map (gathered_of content) ids index [] at.gathered below in
+      at.at ∙ ap (λ (l : List Gathered). get_or l index at.gathered) is.says ∙ get_or-map (gathered_of content) ids index [] at.gathered below in
       let givers : node.givers ≡ givers_of content id =
       ascending_same node.givers (givers_of content id) at.ascend (givers_ascend content id ordered.sysmods)
       (λ y inside. (giver_is content id y).1 (gives_at index below y ((at.givers y).0 inside)))
@@ -232,8 +231,8 @@ module _ (ids : List (List ℕ)) (all : List Gathered) (nodes : List FrameNode) 
         let here : p < length all = omega (arith, below, as_many) in
         let g = get_or all p none in
         let P : List (List ℕ) → Type 0 = λ l. AreIndicesOf ids l (row needs p) in
-        let are = subst P (at_map (λ (x : Gathered). x.entry.needs) all p none [] here) (indexed.each p below) in
-        subst P (sym (at_map (λ (x : Gathered). in_order x.entry.needs) all p none [] here)) (record {
+        let are = subst P (get_or-map (λ (x : Gathered). x.entry.needs) all p none [] here) (indexed.each p below) in
+        subst P (sym (get_or-map (λ (x : Gathered). in_order x.entry.needs) all p none [] here)) (record {
           within = are.within;
           listed = λ q inside. (in_order_has g.entry.needs (id_at ids q)).1 (are.listed q inside);
           whole = λ q within inside. are.whole q within ((in_order_has g.entry.needs (id_at ids q)).0 inside);
@@ -293,8 +292,8 @@ module _ (ids : List (List ℕ)) (all : List Gathered) (nodes : List FrameNode) 
     sup_here p below =
         let as_long : length (map (gathered_of content) ids) ≡ length ids = length-map ids (gathered_of content) in
         ap (λ (l : List Gathered). list_at (map (λ g. g.entry.superseded) l) p) is.says
-        ∙ at_map (λ g. g.entry.superseded) (map (gathered_of content) ids) p (gathered_of content []) [] (omega (arith, below, as_long))
-        ∙ ap (λ (g : Gathered). g.entry.superseded) (at_map (gathered_of content) ids p [] (gathered_of content []) below)
+        ∙ get_or-map (λ g. g.entry.superseded) (map (gathered_of content) ids) p (gathered_of content []) [] (omega (arith, below, as_long))
+        ∙ ap (λ (g : Gathered). g.entry.superseded) (get_or-map (gathered_of content) ids p [] (gathered_of content []) below)
 
     sup_at : (p : ℕ) → p < length ids → AreIndicesOf ids (sup_of (record_of content (id_at ids p))) (row supersedes p)
     sup_at p below = let P : List (List ℕ) → Type 0 = λ l. AreIndicesOf ids l (row supersedes p) in subst P (sup_here p below) (indexed.each p below)

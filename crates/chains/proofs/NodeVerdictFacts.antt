@@ -17,19 +17,20 @@ use Rattle.requisites.specs.declared.nodes.Nodes.{Nodes}
 use Rattle.requisites.specs.declared.verdict.Verdict as declared
 use Rattle.requisites.specs.declared.verdict.Verdict.TheVariants as indices
 use Rattle.requisites.proofs.SourceFacts.{marked_inside}
-use Rattle.listings.specs.Cuts.{IsCut, id_at}
-use Rattle.chains.specs.Judge.{status_of}
-use Rattle.listings.specs.Indices.{AreNodesWithin, IsAt}
+use Rattle.verdicts.specs.Indices.{id_at, IsAt}
+use Rattle.listings.specs.Cuts.{IsCut}
+use Rattle.verdicts.specs.Judge.{status_of}
+use Rattle.listings.specs.SeenIndices.{AreNodesWithin}
 use Rattle.chains.specs.NodeVerdicts.{IsWithin, verdict_at}
 use Rattle.chains.specs.Surveys.{status_by}
-use Rattle.chains.specs.Verdicts.{Judged, lack, verdict_of}
-use Rattle.chains.specs.Worlds.{IsVerdict, world_of}
-use Rattle.chains.specs.declared.verdict.Status.TheVariants as status
+use Rattle.verdicts.specs.Verdicts.{Judged, lack, verdict_of}
+use Rattle.verdicts.specs.Worlds.{IsVerdict, world_of}
+use Rattle.verdicts.specs.declared.verdict.Status.TheVariants as status
 use Rattle.chains.proofs.CutFacts.{chosen_good, chosen_up, good_down, good_up, held_up}
 use Rattle.listings.proofs.MadeCutFacts.{candidate_catalogued}
-use Rattle.listings.proofs.IndexFacts.{below_at}
-use Rattle.chains.proofs.StatusFacts.{right_status}
-use Rattle.chains.proofs.VerdictFacts.{verdict_is}
+use Rattle.verdicts.proofs.IndexFacts.{below_at}
+use Rattle.verdicts.proofs.StatusFacts.{right_status}
+use Rattle.verdicts.proofs.VerdictFacts.{verdict_is}
 
 -- ---- verdicts name members
 

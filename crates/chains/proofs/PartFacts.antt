@@ -15,16 +15,17 @@ use Rattle.requisites.specs.Nodes.{IsMarked, mark_of, row, world}
 use Rattle.requisites.specs.declared.nodes.Nodes.{Nodes}
 use Rattle.requisites.proofs.LeadsFacts.{leads_more}
 use Rattle.requisites.proofs.SourceFacts.{marked_inside}
-use Rattle.listings.specs.Cuts.{IsCut, NeedIndex, id_at}
-use Rattle.listings.specs.Indices.{AreIndexed, AreIndicesOf, AreThere}
+use Rattle.verdicts.specs.Indices.{id_at, AreIndexed, AreIndicesOf}
+use Rattle.listings.specs.Cuts.{IsCut, NeedIndex}
+use Rattle.listings.specs.SeenIndices.{AreThere}
 use Rattle.chains.specs.FrameIndices.{node_needs}
 use Rattle.chains.specs.Frames.{FrameLists, IsFrame, ids_in, node_of}
-use Rattle.chains.specs.Worlds.{world_of}
+use Rattle.verdicts.specs.Worlds.{world_of}
 use Rattle.chains.specs.declared.frames.FrameNode.{FrameNode}
 use Rattle.listings.proofs.ConditionalFacts.{may_be_needed}
 use Rattle.listings.proofs.MadeCutFacts.{candidate_catalogued}
-use Rattle.listings.proofs.IndexFacts.{at_inside, inside_at, order_down, order_up}
-pub use Rattle.listings.proofs.IndexFacts.{at_map}
+use Rattle.verdicts.proofs.IndexFacts.{at_inside, inside_at, order_down, order_up}
+use Rattle.std.proofs.lemmas.List.{get_or-map}
 use Rattle.listings.proofs.WayFacts.{AreWays, gives_at, there_at}
 
 module _ (content : Content) (rows : List ZoneRow) (start : List ℕ) (frame : FrameLists) (nodes : Nodes) (ascend : Ascend (ids_in frame.nodes)) (is : IsFrame content start frame)
@@ -43,8 +44,8 @@ module _ (content : Content) (rows : List ZoneRow) (start : List ℕ) (frame : F
   said {Y} f p e below =
       let made : length (map (node_of content) members) ≡ length members = length-map members (node_of content) in
       ap (λ (l : List FrameNode). get_or (map f l) p e) is.says
-      ∙ at_map f (map (node_of content) members) p (node_of content []) e (omega (arith, below, made))
-      ∙ ap f (at_map (node_of content) members p [] (node_of content []) below)
+      ∙ get_or-map f (map (node_of content) members) p (node_of content []) e (omega (arith, below, made))
+      ∙ ap f (get_or-map (node_of content) members p [] (node_of content []) below)
 
   -- ---- what is reached
 

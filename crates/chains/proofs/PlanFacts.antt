@@ -3,7 +3,7 @@ use Rattle.std.proofs.Common.{◌≡◌, ◌∙◌, ◌<◌, ◌==◌, ℕ, ◌+
 use Rattle.std.specs.Cmp.{both_ways}
 use Rattle.std.specs.List.{filter, list_any}
 use Rattle.std.proofs.lemmas.Bool.Decides.{Decides-eqb}
-use Rattle.std.proofs.lemmas.List.{append-nil, length-map, nil_from_length, take_more}
+use Rattle.std.proofs.lemmas.List.{append-nil, length-map, nil_from_length, take_more, get_or-map}
 use Rattle.std.proofs.lemmas.List.Elements.{filter-append}
 use Rattle.std.proofs.lemmas.Bool.{or_parts}
 use Rattle.lemmas.proofs.ListFacts.{get_any}
@@ -18,18 +18,18 @@ use Rattle.requisites.specs.Nodes.{mark_of, row, world}
 use Rattle.requisites.specs.Verdict as index
 use Rattle.requisites.specs.declared.nodes.Nodes.{Nodes}
 use Rattle.requisites.specs.declared.verdict.Verdict as declared
-use Rattle.listings.specs.Cuts.{id_at}
-use Rattle.listings.specs.Indices.{AreIndexed, AreIndicesOf, AreNodesWithin, AreThere, IsAt, RowsAre, list_at}
+use Rattle.verdicts.specs.Indices.{id_at, AreIndexed, AreIndicesOf, IsAt, RowsAre, list_at}
+use Rattle.listings.specs.SeenIndices.{AreNodesWithin, AreThere}
 use Rattle.chains.specs.NodeVerdicts.{verdict_at}
 use Rattle.chains.specs.FrameIndices.{has_conds, node_needs}
 use Rattle.chains.specs.Frames.{FrameLists, IsFrame, ids_in}
-use Rattle.chains.specs.Verdicts.{Judged, is_good, verdict_of}
-use Rattle.chains.specs.Worlds.{world_of}
+use Rattle.verdicts.specs.Verdicts.{Judged, is_good, verdict_of}
+use Rattle.verdicts.specs.Worlds.{world_of}
 use Rattle.chains.specs.declared.frames.FrameNode.{FrameNode}
 use Rattle.chains.proofs.CutFacts.{good_down, good_up}
-use Rattle.chains.proofs.GoodFacts.{good_both_ways}
-use Rattle.chains.proofs.PartFacts.{at_map, frame_cut}
-use Rattle.listings.proofs.IndexFacts.{rows_more}
+use Rattle.verdicts.proofs.GoodFacts.{good_both_ways}
+use Rattle.chains.proofs.PartFacts.{frame_cut}
+use Rattle.verdicts.proofs.IndexFacts.{rows_more}
 use Rattle.chains.proofs.NodeVerdictFacts.{verdict_here, verdict_within}
 
 -- the nodes of a frame name no indices but theirs
@@ -94,8 +94,8 @@ pub needs_more : (rows : List ZoneRow) (list : List FrameNode) (ids : List (List
     → RowsAre (λ p ps. AreIndicesOf (ids_in list) (list_at (map (node_needs rows) list) p) ps) (i + 1) new
 needs_more rows list ids i node always indices given old new below at ids_are indexed always_is put are now =
     let as_many : length (ids_in list) ≡ length list = length-map list (λ n. n.id) in
-    let needs : list_at (map (λ n. n.needs) list) i ≡ node.needs = at_map (λ n. n.needs) list i node [] below ∙ ap (λ (n : FrameNode). n.needs) (sym at) in
-    let all : node_needs rows node ≡ list_at (map (node_needs rows) list) i = ap (node_needs rows) at ∙ sym (at_map (node_needs rows) list i node [] below) in
+    let needs : list_at (map (λ n. n.needs) list) i ≡ node.needs = get_or-map (λ n. n.needs) list i node [] below ∙ ap (λ (n : FrameNode). n.needs) (sym at) in
+    let all : node_needs rows node ≡ list_at (map (node_needs rows) list) i = ap (node_needs rows) at ∙ sym (get_or-map (node_needs rows) list i node [] below) in
     let A : List ℕ → Type 0 = λ l. AreIndicesOf ids node.needs l in
     let I : List (List ℕ) → Type 0 = λ l. AreIndicesOf l node.needs (row given i) in
     let N : List (List ℕ) → Type 0 = λ l. AreIndicesOf (ids_in list) l (row given i) in

@@ -12,17 +12,18 @@ use Rattle.requisites.specs.Nodes.{world}
 use Rattle.requisites.specs.World.{AreChosenPlans, IsChosen, IsGood}
 use Rattle.requisites.specs.declared.nodes.Nodes.{Nodes}
 use Rattle.requisites.proofs.SourceFacts.{marked_inside}
-use Rattle.listings.specs.Cuts.{IsCut, id_at}
-use Rattle.listings.specs.Indices.{AreIndicesOf, AreNodesWithin}
-use Rattle.chains.specs.United.{plan_by, plan_in, united}
-use Rattle.chains.specs.Verdicts.{Judged, good, held, lack, verdict_of}
-use Rattle.chains.specs.Worlds.{IsVerdict, world_of}
+use Rattle.verdicts.specs.Indices.{id_at, AreIndicesOf}
+use Rattle.listings.specs.Cuts.{IsCut}
+use Rattle.listings.specs.SeenIndices.{AreNodesWithin}
+use Rattle.verdicts.specs.United.{plan_by, plan_in, united}
+use Rattle.verdicts.specs.Verdicts.{Judged, good, held, lack, verdict_of}
+use Rattle.verdicts.specs.Worlds.{IsVerdict, world_of}
 use Rattle.chains.proofs.CutFacts.{chosen_good, good_down, good_up, leads_down, leads_up}
-use Rattle.listings.proofs.IndexFacts.{inside_at}
+use Rattle.verdicts.proofs.IndexFacts.{inside_at}
 use Rattle.listings.proofs.MadeCutFacts.{candidate_catalogued}
 use Rattle.chains.proofs.NodeVerdictFacts.{map_ascends}
-use Rattle.listings.proofs.OrderFacts.{ascending_same}
-use Rattle.chains.proofs.VerdictFacts.{found_verdict}
+use Rattle.verdicts.proofs.OrderFacts.{ascending_same}
+use Rattle.verdicts.proofs.VerdictFacts.{found_verdict}
 
 -- ---- one chosen plan
 

@@ -7,8 +7,7 @@ use Rattle.requisites.specs.Leads.{Leads}
 use Rattle.requisites.specs.Nodes.{Links, mark_of}
 use Rattle.requisites.specs.Sources.{source_of}
 use Rattle.supersede.specs.Giving.{is_candidate, is_there}
-use Rattle.listings.specs.Cuts.{id_at}
-use Rattle.listings.specs.Indices.{AreIndexed, IsAt}
+use Rattle.verdicts.specs.Indices.{id_at, AreIndexed, IsAt}
 
 -- what the lists name stands among the ids
 pub record AreListed (lists : List (List (List ℕ))) (ids : List (List ℕ)) : Type 0 where

@@ -5,10 +5,9 @@ use Rattle.zone_lists.specs.declared.zones.ZoneRow.{ZoneRow}
 use Rattle.catalogue.specs.Content.{Content, IsInOrder}
 use Rattle.catalogue.specs.Ids.{Ascend, in_order}
 use Rattle.supersede.specs.Giving.{needs_where}
-use Rattle.listings.specs.Cuts.{id_at}
+use Rattle.verdicts.specs.Indices.{id_at, AreIndexed}
 use Rattle.chains.specs.Frames.{IsClosed, ids_in, node_of}
 use Rattle.listings.specs.Gathered.{IsGathered}
-use Rattle.listings.specs.Indices.{AreIndexed}
 use Rattle.listings.specs.Links.{IsGiverAt}
 use Rattle.chains.specs.declared.frames.FrameNode.{FrameNode}
 use Rattle.listings.specs.declared.gathered.Gathered.{Gathered}

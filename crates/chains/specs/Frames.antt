@@ -8,7 +8,7 @@ use Rattle.supersede.specs.Giving.{always_needs, conds_of, each_need, fmids_of, 
 use Rattle.supersede.specs.Leading.{Gives}
 use Rattle.requisites.specs.Leads.{Leads}
 use Rattle.requisites.specs.Nodes.{row}
-use Rattle.listings.specs.Cuts.{id_at}
+use Rattle.verdicts.specs.Indices.{id_at}
 use Rattle.chains.specs.declared.frames.FrameNode.{FrameNode}
 
 -- one step leads from an id to each id that it may need, and to each SYSMOD that gives it

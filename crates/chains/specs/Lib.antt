@@ -1,15 +1,6 @@
-pub use Rattle.listings.specs.Cuts
-pub use Rattle.listings.specs.Indices
-pub use Rattle.listings.specs.Marks
-pub use Rattle.listings.specs.Sights
-pub mod Verdicts
-pub mod Judge
 pub mod NodeVerdicts
-pub mod United
-pub mod Worlds
 pub mod Whole
 pub mod Surveys
 pub mod Frames
 pub mod FrameIndices
-pub mod Candidates
 pub mod Climbs

@@ -2,8 +2,8 @@
 use Rattle.std.specs.Prelude.{◌<◌, ℕ, List, Contains, length, map}
 use Rattle.requisites.specs.declared.verdict.Verdict.{Verdict}
 use Rattle.requisites.specs.declared.verdict.Verdict.TheVariants.{Good, Held, Lack}
-use Rattle.listings.specs.Cuts.{id_at}
-use Rattle.chains.specs.Verdicts.{Judged, good, held, lack}
+use Rattle.verdicts.specs.Indices.{id_at}
+use Rattle.verdicts.specs.Verdicts.{Judged, good, held, lack}
 
 -- a verdict on a node names indices of members alone
 abbrev pub IsWithin : List (List ℕ) → Verdict → Type 0

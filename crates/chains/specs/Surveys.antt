@@ -3,10 +3,10 @@ use Rattle.std.specs.Prelude.{ℕ, Bool, List, Option, if◌then◌else◌}
 use Rattle.catalogue.specs.Ids.{Ascend}
 use Rattle.requisites.specs.Good.{AreGood}
 use Rattle.requisites.specs.declared.nodes.Nodes.{Nodes}
-use Rattle.listings.specs.Indices.{AreNodesWithin}
+use Rattle.listings.specs.SeenIndices.{AreNodesWithin}
 pub use Rattle.listings.specs.ZoneNodes.{IsSurvey, SurveyLists}
-use Rattle.chains.specs.declared.verdict.Status.{Status}
-use Rattle.chains.specs.declared.verdict.Status.TheVariants.{Good, Held, Lack}
+use Rattle.verdicts.specs.declared.verdict.Status.{Status}
+use Rattle.verdicts.specs.declared.verdict.Status.TheVariants.{Good, Held, Lack}
 
 -- what a survey keeps besides: which nodes are good, and what gives each
 pub record IsResolved (members : List (List ℕ)) (nodes : Nodes) (good : List Bool) (givers : List (Option ℕ)) : Type 0 where

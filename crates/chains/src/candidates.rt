@@ -10,23 +10,20 @@ ghost use Rattle.catalogue.specs.declared.fault.SourceFault.TheVariants.{Device}
 ghost use Rattle.requisites.specs.Nodes.{AreReversed, mark_of, row};
 ghost use Rattle.requisites.specs.Sources.{HasSource};
 ghost use Rattle.supersede.specs.Giving.{fmids_of, is_candidate};
-ghost use Rattle.chains.specs.Candidates.{candidates_unless_there};
+ghost use Rattle.verdicts.specs.Candidates.{candidates_unless_there};
 ghost use Rattle.chains.specs.Climbs.{AreFrom, IsAnswer, IsFound, with_source};
-ghost use Rattle.listings.specs.Cuts.{id_at};
-ghost use Rattle.listings.specs.Indices.{IsAt, MarksAre, RowsAre};
+ghost use Rattle.verdicts.specs.Indices.{id_at, IsAt, MarksAre, RowsAre};
 ghost use Rattle.listings.specs.Marks.{IsAtHand};
 
 use crate::climbing::{Climb, climb_from, that_says};
 use crate::walks::Walks;
 use catalogue::{Published, SourceFault, Sysmod};
-use listings::{
-    Listing, do_ascend, has_source, ids_at, index_of, is_any_installed, sort_each_once, source_at,
-    there_marks,
-};
+use listings::{Listing, is_any_installed, there_marks};
 use mcs_reader::{Id, NoMemory};
-use requisites::{Rows, is_marked, least_sources};
+use requisites::{Rows, has_source, is_marked, least_sources, source_at};
 use std::alloc::Global;
 use supersede::Zone;
+use verdicts::{do_ascend, ids_at, index_of, sort_each_once};
 
 /// For each of some SYSMODs the candidates that give it, ascending, or `None` where it is there: the zone lists it, or
 /// an installed SYSMOD gives it (IBM z/OS SMP/E Reference, `++VER`, operands SUP and FMID).

@@ -7,15 +7,16 @@ ghost use Rattle.catalogue.specs.View.{MayAsk, Tells};
 ghost use Rattle.catalogue.specs.declared.fault.SourceFault.TheVariants.{Device};
 ghost use Rattle.requisites.specs.Nodes.{AreReversed};
 ghost use Rattle.chains.specs.Climbs.{AreAbove, AreListed};
-ghost use Rattle.listings.specs.Indices.{AreIndexed};
+ghost use Rattle.verdicts.specs.Indices.{AreIndexed};
 ghost use Rattle.listings.specs.Marks.{IsAtHand, SaysOf};
 
 use catalogue::{Ids, Published, SourceFault};
-use listings::{Listing, ascending, ids_found, is_marked, next_unread, put_indices};
+use listings::{Listing, ids_found, is_marked, next_unread};
 use mcs_reader::{Id, NoMemory};
 use requisites::{Rows, turned};
 use std::alloc::Global;
 use std::collections::BTreeMap;
+use verdicts::{ascending, put_indices};
 
 /// Some SYSMODs and all that supersede them, directly or through others, ascending.
 #[derive(Debug, Drop)]

@@ -1,7 +1,7 @@
 //! The nodes of a frame, made of what was gathered.
 ghost use Rattle.std.specs.Prelude.{◌≡◌, ◌<◌, IfOk, length, map};
 ghost use Rattle.catalogue.specs.Ids.{Ascend};
-ghost use Rattle.listings.specs.Indices.{AreIndexed};
+ghost use Rattle.verdicts.specs.Indices.{AreIndexed};
 ghost use Rattle.chains.specs.FrameIndices.{AreNodesOf, IsNodeAt};
 
 use crate::frames::FrameNode;

@@ -4,7 +4,7 @@ ghost use Rattle.std.specs.BTreeMap.{keys, values};
 ghost use Rattle.std.specs.List.{list_any};
 ghost use Rattle.catalogue.specs.Content.{Content, IsInOrder};
 ghost use Rattle.catalogue.specs.Ids.{Ascend};
-ghost use Rattle.listings.specs.Indices.{AreIndexed};
+ghost use Rattle.verdicts.specs.Indices.{AreIndexed};
 ghost use Rattle.chains.specs.FrameIndices.{has_conds};
 ghost use Rattle.chains.specs.Frames.{IsClosed, IsFrame, ids_in};
 ghost use Rattle.listings.specs.Gathered.{AreNamed, IsGathered};

@@ -1,8 +1,7 @@
-//! What can be installed in a zone, with what else, and what stands in its way.
+//! How verdicts are found: over all that is catalogued, or from what one SYSMOD reaches.
 //!
-//! - [`Verdict`]: a SYSMOD's chosen plan, or its blocked need, or that it doesn't apply; [`Status`]:
-//!   which of these
-//! - [`Judge`]: who gives verdicts over published content
+//! What a verdict is, and who gives it, is said in `verdicts`; its names are here too.
+//!
 //! - [`Whole`]: judges over all that is catalogued, and is right for every content
 //! - [`Frame`]: all that one SYSMOD reaches, as [`FrameNode`]s; [`frame`], [`frame_within`]: that of a
 //!   SYSMOD, from a source
@@ -11,10 +10,9 @@
 //!   [`Listing::renewed`]: over a publication, by what that touches
 //! - [`Survey`]: all verdicts of one zone; [`Survey::of`]: by a listing; [`survey_of`]: from a source
 //! - [`candidates_for`]: the candidates that give each of several SYSMODs, by a listing or from a source
-//! - [`put_plan`], [`listed`]: what chosen plans have together, put into a set of ids and listed
 //! - [`touches`]: whether a publication may change a frame
-//! - [`sort_each_once`]: puts ids in ascending order; [`do_ascend`]: whether they are
-//! - [`good_is_planned`], [`verdicts_are_right`]: laws of the definitions
+//! - [`Verdict`], [`Status`], [`Judge`], [`put_plan`], [`listed`], [`good_is_planned`], [`verdicts_are_right`],
+//!   [`sort_each_once`], [`do_ascend`]: those of `verdicts`
 //!
 //! ```
 //! // what isn't named here is of catalogue, mcs_reader, supersede and zone_lists
@@ -36,26 +34,22 @@ mod climbing;
 mod frame_nodes;
 mod frames;
 mod framing;
-mod judge;
-mod law;
 mod node_verdicts;
 mod planning;
 mod surveying;
 mod touching;
-mod united;
-mod verdict;
 mod walks;
 mod whole;
 
 pub use candidates::candidates_for;
 pub use frames::{Frame, FrameNode};
 pub use framing::{frame, frame_within};
-pub use judge::Judge;
-pub use law::{good_is_planned, verdicts_are_right};
-pub use listings::{Listing, do_ascend, listing_of, sort_each_once};
+pub use listings::{Listing, listing_of};
 pub use planning::{good, plan};
 pub use surveying::{Survey, survey_of};
 pub use touching::touches;
-pub use united::{listed, put_plan};
-pub use verdict::{Status, Verdict};
+pub use verdicts::{
+    Judge, Status, Verdict, do_ascend, good_is_planned, listed, put_plan, sort_each_once,
+    verdicts_are_right,
+};
 pub use whole::Whole;

@@ -1,12 +1,11 @@
 //! A verdict on a node, as one on the id that stands at its index.
 ghost use Rattle.std.specs.Prelude.{◌≡◌, IfOk};
-ghost use Rattle.chains.specs.Judge as judge;
+ghost use Rattle.verdicts.specs.Judge as judge;
 ghost use Rattle.chains.specs.NodeVerdicts.{IsWithin, verdict_at};
 
-use crate::Verdict;
-use listings::{id_at, ids_at};
 use mcs_reader::{Id, NoMemory};
 use std::alloc::Global;
+use verdicts::{Verdict, id_at, ids_at};
 
 /// A verdict on a node as one on the id that stands there.
 pub(crate) fn by_ids(

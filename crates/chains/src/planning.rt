@@ -4,21 +4,21 @@ ghost use Rattle.std.specs.List.{list_any};
 ghost use Rattle.zone_lists.specs.Installed.{is_installed};
 ghost use Rattle.catalogue.specs.Content.{Content};
 ghost use Rattle.requisites.specs.Nodes.{mark_of};
-ghost use Rattle.listings.specs.Cuts.{id_at};
-ghost use Rattle.listings.specs.Indices.{AreIndexed, AreThere};
+ghost use Rattle.verdicts.specs.Indices.{id_at, AreIndexed};
+ghost use Rattle.listings.specs.SeenIndices.{AreThere};
 ghost use Rattle.chains.specs.FrameIndices.{node_needs};
 ghost use Rattle.chains.specs.Frames.{IsFrame, ids_in};
-ghost use Rattle.chains.specs.Judge as judge;
-ghost use Rattle.chains.specs.Verdicts.{is_good, verdict_of};
+ghost use Rattle.verdicts.specs.Judge as judge;
+ghost use Rattle.verdicts.specs.Verdicts.{is_good, verdict_of};
 
-use crate::Verdict;
 use crate::frames::{Frame, FrameNode};
 use crate::node_verdicts::by_ids;
-use listings::{index_of, is_any_installed, put_needs_where, there_marks};
+use listings::{is_any_installed, put_needs_where, there_marks};
 use mcs_reader::{Id, NoMemory};
 use requisites::{Nodes, Rows, is_marked, resolve, verdict_of_node};
 use std::alloc::Global;
 use supersede::Zone;
+use verdicts::{Verdict, index_of};
 
 /// The verdict on a SYSMOD of a frame in a zone, from the frame alone: it is that of the whole catalogue.
 ///

@@ -4,23 +4,23 @@ ghost use Rattle.catalogue.specs.Content.{Content};
 ghost use Rattle.catalogue.specs.Ids.{Ascend};
 ghost use Rattle.catalogue.specs.View.{MayAsk, Tells};
 ghost use Rattle.catalogue.specs.declared.fault.SourceFault.TheVariants.{Device};
-ghost use Rattle.listings.specs.Indices.{AreNodesWithin};
-ghost use Rattle.chains.specs.Judge as judge;
+ghost use Rattle.listings.specs.SeenIndices.{AreNodesWithin};
+ghost use Rattle.verdicts.specs.Judge as judge;
 ghost use Rattle.listings.specs.Sights.{IsListing};
 ghost use Rattle.chains.specs.Surveys.{IsSurvey, status_by};
-ghost use Rattle.chains.specs.United.{united};
-ghost use Rattle.chains.specs.Verdicts.{verdict_of};
+ghost use Rattle.verdicts.specs.United.{united};
+ghost use Rattle.verdicts.specs.Verdicts.{verdict_of};
 ghost use Rattle.zone_lists.specs.declared.zones.ZoneRow.{ZoneRow};
 
 use crate::node_verdicts::by_ids;
-use crate::{Status, Verdict};
 use catalogue::{Published, SourceFault};
-use listings::{Listing, ZoneNodes, ids_at, index_of, put_indices, zone_nodes_of};
+use listings::{Listing, ZoneNodes, zone_nodes_of};
 use mcs_reader::{Id, NoMemory};
 use requisites::{Resolution, chosen_plans, is_marked, resolve, verdict_of_node};
 use std::alloc::Global;
 use std::marker::Model;
 use supersede::Zone;
+use verdicts::{Status, Verdict, ids_at, index_of, put_indices};
 
 /// What can be installed in one zone of all that is catalogued. Each verdict of the zone can be read from it for as
 /// long as what is published and the zone stay.

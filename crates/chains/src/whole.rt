@@ -2,12 +2,13 @@
 ghost use Rattle.catalogue.specs.Content.{Content};
 ghost use Rattle.chains.specs.Whole.{IsRightFor};
 
+use crate::candidates::candidates_for;
 use crate::surveying::survey_of;
-use crate::{Judge, Status, Verdict};
 use catalogue::{Published, SourceFault};
 use mcs_reader::Id;
 use std::alloc::Global;
 use supersede::Zone;
+use verdicts::{Judge, Status, Verdict};
 
 /// Judges over the whole catalogue: each call reads all that is catalogued anew. It keeps nothing, so it
 /// is right for every content.
@@ -40,6 +41,16 @@ impl<P: Published> Judge<P> for Whole {
     }
 
     fn drop_touched(&mut self, _ids: &[Id]) {}
+
+    fn candidates(
+        &mut self,
+        alloc: Global,
+        source: &mut P,
+        zone: &Zone,
+        ids: &[Id],
+    ) -> Result<Vec<Option<Vec<Id>>>, SourceFault> {
+        candidates_for(alloc, source, None, &[], zone, ids)
+    }
 
     fn statuses(
         &mut self,

@@ -12,10 +12,10 @@ use crate::service::go_while_open;
 use crate::slots::Connections;
 use bureau::{Bureau, isolation, repeats};
 use bureau_store::Store;
-use chains::Judge;
 use requests::{Routes, later_bytes};
 use std::alloc::Global;
 use thiserror::Error;
+use verdicts::Judge;
 
 /// How it stands after a round.
 #[derive(Clone, Copy, Debug, PartialEq, Eq)]

@@ -10,9 +10,9 @@ use crate::serving::serve_event;
 use crate::slots::Connections;
 use bureau::Bureau;
 use bureau_store::Store;
-use chains::Judge;
 use requests::Routes;
 use std::alloc::Global;
+use verdicts::Judge;
 
 /// Goes through events in order, beside a bureau. After each it looks whether the device of the bureau's store has
 /// failed, and then looks at nothing more, whatever connection it is of. Whether it has failed.

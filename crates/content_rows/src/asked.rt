@@ -2,10 +2,10 @@
 //! callers need to know nothing of the answer, and so their proofs are short.
 use crate::print::verdict_text;
 use catalogue::{Change, Published, SourceFault, touched};
-use chains::{Judge, Status};
 use mcs_reader::Id;
 use std::alloc::Global;
 use supersede::Zone;
+use verdicts::{Judge, Status};
 
 /// The verdict on an id, in print.
 pub(crate) fn told<P: Published, J: Judge<P>>(

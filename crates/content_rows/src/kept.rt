@@ -6,11 +6,12 @@ use crate::content::Content;
 use crate::print::{line, statuses_text};
 use catalogue::{Published, SourceFault};
 use chain_cache::ChainCache;
-use chains::{Judge, Whole};
+use chains::Whole;
 use mcs_reader::{Id, NoMemory};
 use std::alloc::Global;
 use std::fmt::Write;
 use supersede::Zone;
+use verdicts::Judge;
 
 /// How many frames were built, and the ids of those that are kept, in their order.
 pub(crate) fn kept_told(alloc: Global, cache: &ChainCache) -> Result<String, NoMemory> {

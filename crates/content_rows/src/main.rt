@@ -39,11 +39,11 @@ mod asked;
 mod catalogued;
 mod content;
 mod frames;
+mod judged;
 mod kept;
 mod print;
 mod questions;
 mod reads;
-mod verdicts;
 
 use content::Content;
 use std::alloc::Global;

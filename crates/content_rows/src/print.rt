@@ -1,9 +1,10 @@
 //! Answers in print.
 use catalogue::{Change, CondNeed, Sysmod, SysmodKind};
-use chains::{FrameNode, Status, Verdict};
+use chains::FrameNode;
 use holddata::HoldChange;
 use mcs_reader::{Id, NoMemory};
 use std::alloc::Global;
+use verdicts::{Status, Verdict};
 
 /// Puts ids into a text, each after a blank.
 fn put_ids(text: &mut String, ids: &[Id]) -> Result<(), NoMemory> {

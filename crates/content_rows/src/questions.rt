@@ -5,10 +5,10 @@ use crate::catalogued::{
 };
 use crate::content::{Content, id_of};
 use crate::frames::{frames_told, kept_nodes, nodes, touching};
+use crate::judged::verdicts;
 use crate::kept::{counts, is_same_for_all, kept_told, statuses_told, together};
 use crate::print::{line, number, yes};
 use crate::reads::{fails, reads};
-use crate::verdicts::verdicts;
 use catalogue::SourceFault;
 use chains::Whole;
 use mcs_reader::Id;

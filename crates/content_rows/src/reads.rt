@@ -5,7 +5,7 @@ use crate::content::Content;
 use crate::print::number;
 use bureau_store::ListStore;
 use catalogue::{Change, Ids, Published, SourceFault};
-use chains::{Judge, Whole};
+use chains::Whole;
 use holddata::{Hold, Kind};
 use mcs_reader::Id;
 use reports::{err_rows, missing_rows, plan_json};
@@ -13,6 +13,7 @@ use std::alloc::Global;
 use std::test::Fail;
 use supersede::{Zone, givers};
 use testing_rows::Row;
+use verdicts::Judge;
 use zone_lists::Pattern;
 
 // What a question is asked about.

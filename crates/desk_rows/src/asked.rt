@@ -1,6 +1,7 @@
 //! What a row asks of a desk.
 use bureau::Call;
 use mcs_reader::Id;
+use questions::{Form, Wanted};
 
 /// The call of a request such as `PUT /zones/TGT1 1`, with the lines before it as its body. `None` where it is none.
 pub(crate) fn call_of<'a>(request: &str, body: &'a [u8]) -> Option<Call<'a>> {
@@ -10,10 +11,10 @@ pub(crate) fn call_of<'a>(request: &str, body: &'a [u8]) -> Option<Call<'a>> {
     match path {
         "/publish" => Some(Call::Publish { number, body }),
         "/received" => Some(Call::PutReceived { number, body }),
-        "/published" => Some(Call::Counts),
-        "/published.json" => Some(Call::CountsJson),
-        "/zones" => Some(Call::ListZones),
-        "/zones.json" => Some(Call::ListZonesJson),
+        "/published" => Some(Call::Counts { form: Form::Text }),
+        "/published.json" => Some(Call::Counts { form: Form::Json }),
+        "/zones" => Some(Call::ListZones { form: Form::Text }),
+        "/zones.json" => Some(Call::ListZones { form: Form::Json }),
         _ => call_in_zone(method, path, number, body),
     }
 }
@@ -39,16 +40,25 @@ fn call_in_zone<'a>(
 
 // A question about a zone.
 fn question(zone: Id, what: &str) -> Option<Call<'static>> {
-    match what {
-        "errsysmods" => Some(Call::ErrSysmods { zone }),
-        "errsysmods.json" => Some(Call::ErrSysmodsJson { zone }),
-        "errsysmods/plan" => Some(Call::ErrPlan { zone }),
-        "errsysmods/plan.json" => Some(Call::ErrPlanJson { zone }),
-        "missingfix" => Some(Call::MissingFix { zone }),
-        "missingfix.json" => Some(Call::MissingFixJson { zone }),
-        "missingfix/plan" => Some(Call::MissingPlan { zone }),
-        "missingfix/plan.json" => Some(Call::MissingPlanJson { zone }),
-        _ => chain(zone, what),
+    if let Some(rest) = what.strip_prefix("errsysmods") {
+        let wanted = wanted_by(rest)?;
+        return Some(Call::ErrSysmods { zone, wanted });
+    }
+    if let Some(rest) = what.strip_prefix("missingfix") {
+        let wanted = wanted_by(rest)?;
+        return Some(Call::MissingFix { zone, wanted });
+    }
+    chain(zone, what)
+}
+
+// What is wanted of a report, by what its path has after the report's name.
+fn wanted_by(rest: &str) -> Option<Wanted> {
+    match rest {
+        "" => Some(Wanted::Rows(Form::Text)),
+        ".json" => Some(Wanted::Rows(Form::Json)),
+        "/plan" => Some(Wanted::Plan(Form::Text)),
+        "/plan.json" => Some(Wanted::Plan(Form::Json)),
+        _ => None,
     }
 }
 

@@ -1,10 +1,11 @@
 //! Who gives the verdicts of a desk: from the whole catalogue, or from frames that are kept.
 use chain_cache::ChainCache;
-use chains::{Judge, Whole};
+use chains::Whole;
 use failing_store::FailingStore;
 use std::alloc::Global;
 use std::hash::RandomState;
 use std::test::Fail;
+use verdicts::Judge;
 
 /// A judge of a desk.
 pub(crate) trait Judged: Judge<FailingStore> + Drop {

@@ -4,6 +4,7 @@ ghost use Rattle.catalogue.specs.View.{most_failures};
 
 use bureau_store::{Caller, Effect, ListStore, Store, StoreFault};
 use catalogue::{Published, SourceFault, Sysmod};
+use failure_count::count_failure;
 use holddata::{Hold, Kind};
 use mcs_reader::Id;
 use zone_lists::{Pattern, ZoneRow};
@@ -42,7 +43,7 @@ impl FailingStore {
         ensures stands { result ≡ false → (self.old.failures ≡ 0) × (self.new.failures ≡ 0) }
     {
         if self.left == 0 || self.failures > 0 {
-            self.failures = self.failures.saturating_add(1);
+            count_failure(&mut self.failures);
             return true;
         }
         self.left -= 1;

@@ -11,16 +11,19 @@ use Rattle.catalogue.specs.Content.{Content}
 use Rattle.catalogue.specs.Publication.{content_of}
 use Rattle.catalogue.specs.declared.change.Change.{Change}
 use Rattle.supersede.proofs.GivingFacts.{same_self}
+use Rattle.questions.specs.declared.report.Report.TheVariants.{ErrSysmods, MissingFix}
+use Rattle.questions.specs.declared.wanted.Form.TheVariants.{Text}
+use Rattle.questions.specs.declared.wanted.Wanted.TheVariants.{Rows}
 use Rattle.bureau_store.specs.Effect.{Effect, publication, zone_put, received_put, patterns_put, content_after, received_after}
 use Rattle.bureau_store.specs.Store.{greatest_number}
 use Rattle.bureau_store.specs.Tables.{LastChange, ZoneTable, Zones, name_order, zone_named}
 use Rattle.bureau_store.specs.declared.caller.Caller.{Caller}
 use Rattle.bureau_store.specs.declared.caller.Caller.TheVariants.{Publisher, Client}
 use Rattle.bureau.specs.Bodies.{changes_in, ids_in, patterns_in, rows_in}
-use Rattle.bureau.specs.Call.{Call, publish, put_patterns, put_received, put_zone, err_sysmods, missing_fix, chain}
+use Rattle.bureau.specs.Call.{Call, publish, put_patterns, put_received, put_zone, report_on, chain}
 use Rattle.bureau.specs.Outcome.{Outcome, accepted, answered, answer_of, as_json, bad_number, by_number, gap, in_turn, of_zone, outcome, plain, put_of_zone, said, stale, told}
 use Rattle.bureau.specs.Own.{Accepted, Asked, accepted_in, change_of, content_left, found, last_left, names_known, own_answer, own_view, patterns_left, publications, received_left, rows_left, says_patterns, says_rows, zone_left, zones_left}
-use Rattle.bureau.specs.Texts.{chain_text, err_report, missing_report, patterns_text, publication_text, received_text, zone_put_text}
+use Rattle.bureau.specs.Texts.{chain_text, patterns_text, publication_text, received_text, report_text, zone_put_text}
 use Rattle.bureau.proofs.LeftFacts.{AreKept, IsOfZone, content_more, kept_more, last_more, received_more, zone_is_left}
 use Rattle.bureau.proofs.NamesFacts.{own_caller}
 use Rattle.file_reports.specs.Desk.{IsDesksAnswer, all_sent, asked, list_sent, lists_sent, new_desk, publications_sent}
@@ -305,23 +308,23 @@ module _ (client zone : List ℕ) (inputs : Inputs) where
 
   -- what the client is told then
   module _ (all : Said) (sent : IsSent client zone (all_sent client zone inputs) all) where
-    err_told : own_answer new_desk (all_sent client zone inputs) (Client client) (err_sysmods zone) ≡ plain 200 (err_text_said zone all)
+    err_told : own_answer new_desk (all_sent client zone inputs) (Client client) (report_on ErrSysmods (Rows Text) zone) ≡ plain 200 (err_text_said zone all)
     err_told =
         let content = content_left new_desk (taken (all_sent client zone inputs)) in
         let received = received_left new_desk (taken (all_sent client zone inputs)) in
-        ap (λ (found : Option ZoneTable). answer_of (of_zone found (λ table. told (err_report content zone table received))))
+        ap (λ (found : Option ZoneTable). answer_of (of_zone found (λ table. told (report_text ErrSysmods (Rows Text) content zone table received))))
         (zone_found client zone (taken (all_sent client zone inputs)) all.content sent.number all.rows all.patterns all.received sent.stands)
-        ∙ ap (λ (content : Content). plain 200 (err_report content zone (zone_said all) received)) sent.stands.content_is
-        ∙ ap (λ (ids : List (List ℕ)). plain 200 (err_report all.content zone (zone_said all) ids)) sent.stands.received_are
+        ∙ ap (λ (content : Content). plain 200 (report_text ErrSysmods (Rows Text) content zone (zone_said all) received)) sent.stands.content_is
+        ∙ ap (λ (ids : List (List ℕ)). plain 200 (report_text ErrSysmods (Rows Text) all.content zone (zone_said all) ids)) sent.stands.received_are
 
-    missing_told : own_answer new_desk (all_sent client zone inputs) (Client client) (missing_fix zone) ≡ plain 200 (missing_text_said zone all)
+    missing_told : own_answer new_desk (all_sent client zone inputs) (Client client) (report_on MissingFix (Rows Text) zone) ≡ plain 200 (missing_text_said zone all)
     missing_told =
         let content = content_left new_desk (taken (all_sent client zone inputs)) in
         let received = received_left new_desk (taken (all_sent client zone inputs)) in
-        ap (λ (found : Option ZoneTable). answer_of (of_zone found (λ table. told (missing_report content zone table received))))
+        ap (λ (found : Option ZoneTable). answer_of (of_zone found (λ table. told (report_text MissingFix (Rows Text) content zone table received))))
         (zone_found client zone (taken (all_sent client zone inputs)) all.content sent.number all.rows all.patterns all.received sent.stands)
-        ∙ ap (λ (content : Content). plain 200 (missing_report content zone (zone_said all) received)) sent.stands.content_is
-        ∙ ap (λ (ids : List (List ℕ)). plain 200 (missing_report all.content zone (zone_said all) ids)) sent.stands.received_are
+        ∙ ap (λ (content : Content). plain 200 (report_text MissingFix (Rows Text) content zone (zone_said all) received)) sent.stands.content_is
+        ∙ ap (λ (ids : List (List ℕ)). plain 200 (report_text MissingFix (Rows Text) all.content zone (zone_said all) ids)) sent.stands.received_are
 
     chain_told : (sysmod : List ℕ) → own_answer new_desk (all_sent client zone inputs) (Client client) (chain zone sysmod) ≡ as_json (chain_text_said zone sysmod all)
     chain_told sysmod =
@@ -344,12 +347,12 @@ few_enough f vec inputs are =
     let small = vec.small in
     omega (arith, same, held, within, small)
 
-pub err_answered : (zone : List ℕ) (inputs : Inputs) (text : List ℕ) → length inputs.publications ≤ greatest_number → text_by (err_text_said zone) inputs ≡ Ok text → IsDesksAnswer zone inputs (err_sysmods zone) (plain 200 text)
+pub err_answered : (zone : List ℕ) (inputs : Inputs) (text : List ℕ) → length inputs.publications ≤ greatest_number → text_by (err_text_said zone) inputs ≡ Ok text → IsDesksAnswer zone inputs (report_on ErrSysmods (Rows Text) zone) (plain 200 text)
 err_answered zone inputs text fits says = λ client.
     let all = split (said_by inputs) _ text says in
     err_told client zone inputs all.0 (inputs_taken client zone inputs all.0 fits all.1) ∙ ap (plain 200) (same_text (err_text_said zone all.0) text all.2)
 
-pub missing_answered : (zone : List ℕ) (inputs : Inputs) (text : List ℕ) → length inputs.publications ≤ greatest_number → text_by (missing_text_said zone) inputs ≡ Ok text → IsDesksAnswer zone inputs (missing_fix zone) (plain 200 text)
+pub missing_answered : (zone : List ℕ) (inputs : Inputs) (text : List ℕ) → length inputs.publications ≤ greatest_number → text_by (missing_text_said zone) inputs ≡ Ok text → IsDesksAnswer zone inputs (report_on MissingFix (Rows Text) zone) (plain 200 text)
 missing_answered zone inputs text fits says = λ client.
     let all = split (said_by inputs) _ text says in
     missing_told client zone inputs all.0 (inputs_taken client zone inputs all.0 fits all.1) ∙ ap (plain 200) (same_text (missing_text_said zone all.0) text all.2)

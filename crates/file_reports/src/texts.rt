@@ -2,8 +2,11 @@
 ghost use Rattle.std.specs.Prelude.{◌≡◌, Ok, IfOk, IfErr, map};
 ghost use Rattle.catalogue.specs.Content.{IsInOrder};
 ghost use Rattle.catalogue.specs.Ids.{Ascend};
-ghost use Rattle.chains.specs.Judge as judge;
-ghost use Rattle.chains.specs.Verdicts.{verdict_of};
+ghost use Rattle.verdicts.specs.Judge as judge;
+ghost use Rattle.verdicts.specs.Verdicts.{verdict_of};
+ghost use Rattle.questions.specs.declared.report.Report.TheVariants.{ErrSysmods, MissingFix};
+ghost use Rattle.questions.specs.declared.wanted.Form.TheVariants.{Text};
+ghost use Rattle.questions.specs.declared.wanted.Wanted.TheVariants.{Rows};
 ghost use Rattle.bureau.specs.Call as call;
 ghost use Rattle.bureau.specs.Outcome.{as_json, plain};
 ghost use Rattle.bureau.specs.Texts as desk;
@@ -19,13 +22,14 @@ use crate::InputFault;
 use crate::held::held_in;
 use crate::inputs::{Lists, Read, read_all};
 use catalogue::SourceFault;
-use chains::{Judge, Verdict, Whole, frame_within, plan};
+use chains::{Whole, frame_within, plan};
 use flat_content::FlatContent;
 use holddata::Kind;
 use mcs_reader::Id;
 use reports::{err_rows, err_text, missing_rows, missing_text, plan_json};
 use std::alloc::Global;
 use supersede::Zone;
+use verdicts::{Judge, Verdict};
 use zone_lists::Pattern;
 
 // How many nodes a frame has at most from which a chain is answered. Where a SYSMOD reaches further, all that is
@@ -53,7 +57,7 @@ pub fn err_report(
     // A desk answers the same.
     ensures desk { IfOk result (λ text. IsDesksAnswer zone.now
         (err_inputs_of lists.entry (map (λ body. body.items) publications.items))
-        (call.err_sysmods zone.now) (plain 200 text.items)) }
+        (call.report_on ErrSysmods (Rows Text) zone.now) (plain 200 text.items)) }
 {
     let read = read_all(alloc, lists.without_categories(), publications)?;
     Ok(err_text_in(alloc, zone, read)?)
@@ -78,7 +82,7 @@ pub fn missing_report(
     // A desk answers the same.
     ensures desk { IfOk result (λ text. IsDesksAnswer zone.now
         (inputs_of lists.entry (map (λ body. body.items) publications.items))
-        (call.missing_fix zone.now) (plain 200 text.items)) }
+        (call.report_on MissingFix (Rows Text) zone.now) (plain 200 text.items)) }
 {
     let read = read_all(alloc, lists, publications)?;
     Ok(missing_text_in(alloc, zone, read)?)

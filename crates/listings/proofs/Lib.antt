@@ -1,6 +1,5 @@
-pub mod OrderFacts
 pub mod SightFacts
-pub mod IndexFacts
+pub mod SeenFacts
 pub mod WayFacts
 pub mod MarkFacts
 pub mod RenewFacts

@@ -11,18 +11,18 @@ use Rattle.lemmas.proofs.ListFacts.{first_inside, kept_from, kept_inside, map_fr
 use Rattle.catalogue.specs.Ids.{Ascend, id_cmp}
 use Rattle.requisites.specs.Leads.{Leads}
 use Rattle.requisites.proofs.LeadsFacts.{leads_closed}
-use Rattle.listings.specs.Cuts.{id_at}
-use Rattle.listings.specs.Indices.{AreIndexed, AreIndicesOf, list_at}
+use Rattle.verdicts.specs.Indices.{id_at, AreIndexed, AreIndicesOf, list_at}
 use Rattle.listings.specs.Links.{IsAbove, IsGiverAt, is_catalogued_at}
 use Rattle.listings.specs.declared.gathered.Gathered.{Gathered}
-use Rattle.listings.proofs.IndexFacts.{at_map, below_at}
+use Rattle.verdicts.proofs.IndexFacts.{below_at}
+use Rattle.std.proofs.lemmas.List.{get_or-map}
 
 -- the indices of what was read of the id at an index
 pub indexed_here : (f : Gathered → List (List ℕ)) (all : List Gathered) (index : ℕ) (g : Gathered) (ids list : List (List ℕ)) (indices : List ℕ) → index < length all → g ≡ get_or all index g → list ≡ f g
     → AreIndicesOf ids list indices → AreIndicesOf ids (list_at (map f all) index) indices
 indexed_here f all index g ids list indices below at is are =
     let P : List (List ℕ) → Type 0 = λ l. AreIndicesOf ids l indices in
-    subst P (is ∙ ap f at ∙ sym (at_map f all index g [] below)) are
+    subst P (is ∙ ap f at ∙ sym (get_or-map f all index g [] below)) are
 
 -- ---- ids at ascending indices ascend
 

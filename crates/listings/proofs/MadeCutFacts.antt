@@ -13,12 +13,14 @@ use Rattle.supersede.specs.Giving.{always_needs, conds_of, fmids_of, is_candidat
 use Rattle.requisites.specs.Nodes.{IsMarked, mark_of, row, world}
 use Rattle.requisites.specs.declared.nodes.Nodes.{Nodes}
 use Rattle.requisites.proofs.SourceFacts.{marked_inside}
-use Rattle.listings.specs.Cuts.{IsCut, NeedIndex, id_at}
-use Rattle.listings.specs.Indices.{AreSeen, AreThere, IsSupSeen}
+use Rattle.verdicts.specs.Indices.{id_at}
+use Rattle.listings.specs.Cuts.{IsCut, NeedIndex}
+use Rattle.listings.specs.SeenIndices.{AreSeen, AreThere, IsSupSeen}
 use Rattle.listings.specs.Sights.{Sight, all_needs, needs_seen, sight_of}
-use Rattle.listings.specs.ZoneNodes.{world_of}
+use Rattle.verdicts.specs.Worlds.{world_of}
 use Rattle.listings.proofs.ConditionalFacts.{may_be_needed}
-use Rattle.listings.proofs.IndexFacts.{inside_at, need_inside, order_down, order_up}
+use Rattle.verdicts.proofs.IndexFacts.{inside_at, order_down, order_up}
+use Rattle.listings.proofs.SeenFacts.{need_inside}
 use Rattle.listings.proofs.WayFacts.{AreWays, gives_at, listed_record, superseder_listed, there_at}
 
 -- a candidate is catalogued

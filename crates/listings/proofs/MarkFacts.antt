@@ -12,10 +12,10 @@ use Rattle.catalogue.specs.declared.sysmod.Sysmod.{Sysmod}
 use Rattle.catalogue.proofs.IdFacts.{itself}
 use Rattle.supersede.specs.Giving.{conds_of, fmids_of, requisites_of, sup_of}
 use Rattle.supersede.specs.Reach.{has}
-use Rattle.listings.specs.Cuts.{id_at}
+use Rattle.verdicts.specs.Indices.{id_at}
 use Rattle.listings.specs.Marks.{IsListingBut, SaysBut}
 use Rattle.listings.specs.Sights.{IsListing, ListingLists, Sight, sight_of, unseen}
-use Rattle.listings.proofs.OrderFacts.{ascending_same}
+use Rattle.verdicts.proofs.OrderFacts.{ascending_same}
 use Rattle.listings.proofs.WayFacts.{listed_record, record_listed}
 
 pub apart_from : (marks : List (List ℕ)) (id : List ℕ) → not (has marks id) ≡ true → Contains marks id → ⊥

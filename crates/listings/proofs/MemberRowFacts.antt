@@ -13,12 +13,12 @@ use Rattle.catalogue.proofs.IdFacts.{in_order_has}
 use Rattle.supersede.specs.Giving.{fmids_of, sup_of}
 use Rattle.requisites.specs.Nodes.{mark_of, row}
 use Rattle.requisites.specs.declared.nodes.Nodes.{Nodes}
-use Rattle.listings.specs.Cuts.{id_at}
-use Rattle.listings.specs.Indices.{AreIndicesOf, AreSeen, AreThere, IsSupSeen, MarksAre, RowsAre, SeenAs}
+use Rattle.verdicts.specs.Indices.{id_at, AreIndicesOf, MarksAre, RowsAre}
+use Rattle.listings.specs.SeenIndices.{AreSeen, AreThere, IsSupSeen, SeenAs}
 use Rattle.listings.specs.MemberRows.{AreRowsOf, AreRowsWithin, members_of, sight_at}
 use Rattle.listings.specs.Sights.{IsBare, IsSeen, Sight, all_needs, needs_seen, sight_of, unseen}
 use Rattle.listings.specs.ZoneNodes.{IsSurvey}
-use Rattle.listings.proofs.IndexFacts.{length-push, marks_more, marks_none, rows_more, rows_none}
+use Rattle.verdicts.proofs.IndexFacts.{length-push, marks_more, marks_none, rows_more, rows_none}
 use Rattle.listings.proofs.MadeCutFacts.{made_cut}
 use Rattle.listings.proofs.WayFacts.{listed_record}
 

@@ -7,11 +7,10 @@ use Rattle.std.proofs.lemmas.List.{take_more}
 use Rattle.lemmas.proofs.ListFacts.{filter_map_push, made_from, map_found}
 use Rattle.catalogue.specs.Ids.{Ascend, id_cmp}
 use Rattle.catalogue.proofs.IdFacts.{ids_total}
-use Rattle.listings.specs.Cuts.{id_at}
-use Rattle.listings.specs.Indices.{AreIndicesOf, IsAt}
+use Rattle.verdicts.specs.Indices.{id_at, AreIndicesOf, IsAt}
 use Rattle.listings.specs.Places.{AreLesser, ArePlaces, IsPlace, place_at}
-use Rattle.listings.proofs.IndexFacts.{at_inside, below_at, each_more, inside_at, length-push, one_index}
-use Rattle.listings.proofs.OrderFacts.{not_below_itself}
+use Rattle.verdicts.proofs.IndexFacts.{at_inside, below_at, each_more, inside_at, length-push, one_index}
+use Rattle.verdicts.proofs.OrderFacts.{not_below_itself}
 
 -- ---- one place more
 

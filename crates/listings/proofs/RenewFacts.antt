@@ -13,13 +13,12 @@ use Rattle.catalogue.specs.Ids.{Ascend, id_cmp, in_order, same_id}
 use Rattle.catalogue.specs.Seen.{SeenLists, seen_in}
 use Rattle.catalogue.proofs.IdFacts.{in_order_ascends, in_order_has, itself, one_id}
 use Rattle.supersede.specs.Reach.{has}
-use Rattle.listings.specs.Cuts.{id_at}
-use Rattle.listings.specs.Indices.{IsAt}
+use Rattle.verdicts.specs.Indices.{id_at, IsAt}
 use Rattle.listings.specs.Marks.{IsListingBut, SaysBut, catalogued_among, found_among, marked, sight_seen, unmarked}
 use Rattle.listings.specs.Sights.{IsListing, ListingLists, Sight, sight_of, unseen}
-use Rattle.listings.proofs.IndexFacts.{indexed_inside}
+use Rattle.verdicts.proofs.IndexFacts.{indexed_inside}
 use Rattle.listings.proofs.MarkFacts.{AreListed, apart_from, are_listed}
-use Rattle.listings.proofs.OrderFacts.{ascending_same}
+use Rattle.verdicts.proofs.OrderFacts.{ascending_same}
 use Rattle.listings.proofs.WayFacts.{listed_record, record_listed}
 
 filtered_ascend : (test : List ℕ → Bool) (ids : List (List ℕ)) → Ascend ids → Ascend (filter test ids)

@@ -4,12 +4,12 @@ use Rattle.std.specs.List.{filter_map}
 use Rattle.std.proofs.lemmas.List.{get_or-map, length-map}
 use Rattle.catalogue.specs.Ids.{Ascend}
 use Rattle.requisites.specs.Nodes.{row}
-use Rattle.listings.specs.Cuts.{id_at}
-use Rattle.listings.specs.Indices.{AreIndicesOf, IsAt, IsSupSeen, SeenAs}
+use Rattle.verdicts.specs.Indices.{id_at, AreIndicesOf, IsAt}
+use Rattle.listings.specs.SeenIndices.{IsSupSeen, SeenAs}
 use Rattle.listings.specs.Places.{ArePlaces, IsPlace, place_at, row_at}
 use Rattle.listings.specs.Sights.{Sight, unseen}
 use Rattle.listings.specs.Superseders.{AreSuperseders, superseded_at}
-use Rattle.listings.proofs.IndexFacts.{indexed_inside, indices_none, rows_more}
+use Rattle.verdicts.proofs.IndexFacts.{indexed_inside, indices_none, rows_more}
 use Rattle.listings.proofs.PlaceFacts.{moved_indices}
 
 module _ (f : List ℕ → Sight) (ids members superseded below above : List (List ℕ)) (places : List (Option ℕ)) (ascend : Ascend members) (are : AreSuperseders (map f ids) superseded below above)

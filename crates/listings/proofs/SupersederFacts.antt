@@ -5,7 +5,7 @@ use Rattle.std.specs.List.{Contains, flat_map, list_any}
 use Rattle.std.specs.List.Sorted.{IsStrictlySortedBy}
 use Rattle.std.specs.Option.{IsSomeAnd}
 use Rattle.std.proofs.lemmas.Bool.{cases_lt}
-use Rattle.std.proofs.lemmas.List.{get_or_past, take_more}
+use Rattle.std.proofs.lemmas.List.{get_or_past, take_more, get_or-map}
 use Rattle.std.proofs.lemmas.List.Elements.{Contains-append_left, Contains-append_right, Contains-push_cases}
 use Rattle.lemmas.proofs.ListFacts.{map_from, map_inside, none_inside, get_any}
 use Rattle.zone_lists.specs.Installed.{is_installed}
@@ -18,13 +18,12 @@ use Rattle.catalogue.proofs.RecordFacts.{filtered_ascend}
 use Rattle.catalogue.proofs.SupersedeFacts.{superseder_catalogued, superseder_is}
 use Rattle.supersede.specs.Giving.{is_candidate, sup_of}
 use Rattle.requisites.specs.Nodes.{AreReversed, row}
-use Rattle.listings.specs.Cuts.{id_at}
-use Rattle.listings.specs.Indices.{AreIndicesOf, IsAt, RowsAre}
+use Rattle.verdicts.specs.Indices.{id_at, AreIndicesOf, IsAt, RowsAre}
 use Rattle.listings.specs.Sights.{Sight, sight_of, unseen}
 use Rattle.listings.specs.Superseders.{AreBelow, AreIndicesOfAll, AreTurned, HaveAll, SupersedesAt, superseded_at}
-use Rattle.listings.proofs.IndexFacts.{at_map, indexed_inside, indices_more, indices_on, inside_at}
+use Rattle.verdicts.proofs.IndexFacts.{indexed_inside, indices_more, indices_on, inside_at}
 use Rattle.listings.proofs.MadeCutFacts.{candidate_catalogued}
-use Rattle.listings.proofs.OrderFacts.{ascending_same}
+use Rattle.verdicts.proofs.OrderFacts.{ascending_same}
 
 -- ---- a content without its holds: what supersedes, gives and is there is the same
 
@@ -126,7 +125,7 @@ module _ (content : Content) (ids : List (List ℕ)) (sights : List Sight) (ids_
   -- what is seen at an index
   seen_there : (p : ℕ) → p < length ids → superseded_at sights p ≡ sup_of (record_of content (id_at ids p))
   seen_there p below =
-      ap (λ (l : List Sight). superseded_at l p) sights_are ∙ ap (λ (sight : Sight). sight.superseded) (at_map (sight_of content) ids p [] unseen below)
+      ap (λ (l : List Sight). superseded_at l p) sights_are ∙ ap (λ (sight : Sight). sight.superseded) (get_or-map (sight_of content) ids p [] unseen below)
 
   module _ (ascend : Ascend ids) (as_many : length sights ≡ length ids) where
     listed_in_order : IsInOrder (unheld content)
@@ -166,7 +165,7 @@ module _ (content : Content) (ids : List (List ℕ)) (sights : List Sight) (ids_
       → mark ≡ list_any (λ fmid. is_installed rows fmid) sight.fmids → mark ≡ is_candidate content rows id
   candidate_listed rows id index sight mark at is marked =
       let seen : sight ≡ sight_of content id =
-      is ∙ ap (λ (l : List Sight). get_or l index sight) sights_are ∙ at_map (sight_of content) ids index [] sight at.within ∙ ap (sight_of content) at.is in
+      is ∙ ap (λ (l : List Sight). get_or l index sight) sights_are ∙ get_or-map (sight_of content) ids index [] sight at.within ∙ ap (sight_of content) at.is in
       marked ∙ ap (λ (s : Sight). list_any (λ fmid. is_installed rows fmid) s.fmids) seen
 
   pub candidate_unlisted : (rows : List ZoneRow) (id : List ℕ) → (Contains ids id → ⊥) → false ≡ is_candidate content rows id

@@ -14,9 +14,9 @@ use Rattle.catalogue.proofs.IdFacts.{itself, one_id}
 use Rattle.supersede.specs.Leading.{Gives, InstalledGiver, IsThere, IsWay}
 use Rattle.requisites.specs.Leads.{IsPath, Leads}
 use Rattle.requisites.specs.Nodes.{IsMarked, Links, row}
-use Rattle.listings.specs.Cuts.{IndexOf, id_at}
-use Rattle.listings.specs.Indices.{AreThere, InstalledAt}
-use Rattle.listings.proofs.IndexFacts.{inside_at, one_index}
+use Rattle.verdicts.specs.Indices.{IndexOf, id_at}
+use Rattle.listings.specs.SeenIndices.{AreThere, InstalledAt}
+use Rattle.verdicts.proofs.IndexFacts.{inside_at, one_index}
 
 -- what has a record is listed
 pub listed_record : (sysmods : List Sysmod) (id : List ℕ) → is_some (find (is_of id) sysmods) ≡ true → Contains (ids_in sysmods) id

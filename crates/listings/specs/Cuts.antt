@@ -1,17 +1,8 @@
 -- No part of what is promised: private contracts cite it. A part of the content by index: what is found of plans,
 -- picks and verdicts over the indices of a part holds over the whole content, where the part is closed.
-use Rattle.std.specs.Prelude.{◌≡◌, ◌<◌, ◌↔◌, ℕ, List, [], length, slice_index_or}
+use Rattle.std.specs.Prelude.{◌<◌, ◌↔◌, ℕ, List, length}
 use Rattle.requisites.specs.World.{World}
-
--- the id at an index
-abbrev pub id_at : List (List ℕ) → ℕ → List ℕ
-id_at members p = slice_index_or members p []
-
--- an index at which an id stands
-pub record IndexOf (members : List (List ℕ)) (id : List ℕ) : Type 0 where
-  pub index : ℕ
-  pub within : index < length members
-  pub is : id_at members index ≡ id
+use Rattle.verdicts.specs.Indices.{IndexOf, id_at}
 
 -- an index at which a need of p stands
 pub record NeedIndex (members : List (List ℕ)) (V : World ℕ) (p : ℕ) (need : List ℕ) : Type 0 where

@@ -2,7 +2,7 @@ pub mod Cuts
 pub mod Sights
 pub mod Marks
 pub mod Superseders
-pub mod Indices
+pub mod SeenIndices
 pub mod Places
 pub mod ListedRows
 pub mod MemberRows

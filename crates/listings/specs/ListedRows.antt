@@ -2,7 +2,8 @@
 use Rattle.std.specs.Prelude.{◌≡◌, ℕ, List, Option, Some, None, Contains, length, map, slice_index_or}
 use Rattle.std.specs.List.{flat_map}
 use Rattle.catalogue.specs.Ids.{Ascend}
-use Rattle.listings.specs.Indices.{AreIndicesOf, IsSupSeen, RowsAre}
+use Rattle.verdicts.specs.Indices.{AreIndicesOf, RowsAre}
+use Rattle.listings.specs.SeenIndices.{IsSupSeen}
 use Rattle.listings.specs.Places.{ArePlaces, place_at}
 use Rattle.listings.specs.Sights.{Sight, all_needs, unseen}
 

@@ -7,7 +7,7 @@ use Rattle.catalogue.specs.Ids.{Ascend}
 use Rattle.catalogue.specs.Seen.{SeenLists}
 use Rattle.catalogue.specs.Touched.{AgreeOutside}
 use Rattle.supersede.specs.Reach.{has}
-use Rattle.listings.specs.Cuts.{id_at}
+use Rattle.verdicts.specs.Indices.{id_at}
 use Rattle.listings.specs.Sights.{IsListing, ListingLists, Sight, sight_from, unseen}
 
 -- A listing is that of a content, but for some marked ids: it is that of a content before, which says the same outside them.

@@ -5,7 +5,7 @@ use Rattle.zone_lists.specs.Installed.{is_installed}
 use Rattle.zone_lists.specs.declared.zones.ZoneRow.{ZoneRow}
 use Rattle.catalogue.specs.Content.{Content, ids_of}
 use Rattle.catalogue.specs.Ids.{in_order}
-use Rattle.listings.specs.Indices.{AreIndicesOf, MarksAre, RowsAre}
+use Rattle.verdicts.specs.Indices.{AreIndicesOf, MarksAre, RowsAre}
 use Rattle.listings.specs.Sights.{Sight, all_needs, needs_seen, sight_of, unseen}
 
 -- all that is catalogued, and all that it needs, whatever the zone

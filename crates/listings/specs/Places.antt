@@ -3,8 +3,7 @@ use Rattle.std.specs.Prelude.{◌≡◌, ◌<◌, ℕ, List, [], Option, Some, N
 use Rattle.std.specs.declared.cmp.Ordering.TheVariants.{Less}
 use Rattle.catalogue.specs.Ids.{id_cmp}
 use Rattle.requisites.specs.Nodes.{row}
-use Rattle.listings.specs.Cuts.{id_at}
-use Rattle.listings.specs.Indices.{IsAt}
+use Rattle.verdicts.specs.Indices.{id_at, IsAt}
 
 -- the place that is kept at an index, if one is
 abbrev pub place_at : List (Option ℕ) → ℕ → Option ℕ

@@ -2,8 +2,7 @@
 use Rattle.std.specs.Prelude.{◌<◌, ◌↔◌, ℕ, List, Contains, length, slice_index_or}
 use Rattle.catalogue.specs.Ids.{Ascend}
 use Rattle.requisites.specs.Nodes.{row}
-use Rattle.listings.specs.Cuts.{id_at}
-use Rattle.listings.specs.Indices.{AreIndicesOf, RowsAre}
+use Rattle.verdicts.specs.Indices.{id_at, AreIndicesOf, RowsAre}
 use Rattle.listings.specs.Sights.{Sight, unseen}
 
 -- what is superseded by what is listed at an index

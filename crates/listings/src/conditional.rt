@@ -2,12 +2,12 @@
 ghost use Rattle.std.specs.Prelude.{◌≡◌, ◌++◌, ◌∷◌, [], ℕ, List, OnOk};
 ghost use Rattle.catalogue.specs.Ids.{Ascend};
 ghost use Rattle.supersede.specs.Giving.{each_need, needs_where};
-ghost use Rattle.listings.specs.Indices.{AreIndicesOf};
+ghost use Rattle.verdicts.specs.Indices.{AreIndicesOf};
 
-use crate::indices::index_of;
 use catalogue::CondNeed;
 use mcs_reader::{Id, NoMemory};
 use supersede::Zone;
+use verdicts::index_of;
 
 /// Adds the need of each, whatever the zone.
 pub(crate) fn push_each_need(ids: &mut Vec<Id>, conds: &[CondNeed]) -> Result<(), NoMemory>

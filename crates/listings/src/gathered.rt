@@ -9,12 +9,12 @@ ghost use Rattle.listings.specs.Gathered.{AreNamed, IsGathered, named_by};
 
 use crate::conditional::push_each_need;
 use crate::found::next_unread;
-use crate::indices::ascending;
 use crate::listing::{Entry, entry_from};
 use catalogue::{Ids, Published, SourceFault};
 use mcs_reader::{Id, NoMemory};
 use std::alloc::Global;
 use std::collections::BTreeMap;
+use verdicts::ascending;
 
 /// What is read of a SYSMOD that another one reaches.
 #[derive(Debug, Drop)]

@@ -4,16 +4,16 @@ ghost use Rattle.std.specs.List.Sorted.{IsStrictlySortedBy};
 ghost use Rattle.std.specs.Ordering.{nat_cmp};
 ghost use Rattle.catalogue.specs.Ids.{Ascend};
 ghost use Rattle.requisites.specs.Leads.{Leads};
-ghost use Rattle.listings.specs.Indices.{AreIndexed};
+ghost use Rattle.verdicts.specs.Indices.{AreIndexed};
 ghost use Rattle.listings.specs.Links.{IsAbove, IsGiverAt, is_catalogued_at};
 
 use crate::gathered::Gathered;
-use crate::indices::{ascending, ids_at, put_indices};
 use catalogue::Ids;
 use mcs_reader::{Id, NoMemory};
 use requisites::Rows;
 use std::alloc::Global;
 use std::collections::BTreeSet;
+use verdicts::{ascending, ids_at, put_indices};
 
 /// What some ids need, supersede and are superseded by, by their indices.
 #[derive(Debug, Drop)]

@@ -4,14 +4,15 @@ ghost use Rattle.catalogue.specs.Ids.{Ascend};
 ghost use Rattle.listings.specs.ListedRows.{AreAlwaysNeeds, AreListedRows};
 ghost use Rattle.listings.specs.Superseders.{AreSuperseders};
 
-use crate::indices::{members_of, put_indices};
 use crate::listing::Entry;
+use crate::members::members_of;
 use crate::places::places;
 use crate::superseders::Superseders;
 use crate::supersedes::{entry_at, moved_supersedes};
 use mcs_reader::{Id, NoMemory};
 use requisites::Rows;
 use std::alloc::Global;
+use verdicts::put_indices;
 
 /// All that is listed and all that it needs, in order, with what each always needs and what it supersedes, by index.
 #[derive(Debug, Drop)]

@@ -12,7 +12,6 @@ ghost use Rattle.listings.specs.ListedRows.{AreListedRows};
 ghost use Rattle.listings.specs.Marks.{IsListingBut, SaysOf, sight_seen};
 ghost use Rattle.listings.specs.Sights.{IsListing, reasons_in, sight_from, sight_of, unseen};
 
-use crate::indices::{ascending, ids_at, index_of, sort_each_once};
 use crate::listed_rows::ListedRows;
 use crate::renewing::{found_entries, ids_now, unmarked_entries, woven};
 use crate::superseders::Superseders;
@@ -22,6 +21,7 @@ use mcs_reader::{Id, NoMemory};
 use std::alloc::Global;
 use std::marker::Model;
 use supersede::Zone;
+use verdicts::{ascending, ids_at, index_of, sort_each_once};
 
 /// What is read of a SYSMOD. A contract sees it with its lists.
 #[derive(Debug, Drop)]

@@ -1,17 +1,17 @@
 //! What a zone and the catalogue say of members by their indices, one member after the other.
 ghost use Rattle.std.specs.Prelude.{◌≡◌, ◌++◌, ◌∷◌, [], List, IfOk, OnOk};
 ghost use Rattle.catalogue.specs.Ids.{Ascend};
-ghost use Rattle.listings.specs.Indices.{AreIndicesOf};
+ghost use Rattle.verdicts.specs.Indices.{AreIndicesOf};
 ghost use Rattle.listings.specs.MemberRows.{AreRowsOf};
 ghost use Rattle.listings.specs.Sights.{Sight, needs_seen};
 
 use crate::conditional::push_indices_where;
-use crate::indices::put_indices;
 use crate::listing::Entry;
 use mcs_reader::{Id, NoMemory};
 use requisites::Rows;
 use std::alloc::Global;
 use supersede::Zone;
+use verdicts::put_indices;
 
 /// Of each of the first members whether it may be installed in a zone, what it needs there, and what it supersedes.
 #[derive(Debug, Drop)]

@@ -2,7 +2,7 @@
 ghost use Rattle.std.specs.Prelude.{◌≡◌, ◌<◌, IfOk, OnOk, filter_map, length};
 ghost use Rattle.std.specs.declared.cmp.Ordering.TheVariants.{Less};
 ghost use Rattle.catalogue.specs.Ids.{Ascend, id_cmp};
-ghost use Rattle.listings.specs.Cuts.{id_at};
+ghost use Rattle.verdicts.specs.Indices.{id_at};
 ghost use Rattle.listings.specs.Places as Places;
 ghost use Rattle.listings.specs.Places.{AreLesser, ArePlaces, IsPlace};
 

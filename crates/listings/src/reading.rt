@@ -3,20 +3,21 @@ ghost use Rattle.std.specs.Prelude.{◌≡◌, IfOk, map};
 ghost use Rattle.catalogue.specs.Ids.{Ascend};
 ghost use Rattle.catalogue.specs.View.{MayAsk, Tells};
 ghost use Rattle.catalogue.specs.declared.fault.SourceFault.TheVariants.{Device};
-ghost use Rattle.listings.specs.Indices.{AreNodesWithin};
+ghost use Rattle.listings.specs.SeenIndices.{AreNodesWithin};
 ghost use Rattle.listings.specs.MemberRows.{AreRowsOf, AreRowsWithin, members_of};
 ghost use Rattle.listings.specs.Sights.{sight_of};
 ghost use Rattle.listings.specs.ZoneNodes.{IsSurvey};
 
-use crate::indices::{push_needs, sort_each_once};
 use crate::listing::entries_of;
 use crate::member_rows::{MemberRows, Room};
+use crate::members::push_needs;
 use crate::zone_nodes::{ZoneNodes, there_marks};
 use catalogue::{Published, SourceFault};
 use mcs_reader::Id;
 use requisites::Nodes;
 use std::alloc::Global;
 use supersede::Zone;
+use verdicts::sort_each_once;
 
 // How many SYSMODs are read at once. What is read of a run is kept as long as the run, and a source that is a list has
 // nothing to win by longer ones.

@@ -7,12 +7,12 @@ ghost use Rattle.listings.specs.Marks.{SaysBut, catalogued_among, found_among, m
 ghost use Rattle.listings.specs.Sights.{Sight};
 ghost use Rattle.supersede.specs.Reach.{has};
 
-use crate::indices::{index_of, sort_each_once};
 use crate::listing::{Entry, push_entries};
 use catalogue::Seen;
 use mcs_reader::{Id, NoMemory};
 use std::alloc::Global;
 use std::vec::IntoIter;
+use verdicts::{index_of, sort_each_once};
 
 /// What is listed now, ascending: what was listed and isn't marked, and what is marked and was found.
 pub(crate) fn ids_now(

@@ -2,16 +2,16 @@
 ghost use Rattle.std.specs.Prelude.{◌≡◌, ◌↔◌, ℕ, List, Contains, IfOk, IfSome, length, true};
 ghost use Rattle.std.specs.List.{flat_map};
 ghost use Rattle.catalogue.specs.Ids.{Ascend};
-ghost use Rattle.listings.specs.Indices.{RowsAre};
+ghost use Rattle.verdicts.specs.Indices.{RowsAre};
 ghost use Rattle.listings.specs.Sights.{Sight};
 ghost use Rattle.listings.specs.Superseders.{AreBelow, AreIndicesOfAll, AreSuperseders, AreTurned, HaveAll, SupersedesAt, superseded_at};
 
-use crate::indices::{index_near, index_of, put_indices, sort_each_once};
 use crate::listing::Entry;
 use crate::places::{places, put_moved};
 use mcs_reader::{Id, NoMemory};
 use requisites::{Rows, turned};
 use std::alloc::Global;
+use verdicts::{index_near, index_of, put_indices, sort_each_once};
 
 /// The SUP of all entries of a listing, both ways.
 #[derive(Debug, Drop)]

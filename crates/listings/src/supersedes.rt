@@ -1,7 +1,7 @@
 //! What each member supersedes, by the indices of members.
 ghost use Rattle.std.specs.Prelude.{◌≡◌, ℕ, List, IfOk, length, map};
 ghost use Rattle.catalogue.specs.Ids.{Ascend};
-ghost use Rattle.listings.specs.Indices.{IsSupSeen};
+ghost use Rattle.listings.specs.SeenIndices.{IsSupSeen};
 ghost use Rattle.listings.specs.ListedRows.{sight_placed};
 ghost use Rattle.listings.specs.Places as Places;
 ghost use Rattle.listings.specs.Places.{ArePlaces, IsPlace};

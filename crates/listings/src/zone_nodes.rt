@@ -5,21 +5,22 @@ ghost use Rattle.zone_lists.specs.Installed.{is_installed, is_listed};
 ghost use Rattle.catalogue.specs.Content.{Content};
 ghost use Rattle.catalogue.specs.Ids.{Ascend};
 ghost use Rattle.requisites.specs.Nodes.{world};
-ghost use Rattle.requisites.specs.Sources.{HasSource, source_of};
-ghost use Rattle.listings.specs.Cuts.{IsCut, id_at};
-ghost use Rattle.listings.specs.Indices.{AreNodesWithin, AreSeen, AreThere, IsThereAt, MarksAre};
+ghost use Rattle.requisites.specs.Sources.{HasSource};
+ghost use Rattle.verdicts.specs.Indices.{id_at, MarksAre};
+ghost use Rattle.listings.specs.Cuts.{IsCut};
+ghost use Rattle.listings.specs.SeenIndices.{AreNodesWithin, AreSeen, AreThere, IsThereAt};
 ghost use Rattle.listings.specs.ListedRows.{AreAlwaysNeeds};
 ghost use Rattle.listings.specs.MemberRows.{AreRowsWithin};
 ghost use Rattle.listings.specs.Places.{ArePlaces};
 ghost use Rattle.listings.specs.Sights.{IsListing, Sight};
-ghost use Rattle.listings.specs.ZoneNodes.{world_of};
+ghost use Rattle.verdicts.specs.Worlds.{world_of};
 
 use crate::conditional::put_needs_where;
 use crate::listed_rows::ListedRows;
 use crate::listing::{Entry, Listing};
 use crate::supersedes::entry_at;
 use mcs_reader::{Id, NoMemory};
-use requisites::{Nodes, Rows, least_sources};
+use requisites::{Nodes, Rows, has_source, least_sources};
 use std::alloc::Global;
 use supersede::Zone;
 
@@ -186,18 +187,4 @@ fn is_there(zone: &Zone, member: &Id, sources: &[Option<usize>], index: usize) -
     ensures { (result ≡ true) ↔ ((is_listed zone.now member.now ≡ true) ⊎ HasSource sources.now index) }
 {
     zone.listed(member) || has_source(sources, index)
-}
-
-/// Whether an index has a source.
-pub fn has_source(sources: &[Option<usize>], index: usize) -> bool
-    ensures { (result ≡ true) ↔ HasSource sources.now index }
-{
-    source_at(sources, index).is_some()
-}
-
-/// The source of an index, where it has one.
-pub fn source_at(sources: &[Option<usize>], index: usize) -> Option<usize>
-    ensures { result ≡ source_of sources.now index }
-{
-    sources.get(index).copied().flatten()
 }

@@ -4,9 +4,9 @@ use Rattle.zone_lists.specs.declared.zones.ZoneRow.{ZoneRow}
 use Rattle.catalogue.specs.Content.{Content}
 use Rattle.report_holds.specs.Holds.{HoldLists}
 use Rattle.zone_plans.specs.Plans.{IsZonePlan, PlanLists, plan_of}
-use Rattle.plan_texts.specs.declared.report.Report.{Report}
-use Rattle.plan_reports.specs.Form.{told_as}
-use Rattle.plan_reports.specs.declared.told.Form.{Form}
+use Rattle.questions.specs.declared.report.Report.{Report}
+use Rattle.plan_reports.specs.Replies.{told_as}
+use Rattle.questions.specs.declared.wanted.Form.{Form}
 
 -- what is told of a plan of some holds, whatever they are, is what is told of the plan of these
 pub told_of : (form : Form) (report : Report) (received : List (List ℕ)) (name : List ℕ) (content : Content) (rows : List ZoneRow) (holds : List HoldLists) (plan : PlanLists) (text : List ℕ)

@@ -1,2 +1,6 @@
-pub mod Form
+pub mod Members
+pub mod Found
+pub mod Adding
+pub mod Json
+pub mod Tables
 pub mod Replies

@@ -3,42 +3,34 @@ use Rattle.std.specs.Prelude.{ℕ, List}
 use Rattle.holddata.specs.declared.hold.Hold.{Hold}
 use Rattle.zone_lists.specs.declared.zones.ZoneRow.{ZoneRow}
 use Rattle.catalogue.specs.Content.{Content}
+use Rattle.questions.specs.declared.report.Report.{Report}
+use Rattle.questions.specs.declared.report.Report.TheVariants.{ErrSysmods, MissingFix}
+use Rattle.questions.specs.declared.wanted.Form.{Form}
+use Rattle.questions.specs.declared.wanted.Form.TheVariants.{Text, Json}
 use Rattle.reports.specs.ErrRows.{err_rows_of}
 use Rattle.reports.specs.MissingRows.{missing_rows_of}
+use Rattle.report_holds.specs.Holds.{HoldLists}
 use Rattle.report_holds.specs.Rows.{err_holds_of, missing_holds_of}
 use Rattle.zone_plans.specs.Plans.{PlanLists, plan_of}
-use Rattle.plan_members.specs.Members.{plan_members_of}
-use Rattle.plan_texts.specs.Json.{plan_json_of}
-use Rattle.plan_texts.specs.Tables.{plan_text_of}
-use Rattle.plan_texts.specs.declared.report.Report.{Report}
-use Rattle.plan_texts.specs.declared.report.Report.TheVariants.{ErrSysmods, MissingFix}
+use Rattle.plan_reports.specs.Members.{MemberLists, plan_members_of}
+use Rattle.plan_reports.specs.Json.{plan_json_of}
+use Rattle.plan_reports.specs.Tables.{plan_text_of}
 
--- a plan in print and as JSON, with what is said of its members
-abbrev pub text_of_plan : Content → List ZoneRow → List (List ℕ) → Report → List ℕ → PlanLists → List ℕ
-text_of_plan content rows received report name plan = plan_text_of report name (plan_members_of content rows received plan) plan
+-- the text of a plan and its members, in a form
+abbrev pub written_as : Form → Report → List ℕ → List MemberLists → PlanLists → List ℕ
+written_as Text report name members plan = plan_text_of report name members plan
+written_as Json report name members plan = plan_json_of report name members plan
 
-abbrev pub json_of_plan : Content → List ZoneRow → List (List ℕ) → Report → List ℕ → PlanLists → List ℕ
-json_of_plan content rows received report name plan = plan_json_of report name (plan_members_of content rows received plan) plan
+-- the text of a plan, with what is said of its members
+abbrev pub told_as : Form → Content → List ZoneRow → List (List ℕ) → Report → List ℕ → PlanLists → List ℕ
+told_as form content rows received report name plan = written_as form report name (plan_members_of content rows received plan) plan
 
--- the plan for the exception SYSMOD report, from the ERROR holds on what is installed
-abbrev pub err_plan_of : Content → List ZoneRow → List (List ℕ) → List Hold → PlanLists
-err_plan_of content rows received holds = plan_of content rows (err_holds_of (err_rows_of content rows received holds))
+-- the holds that a report tells of: ERROR holds on what is installed; or FIXCAT holds on it, of the categories that a pattern matches
+abbrev pub holds_of : Report → Content → List ZoneRow → List (List ℕ) → List (List ℕ) → List Hold → List HoldLists
+holds_of ErrSysmods content rows received patterns holds = err_holds_of (err_rows_of content rows received holds)
+holds_of MissingFix content rows received patterns holds = missing_holds_of (missing_rows_of content rows received patterns holds)
 
-abbrev pub err_plan_text_of : Content → List ZoneRow → List (List ℕ) → List Hold → List ℕ → List ℕ
-err_plan_text_of content rows received holds name = text_of_plan content rows received ErrSysmods name (err_plan_of content rows received holds)
-
-abbrev pub err_plan_json_of : Content → List ZoneRow → List (List ℕ) → List Hold → List ℕ → List ℕ
-err_plan_json_of content rows received holds name = json_of_plan content rows received ErrSysmods name (err_plan_of content rows received holds)
-
--- the plan for the missing fix report, from the FIXCAT holds on what is installed, of the categories that a pattern matches
-abbrev pub missing_plan_of : Content → List ZoneRow → List (List ℕ) → List (List ℕ) → List Hold → PlanLists
-missing_plan_of content rows received patterns holds =
-    plan_of content rows (missing_holds_of (missing_rows_of content rows received patterns holds))
-
-abbrev pub missing_plan_text_of : Content → List ZoneRow → List (List ℕ) → List (List ℕ) → List Hold → List ℕ → List ℕ
-missing_plan_text_of content rows received patterns holds name =
-    text_of_plan content rows received MissingFix name (missing_plan_of content rows received patterns holds)
-
-abbrev pub missing_plan_json_of : Content → List ZoneRow → List (List ℕ) → List (List ℕ) → List Hold → List ℕ → List ℕ
-missing_plan_json_of content rows received patterns holds name =
-    json_of_plan content rows received MissingFix name (missing_plan_of content rows received patterns holds)
+-- the plan for a report on a zone, in a form
+abbrev pub plan_answer_of : Report → Form → Content → List ZoneRow → List (List ℕ) → List (List ℕ) → List Hold → List ℕ → List ℕ
+plan_answer_of report form content rows received patterns holds name =
+    told_as form content rows received report name (plan_of content rows (holds_of report content rows received patterns holds))

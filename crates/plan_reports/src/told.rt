@@ -5,23 +5,17 @@ ghost use Rattle.catalogue.specs.Content.{Content};
 ghost use Rattle.catalogue.specs.Ids.{Ascend};
 ghost use Rattle.report_holds.specs.Holds.{HoldLists};
 ghost use Rattle.zone_plans.specs.Plans.{IsZonePlan};
-ghost use Rattle.plan_reports.specs.Form as Spec;
+ghost use Rattle.plan_reports.specs.Replies as Spec;
 
+use crate::json::plan_json;
+use crate::member::Member;
+use crate::members::plan_members;
+use crate::text::plan_text;
 use faults::NoMemory;
 use mcs_reader::Id;
-use plan_members::{Member, plan_members};
-use plan_texts::{Report, plan_json, plan_text};
+use questions::{Form, Report};
 use std::alloc::Global;
 use zone_plans::ZonePlan;
-
-/// The form in which a plan is told.
-#[derive(Clone, Copy)]
-pub(crate) enum Form {
-    /// In print.
-    Text,
-    /// As JSON.
-    Json,
-}
 
 /// A plan in a form.
 pub(crate) fn told_as(

@@ -6,8 +6,8 @@ use Rattle.lemmas.proofs.ListFacts.{flat_from, made_from, map_from}
 use Rattle.zone_lists.specs.declared.zones.ZoneRow.{ZoneRow}
 use Rattle.catalogue.specs.Content.{Content}
 use Rattle.holddata.specs.declared.hold.Hold.{Hold}
-use Rattle.chains.specs.Judge.{status_of}
-use Rattle.chains.specs.Verdicts.{verdict_of}
+use Rattle.verdicts.specs.Judge.{status_of}
+use Rattle.verdicts.specs.Verdicts.{verdict_of}
 use Rattle.reports.specs.ErrRows.{err_row, err_rows_of, err_rows_of_hold}
 use Rattle.reports.specs.MissingRows.{missing_row, missing_rows_of, missing_rows_of_category}
 use Rattle.reports.specs.Resolvers.{is_received, status_in}

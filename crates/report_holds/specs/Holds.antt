@@ -7,8 +7,8 @@ use Rattle.std.specs.declared.cmp.Ordering.{Ordering}
 use Rattle.zone_lists.specs.declared.zones.ZoneRow.{ZoneRow}
 use Rattle.catalogue.specs.Content.{Content}
 use Rattle.catalogue.specs.Ids.{id_cmp, same_id}
-use Rattle.chains.specs.Judge.{status_of}
-use Rattle.chains.specs.Verdicts.{verdict_of}
+use Rattle.verdicts.specs.Judge.{status_of}
+use Rattle.verdicts.specs.Verdicts.{verdict_of}
 use Rattle.report_holds.specs.declared.holds.HoldOn.{HoldOn}
 use Rattle.report_holds.specs.declared.holds.HoldRow.{HoldRow}
 use Rattle.report_holds.specs.declared.holds.Resolver.{Resolver}

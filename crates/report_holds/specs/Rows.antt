@@ -1,6 +1,6 @@
 -- The holds of the two reports (IBM z/OS SMP/E Commands, REPORT ERRSYSMODS and REPORT MISSINGFIX).
 use Rattle.std.specs.Prelude.{ℕ, Bool, List, Option, Some, None, map}
-use Rattle.chains.specs.declared.verdict.Status.{Status}
+use Rattle.verdicts.specs.declared.verdict.Status.{Status}
 use Rattle.reports.specs.declared.rows.ErrRow.{ErrRow}
 use Rattle.reports.specs.declared.rows.MissingRow.{MissingRow}
 use Rattle.report_holds.specs.Holds.{HoldLists, holds_of}

@@ -1,10 +1,10 @@
 //! The holds of a report, with what resolves each.
 
-use chains::Status;
 use faults::NoMemory;
 use mcs_reader::Id;
 use std::alloc::Global;
 use std::marker::Model;
+use verdicts::Status;
 
 /// A SYSMOD that resolves a hold, with what the report says of it.
 #[derive(Clone, Copy, Debug, PartialEq, Eq)]

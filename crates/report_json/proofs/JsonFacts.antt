@@ -6,7 +6,7 @@ use Rattle.holddata.specs.HoldBook.{hold_under}
 use Rattle.holddata.specs.declared.hold.Hold.{Hold}
 use Rattle.catalogue.specs.Content.{Content, record_of}
 use Rattle.catalogue.specs.declared.sysmod.Sysmod.{Sysmod}
-use Rattle.chains.specs.declared.verdict.Status.{Status}
+use Rattle.verdicts.specs.declared.verdict.Status.{Status}
 use Rattle.reports.specs.declared.rows.ErrRow.{ErrRow}
 use Rattle.reports.specs.declared.rows.MissingRow.{MissingRow}
 use Rattle.reports.proofs.ChainFacts.{items_plain, texts_plain}

@@ -12,7 +12,7 @@ use Rattle.holddata.specs.declared.key.Kind.TheVariants.{ErrorHold, FixcatHold}
 use Rattle.catalogue.specs.Content.{Content, record_of}
 use Rattle.catalogue.specs.Ids.{in_order}
 use Rattle.catalogue.specs.declared.sysmod.Sysmod.{Sysmod}
-use Rattle.chains.specs.declared.verdict.Status.{Status}
+use Rattle.verdicts.specs.declared.verdict.Status.{Status}
 use Rattle.reports.specs.ChainText.{texts}
 use Rattle.reports.specs.ReportText.{status_field}
 use Rattle.reports.specs.declared.rows.ErrRow.{ErrRow}

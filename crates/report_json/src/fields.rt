@@ -7,12 +7,12 @@ ghost use Rattle.reports.specs.ChainText.{texts};
 ghost use Rattle.report_json.specs.Json as Spec;
 
 use catalogue::Sysmod;
-use chains::Status;
 use faults::NoMemory;
 use holddata::{Date, Hold};
 use mcs_reader::Id;
 use serde_json::Value;
 use std::alloc::Global;
+use verdicts::Status;
 
 /// An id, or null where there is none.
 pub(crate) fn id_value(alloc: Global, id: &Option<Id>) -> Result<Value, NoMemory>

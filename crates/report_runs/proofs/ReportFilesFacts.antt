@@ -20,7 +20,7 @@ use Rattle.run_parts.specs.Files.{KnownFile, Unknown, Missing, Holds, IsOpened}
 use Rattle.run_parts.specs.declared.fault.ProgramFault.{ProgramFault}
 use Rattle.run_parts.specs.declared.fault.ProgramFault.TheVariants as program_fault
 use Rattle.run_parts.specs.declared.report_files.ReportFiles.{ReportFiles}
-use Rattle.report_runs.specs.declared.reporting.Report.{Report}
+use Rattle.report_runs.specs.declared.reporting.Question.{Question}
 
 -- ---- one file
 
@@ -105,10 +105,10 @@ module _ (files : List ℕ → KnownFile) where
 -- ---- a file that can't be read
 
 -- a run that ends before anything is made of its files
-pub not_read : (files : List ℕ → KnownFile) (report : Report) (names : ReportFiles) (input rest : Option (List ℕ)) (outputs : Outputs) (status : ℕ) (fault : ProgramFault)
+pub not_read : (files : List ℕ → KnownFile) (question : Question) (names : ReportFiles) (input rest : Option (List ℕ)) (outputs : Outputs) (status : ℕ) (fault : ProgramFault)
     → IsRefusal program_fault.Memory (λ fault. fault ≡ program_fault.NotRead) fault → Keeps outputs.output outputs.written → IsTold (Some (of_program fault)) outputs.errors outputs.told → status ≡ 3
-    → IsReport files report names input rest outputs status
-not_read files report names input rest outputs status fault (inl memory) kept told is =
+    → IsReport files question names input rest outputs status
+not_read files question names input rest outputs status fault (inl memory) kept told is =
     inr (inr (inr (kept, subst (λ fault. IsTold (Some (of_program fault)) outputs.errors outputs.told) memory told, is)))
-not_read files report names input rest outputs status fault (inr unread) kept told is =
+not_read files question names input rest outputs status fault (inr unread) kept told is =
     inr (inr (inl (kept, subst (λ fault. IsTold (Some (of_program fault)) outputs.errors outputs.told) unread told, is)))

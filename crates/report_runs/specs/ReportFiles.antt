@@ -15,8 +15,8 @@ use Rattle.report_runs.specs.Reporting.{IsReportRun, made_by}
 use Rattle.run_parts.specs.Files.{KnownFile, Unknown, Missing, Holds}
 use Rattle.run_parts.specs.declared.fault.ProgramFault.TheVariants.{NotRead, Memory}
 use Rattle.run_parts.specs.declared.report_files.ReportFiles.{ReportFiles}
-use Rattle.report_runs.specs.declared.reporting.Report.{Report}
-use Rattle.report_runs.specs.declared.reporting.Report.TheVariants.{Chain}
+use Rattle.report_runs.specs.declared.reporting.Question.{Question}
+use Rattle.report_runs.specs.declared.reporting.Question.TheVariants.{Chain}
 
 -- ---- what is read
 
@@ -90,13 +90,13 @@ times_standard_input names = length (standard_inputs (names_in names))
 -- ---- a whole run
 
 -- the report of what all files have, on this zone
-pub record IsReported (files : List ℕ → KnownFile) (report : Report) (names : ReportFiles) (input rest : Option (List ℕ)) (outputs : Outputs) (status : ℕ) : Type 0 where
+pub record IsReported (files : List ℕ → KnownFile) (question : Question) (names : ReportFiles) (input rest : Option (List ℕ)) (outputs : Outputs) (status : ℕ) : Type 0 where
   pub zone : List ℕ
   pub zone_is : zone_of names ≡ Some zone
   pub once : times_standard_input names ≤ 1
   pub inputs : Inputs
   pub read : AreInputs files names inputs input rest
-  pub printed : IsReportRun names (made_by report zone inputs) outputs.output outputs.written outputs.errors outputs.told status
+  pub printed : IsReportRun names (made_by question zone inputs) outputs.output outputs.written outputs.errors outputs.told status
 
 -- nothing is read, and standard error has a text for people
 abbrev pub IsNotAsked : Option (List ℕ) → Option (List ℕ) → Outputs → ℕ → Type 0
@@ -104,9 +104,9 @@ IsNotAsked input rest outputs status = Keeps input rest × ((text : List ℕ) ×
 
 -- `errsysmods` and `missingfix`: the report; or the zone has no name, or a second file is `-`; or a file can't be read, or memory
 -- ran out
-abbrev pub IsReport : (List ℕ → KnownFile) → Report → ReportFiles → Option (List ℕ) → Option (List ℕ) → Outputs → ℕ → Type 0
-IsReport files report names input rest outputs status =
-    IsReported files report names input rest outputs status
+abbrev pub IsReport : (List ℕ → KnownFile) → Question → ReportFiles → Option (List ℕ) → Option (List ℕ) → Outputs → ℕ → Type 0
+IsReport files question names input rest outputs status =
+    IsReported files question names input rest outputs status
     ⊎ (((zone_of names ≡ None) ⊎ (1 < times_standard_input names)) × IsNotAsked input rest outputs status)
     ⊎ (IsEndedBy NotRead outputs status ⊎ IsEndedBy Memory outputs status)
 

@@ -14,29 +14,30 @@ use Rattle.run_parts.specs.Outputs.{line_in}
 use Rattle.run_parts.specs.ProgramFault.{of_program, status_of}
 use Rattle.run_parts.specs.declared.fault.ProgramFault.TheVariants.{NotWritten}
 use Rattle.run_parts.specs.declared.report_files.ReportFiles.{ReportFiles}
-use Rattle.report_runs.specs.declared.reporting.Report.{Report}
-use Rattle.report_runs.specs.declared.reporting.Report.TheVariants.{ErrSysmods, MissingFix, Chain}
+use Rattle.report_runs.specs.declared.reporting.Question.{Question}
+use Rattle.questions.specs.declared.report.Report.TheVariants.{ErrSysmods, MissingFix}
+use Rattle.report_runs.specs.declared.reporting.Question.TheVariants.{Chain, Report}
 use Rattle.report_runs.specs.declared.reporting.ReportAsked.{ReportAsked}
 
--- the text of a report on a zone of this name; a verdict has a line end after it
-abbrev pub report_text : Report → List ℕ → Said → List ℕ
-report_text ErrSysmods zone said = err_text_said zone said
-report_text MissingFix zone said = missing_text_said zone said
+-- the text of what is asked, on a zone of this name; a verdict has a line end after it
+abbrev pub report_text : Question → List ℕ → Said → List ℕ
+report_text (Report ErrSysmods) zone said = err_text_said zone said
+report_text (Report MissingFix) zone said = missing_text_said zone said
 report_text (Chain sysmod) zone said = chain_text_said zone sysmod said ++ codes "\n"
 
--- the inputs that a report reads: fix categories are for the missing fixes alone, and a verdict asks for nothing that is received
-abbrev pub read_by : Report → Inputs → Inputs
-read_by ErrSysmods inputs = record inputs { categories = None }
-read_by MissingFix inputs = inputs
+-- the inputs that are read for it: fix categories are for the missing fixes alone, and a verdict asks for nothing that is received
+abbrev pub read_by : Question → Inputs → Inputs
+read_by (Report ErrSysmods) inputs = record inputs { categories = None }
+read_by (Report MissingFix) inputs = inputs
 read_by (Chain sysmod) inputs = record inputs { categories = None; received = None }
 
 -- what is made of the inputs: the text of the report, or the first fault
-abbrev pub made_by : Report → List ℕ → Inputs → Result (List ℕ) Refused
-made_by report zone inputs = text_by (report_text report zone) (read_by report inputs)
+abbrev pub made_by : Question → List ℕ → Inputs → Result (List ℕ) Refused
+made_by question zone inputs = text_by (report_text question zone) (read_by question inputs)
 
 -- the same of the lists and publications that a run is handed
 abbrev pub made_of : ReportAsked → List (List ℕ) → Result (List ℕ) Refused
-made_of asked publications = made_by asked.report asked.zone (inputs_of asked.lists publications)
+made_of asked publications = made_by asked.question asked.zone (inputs_of asked.lists publications)
 
 -- the name of the file that an input stands in
 abbrev pub name_of : ReportFiles → Input → Option (List ℕ)

@@ -2,7 +2,7 @@
 //!
 //! - [`run_holds`]: the hold book that a source leaves, in print; [`do_holds`]: of a FILE by its name
 //! - [`run_report`]: a report of bytes of files, as [`ReportAsked`]
-//! - [`do_report`], [`do_chain`]: a [`Report`] of files by their names
+//! - [`do_report`]: what a [`Question`] asks of files by their names; [`do_chain`]: the verdict on a SYSMOD
 //!
 //! ```
 //! let source = "++HOLD(UA10001) ERROR REASON(AA20002).";
@@ -19,4 +19,4 @@ mod reporting;
 
 pub use holds::{do_holds, run_holds};
 pub use report_files::{do_chain, do_report};
-pub use reporting::{Report, ReportAsked, run_report};
+pub use reporting::{Question, ReportAsked, run_report};

@@ -9,7 +9,7 @@ ghost use Rattle.report_runs.specs.ReportFiles.{AreInputs, AreRead, IsChain, IsR
 ghost use Rattle.report_runs.specs.Reporting.{AreNamed, IsReportRun, made_by};
 
 use crate::holds::read_input;
-use crate::reporting::{Report, ReportAsked, run_report};
+use crate::reporting::{Question, ReportAsked, run_report};
 use faults::NoMemory;
 use file_reports::Lists;
 use mcs_reader::Id;
@@ -44,25 +44,25 @@ pub fn do_chain<S: Files, I: Read, O: Write, E: Write>(
 {
     match Id::new(sysmod.as_bytes()) {
         Some(sysmod) => {
-            let report = Report::Chain(sysmod);
-            do_report(surroundings, alloc, report, files, input, output, errors)
+            let question = Question::Chain(sysmod);
+            do_report(surroundings, alloc, question, files, input, output, errors)
         }
         None => explain(errors, "SYSMOD is no id: 1 to 7 of A-Z 0-9 @ # $\n"),
     }
 }
 
-/// Prints a report of these files. Nothing is read where the zone has no name, or where a second file is `-`: status 2
+/// Prints what is asked of these files. Nothing is read where the zone has no name, or where a second file is `-`: status 2
 /// says so.
 pub fn do_report<S: Files, I: Read, O: Write, E: Write>(
     surroundings: &S,
     alloc: Global,
-    report: Report,
+    question: Question,
     files: &ReportFiles,
     input: &mut I,
     output: &mut O,
     errors: &mut E,
 ) -> u8
-    ensures { IsReport (S.known_file surroundings.now) report files.now
+    ensures { IsReport (S.known_file surroundings.now) question files.now
         (I.remaining input.old) (I.remaining input.new)
         (outputs_of O.contents E.contents output.old output.new errors.old errors.new) result }
 {
@@ -78,15 +78,15 @@ pub fn do_report<S: Files, I: Read, O: Write, E: Write>(
         return explain(errors, "standard input is one file: give - once\n");
     }
     match read_files(surroundings, alloc, files, input) {
-        Ok(contents) => print(alloc, report, zone, files, contents, output, errors),
+        Ok(contents) => print(alloc, question, zone, files, contents, output, errors),
         Err(fault) => refuse(errors, fault),
     }
 }
 
-// Prints the report of what the files have.
+// Prints what is asked of what the files have.
 fn print<O: Write, E: Write>(
     alloc: Global,
-    report: Report,
+    question: Question,
     zone: Id,
     files: &ReportFiles,
     contents: Contents,
@@ -94,7 +94,7 @@ fn print<O: Write, E: Write>(
     errors: &mut E,
 ) -> u8
     requires { AreNamed files.now (inputs_in contents) }
-    ensures { IsReportRun files.now (made_by report zone (inputs_in contents))
+    ensures { IsReportRun files.now (made_by question zone (inputs_in contents))
         (O.contents output.old) (O.contents output.new)
         (E.contents errors.old) (E.contents errors.new) result }
 {
@@ -111,7 +111,7 @@ fn print<O: Write, E: Write>(
         received,
     };
     let asked = ReportAsked {
-        report,
+        question,
         zone,
         lists,
         files,

@@ -8,25 +8,24 @@ use catalogue::SourceFault;
 use faults::AnyFault;
 use file_reports::{Input, InputFault, Lists, chain_report, err_report, missing_report};
 use mcs_reader::Id;
+use questions::Report;
 use run_parts::{ReportFiles, exit_status, report, tell_in, write_text};
 use std::alloc::Global;
 use std::io::{self, Write};
 
-/// Which report is asked for.
+/// What is asked of files.
 #[derive(Clone, Copy, Debug)]
-pub enum Report {
-    /// The exception SYSMODs.
-    ErrSysmods,
-    /// The missing fixes.
-    MissingFix,
-    /// The verdict on a SYSMOD.
+pub enum Question {
+    /// A report on a zone.
+    Report(Report),
+    /// The verdict on a SYSMOD in a zone.
     Chain(Id),
 }
 
-/// What is asked: which report, of which zone, with its lists, and the names of all files.
+/// What is asked, of which zone, with its lists, and the names of all files.
 #[derive(Clone, Copy, Debug)]
 pub struct ReportAsked<'a, 'f> {
-    pub report: Report,
+    pub question: Question,
     pub zone: Id,
     pub lists: Lists<'a>,
     pub files: &'f ReportFiles,
@@ -97,10 +96,20 @@ fn report_text(
     ensures fault { IfErr result
         (IsFirstFault (made_of asked.now (map (λ body. body.items) publications.items))) }
 {
-    match asked.report {
-        Report::ErrSysmods => err_report(alloc, &asked.zone, asked.lists, publications),
-        Report::MissingFix => missing_report(alloc, &asked.zone, asked.lists, publications),
-        Report::Chain(sysmod) => {
+    match asked.question {
+        Question::Report(Report::ErrSysmods) => err_report(
+            alloc,
+            &asked.zone,
+            asked.lists,
+            publications,
+        ),
+        Question::Report(Report::MissingFix) => missing_report(
+            alloc,
+            &asked.zone,
+            asked.lists,
+            publications,
+        ),
+        Question::Chain(sysmod) => {
             let text = chain_report(alloc, &asked.zone, &sysmod, asked.lists, publications)?;
             with_line_end(text)
         }

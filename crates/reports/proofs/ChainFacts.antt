@@ -8,7 +8,7 @@ use Rattle.serde_json.specs.Written.{has_float, items_have_float}
 use Rattle.serde_json.specs.declared.value.Value.{Value}
 use Rattle.catalogue.specs.Content.{Content, holds_on}
 use Rattle.holddata.specs.declared.key.Kind.TheVariants.{SystemHold, UserHold}
-use Rattle.chains.specs.Verdicts.{Judged, good, held, lack}
+use Rattle.verdicts.specs.Verdicts.{Judged, good, held, lack}
 use Rattle.reports.specs.ChainText.{chain_data, member_with, plan_items, plan_member, reasons_in, texts}
 
 -- one more value

@@ -9,9 +9,9 @@ use Rattle.catalogue.specs.Content.{Content}
 use Rattle.catalogue.specs.declared.sysmod.Sysmod.{Sysmod}
 use Rattle.catalogue.specs.declared.sysmod.SysmodKind.TheVariants.{Func, Ptf}
 use Rattle.supersede.proofs.Examples.{apar, first, function, second, third, zone}
-use Rattle.chains.specs.Verdicts.{verdict_of}
-use Rattle.chains.specs.declared.verdict.Status.{Status}
-use Rattle.chains.specs.declared.verdict.Status.TheVariants.{Good, Held, Lack}
+use Rattle.verdicts.specs.Verdicts.{verdict_of}
+use Rattle.verdicts.specs.declared.verdict.Status.{Status}
+use Rattle.verdicts.specs.declared.verdict.Status.TheVariants.{Good, Held, Lack}
 use Rattle.reports.specs.ChainText.{chain_text_of}
 use Rattle.reports.specs.ErrRows.{err_rows_of}
 use Rattle.reports.specs.MissingRows.{missing_rows_of}

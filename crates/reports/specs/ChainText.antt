@@ -8,7 +8,7 @@ use Rattle.holddata.specs.declared.key.Kind.{Kind}
 use Rattle.holddata.specs.declared.hold.Hold.{Hold}
 use Rattle.holddata.specs.declared.key.Kind.TheVariants.{SystemHold, UserHold}
 use Rattle.catalogue.specs.Content.{Content, holds_on}
-use Rattle.chains.specs.Verdicts.{Judged, good, held, lack}
+use Rattle.verdicts.specs.Verdicts.{Judged, good, held, lack}
 
 -- texts as an array
 abbrev pub texts : List (List ℕ) → Items

@@ -9,7 +9,7 @@ use Rattle.holddata.specs.declared.hold.Hold.{Hold}
 use Rattle.zone_lists.specs.declared.zones.ZoneRow.{ZoneRow}
 use Rattle.catalogue.specs.Content.{Content}
 use Rattle.catalogue.specs.Ids.{id_cmp}
-use Rattle.chains.specs.declared.verdict.Status.{Status}
+use Rattle.verdicts.specs.declared.verdict.Status.{Status}
 use Rattle.reports.specs.Resolvers.{all_found, row_by, unless_there}
 use Rattle.reports.specs.declared.errors.ErrorFound.{ErrorFound}
 use Rattle.reports.specs.declared.errors.ErrorHeld.{ErrorHeld}

@@ -10,7 +10,7 @@ use Rattle.holddata.specs.declared.hold.Hold.{Hold}
 use Rattle.zone_lists.specs.declared.zones.ZoneRow.{ZoneRow}
 use Rattle.catalogue.specs.Content.{Content}
 use Rattle.catalogue.specs.Ids.{id_cmp, in_order}
-use Rattle.chains.specs.declared.verdict.Status.{Status}
+use Rattle.verdicts.specs.declared.verdict.Status.{Status}
 use Rattle.reports.specs.MissingRows.{Missing, categories_asked, is_resolver_there, resolvers_by}
 use Rattle.reports.specs.Resolvers.{all_found, row_by, unless_there}
 use Rattle.reports.specs.declared.missing.MissingHeld.{MissingHeld}

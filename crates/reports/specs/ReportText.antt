@@ -5,8 +5,8 @@ use Rattle.mcs_reader.specs.Id.{text_of}
 use Rattle.holddata.specs.BookText.{id_field}
 use Rattle.reports.specs.declared.rows.ErrRow.{ErrRow}
 use Rattle.reports.specs.declared.rows.MissingRow.{MissingRow}
-use Rattle.chains.specs.declared.verdict.Status.{Status}
-use Rattle.chains.specs.declared.verdict.Status.TheVariants.{Good, Held, Lack}
+use Rattle.verdicts.specs.declared.verdict.Status.{Status}
+use Rattle.verdicts.specs.declared.verdict.Status.TheVariants.{Good, Held, Lack}
 
 -- what stands for a resolver: its id, or that there is none
 abbrev pub resolver_field : Option (List ℕ) → List ℕ

@@ -8,10 +8,10 @@ use Rattle.catalogue.specs.Content.{Content, ids_of}
 use Rattle.catalogue.specs.Ids.{same_id}
 use Rattle.supersede.specs.Giving.{gives, is_candidate, is_there}
 use Rattle.supersede.specs.Reach.{has}
-use Rattle.chains.specs.Candidates.{candidates_unless_there}
-use Rattle.chains.specs.Judge.{status_of}
-use Rattle.chains.specs.Verdicts.{verdict_of}
-use Rattle.chains.specs.declared.verdict.Status.{Status}
+use Rattle.verdicts.specs.Candidates.{candidates_unless_there}
+use Rattle.verdicts.specs.Judge.{status_of}
+use Rattle.verdicts.specs.Verdicts.{verdict_of}
+use Rattle.verdicts.specs.declared.verdict.Status.{Status}
 
 -- the verdict on an id in a zone
 abbrev pub status_in : Content → List ZoneRow → List ℕ → Status

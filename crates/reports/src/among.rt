@@ -5,13 +5,13 @@ ghost use Rattle.std.specs.Global.{Vec};
 ghost use Rattle.mcs_reader.specs.declared.id.Id.{Id};
 ghost use Rattle.catalogue.specs.Ids.{Ascend, put_among};
 ghost use Rattle.supersede.specs.Reach.{has};
-ghost use Rattle.chains.specs.declared.verdict.Status.{Status};
+ghost use Rattle.verdicts.specs.declared.verdict.Status.{Status};
 
-use chains::Status;
 use faults::NoMemory;
 use mcs_reader::Id;
 use std::collections::BTreeSet;
 use supersede::index_among;
+use verdicts::Status;
 
 /// The candidates that were found for one of the SYSMODs that were asked for, or what is handed for another. It takes no
 /// memory.

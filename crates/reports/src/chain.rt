@@ -3,17 +3,17 @@ ghost use Rattle.std.specs.Prelude.{◌≡◌, IfOk};
 ghost use Rattle.serde_json.specs.View.{items_view, view};
 ghost use Rattle.catalogue.specs.View.{MayAsk, Tells};
 ghost use Rattle.catalogue.specs.declared.fault.SourceFault.TheVariants.{Device};
-ghost use Rattle.chains.specs.Judge.{judged_by};
+ghost use Rattle.verdicts.specs.Judge.{judged_by};
 ghost use Rattle.reports.specs.ChainText.{chain_data, chain_text_of, good_data, held_data, lack_data, member_with, plan_items, reasons_in, texts};
 
 use crate::json::compact;
 use catalogue::{Published, SourceFault};
-use chains::Verdict;
 use faults::NoMemory;
 use holddata::{Hold, Kind};
 use mcs_reader::Id;
 use serde_json::{Value, json};
 use std::alloc::Global;
+use verdicts::Verdict;
 
 /// The verdict on a SYSMOD in a zone as compact JSON with its keys in ascending order.
 ///

@@ -10,13 +10,13 @@ use crate::among::answer_among;
 use crate::resolvers::{Answer, Reported, Resolved, copied, rows_of};
 use crate::{ErrRow, Status};
 use catalogue::{Published, SourceFault};
-use chains::Judge;
 use faults::NoMemory;
 use holddata::Hold;
 use mcs_reader::Id;
 use std::alloc::Global;
 use std::collections::BTreeSet;
 use supersede::Zone;
+use verdicts::Judge;
 
 // What the report shows of a hold, in its order.
 #[derive(Clone, Copy, PartialEq, Eq, PartialOrd, Ord)]

@@ -35,9 +35,9 @@ mod text;
 
 pub use among::{answer_among, is_among, list_among, put_all};
 pub use chain::plan_json;
-pub use chains::Status;
 pub use errors::err_rows;
 pub use json::{compact, text_values};
 pub use missing::missing_rows;
 pub use rows::{ErrRow, MissingCategory, MissingRow};
 pub use text::{err_text, missing_text, titled};
+pub use verdicts::Status;

@@ -16,13 +16,13 @@ use crate::among::{answer_among, put_all};
 use crate::resolvers::{Answer, Reported, Resolved, put_any, rows_of};
 use crate::{MissingCategory, MissingRow, Status};
 use catalogue::{Published, SourceFault};
-use chains::Judge;
 use faults::NoMemory;
 use holddata::Hold;
 use mcs_reader::Id;
 use std::alloc::Global;
 use std::collections::BTreeSet;
 use supersede::Zone;
+use verdicts::Judge;
 use zone_lists::Pattern;
 
 // What the report shows of a category of a hold, in its order.

@@ -7,17 +7,17 @@ ghost use Rattle.catalogue.specs.Ids.{Ascend, in_order, put_among};
 ghost use Rattle.catalogue.specs.View.{MayAsk, Tells};
 ghost use Rattle.catalogue.specs.declared.fault.SourceFault.TheVariants.{Device};
 ghost use Rattle.supersede.specs.Reach.{has};
-ghost use Rattle.chains.specs.declared.verdict.Status.{Status};
+ghost use Rattle.verdicts.specs.declared.verdict.Status.{Status};
 ghost use Rattle.reports.specs.Resolvers.{AreAmong, AreAnswers, all_found, found_by, row_by, status_in};
 
 use crate::among::{is_among, status_among};
 use catalogue::{Published, SourceFault};
-use chains::{Judge, Status};
 use faults::NoMemory;
 use mcs_reader::Id;
 use std::alloc::Global;
 use std::collections::BTreeSet;
 use supersede::Zone;
+use verdicts::{Judge, Status};
 
 /// The candidates that give a SYSMOD, ascending, unless it is there.
 pub(crate) type Answer = Option<Vec<Id>>;

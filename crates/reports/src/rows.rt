@@ -4,12 +4,12 @@ ghost use Rattle.std.specs.Cmp.{partial_equiv_from_equiv};
 ghost use Rattle.std.specs.Cmp.Lexicographic.{nat_list_cmp_total, nat_list_eq_equiv, pointwise, slice_cmp, texts_po, texts_ties};
 ghost use Rattle.std.specs.Ordering.{nat_cmp};
 
-use chains::Status;
 use faults::NoMemory;
 use mcs_reader::Id;
 use std::alloc::Global;
 use std::cmp::Ordering;
 use std::marker::Model;
+use verdicts::Status;
 
 /// A row of the exception SYSMOD report: an ERROR hold on an installed SYSMOD whose reason isn't there,
 /// and a SYSMOD that resolves it; or that there is none.

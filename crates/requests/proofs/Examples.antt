@@ -3,6 +3,9 @@
 use Rattle.std.proofs.Common.{◌≡◌, ℕ, true, false, List, [], ◌∷◌, Some, None, Result, Ok, Err, codes, refl}
 use Rattle.matchit.proofs.OnLiterals.{matchit_on_literals}
 use Rattle.percent_encoding.proofs.OnLiterals.{percent_encoding_on_literals}
+use Rattle.questions.specs.declared.report.Report.TheVariants.{ErrSysmods}
+use Rattle.questions.specs.declared.wanted.Form.TheVariants.{Json}
+use Rattle.questions.specs.declared.wanted.Wanted.TheVariants.{Rows}
 use Rattle.requests.specs.HeadEnd.{front_of, lines_between, whole_len}
 use Rattle.requests.specs.Headers.{Pair}
 use Rattle.requests.specs.Request.{Parts, asked, body_len, longest_body, number_of, parts_by, zone_in}
@@ -107,11 +110,11 @@ pub nowhere : asked (codes "GET") (codes "/zones/") ≡ Err NotFound
 unfolding routes table with_route matchit_on_literals
 nowhere = refl
 
-pub zones_as_json : asked (codes "GET") (codes "/zones.json") ≡ Ok action.ListZonesJson
+pub zones_as_json : asked (codes "GET") (codes "/zones.json") ≡ Ok (action.ListZones Json)
 unfolding routes table with_route matchit_on_literals
 zones_as_json = refl
 
-pub report_as_json : asked (codes "GET") (codes "/zones/ZONES/errsysmods.json") ≡ Ok (action.ErrSysmodsJson (codes "ZONES  "))
+pub report_as_json : asked (codes "GET") (codes "/zones/ZONES/errsysmods.json") ≡ Ok (action.Report ErrSysmods (Rows Json) (codes "ZONES  "))
 unfolding routes table with_route matchit_on_literals percent_encoding_on_literals
 report_as_json = refl
 

@@ -1,5 +1,5 @@
 -- Routes that are put in one after the other.
-use Rattle.std.proofs.Common.{◌≡◌, ℕ, List, Result, Ok, Err, Bor}
+use Rattle.std.proofs.Common.{◌≡◌, ℕ, List, Result, Ok, Err}
 use Rattle.matchit.specs.Route.{Scan, parse_route}
 use Rattle.matchit.specs.Router.{InsertsRead}
 use Rattle.matchit.specs.declared.error.InsertError.{InsertError}
@@ -15,7 +15,3 @@ pub inserted : (path : List ℕ) (resource : Resource) (old new : Rows)
     → InsertsRead (parse_route path) resource old new (Ok tt) → new ≡ with_route old (path, resource)
 unfolding with_route
 inserted path resource old new h = scanned (parse_route path) resource old new h
-
--- with an entry of the code's table
-abbrev pub with_entry : Rows → Bor (List ℕ) × Resource → Rows
-with_entry rows entry = with_route rows (entry.0.now, entry.1)

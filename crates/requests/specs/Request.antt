@@ -9,13 +9,12 @@ use Rattle.httparse.specs.Spans.{name_and_value}
 use Rattle.mcs_reader.specs.Id.{id_of}
 use Rattle.percent_encoding.specs.Percent.{percent_decode}
 use Rattle.requests.specs.Headers.{Pair, asks_to_close, has, sole_value, values}
-use Rattle.requests.specs.Routes.{resource_at, operation_of}
+use Rattle.requests.specs.Routes.{resource_at, takes}
 use Rattle.requests.specs.Text.{before, after, begins_with, is_number}
 use Rattle.requests.specs.declared.action.Action.{Action}
 use Rattle.requests.specs.declared.refusal.Refusal.{Refusal}
 use Rattle.requests.specs.declared.refusal.Refusal.TheVariants.{BadRequest, NotFound, MethodNotAllowed, LengthRequired, TooLarge}
 use Rattle.requests.specs.declared.resource.Resource.{Resource}
-use Rattle.requests.specs.declared.resource.Operation.{Operation}
 
 -- what a head asks for: its method, its target, the caller's token and the number of a change, where there is just one
 -- of each, and whether the connection ends after the reply
@@ -78,38 +77,25 @@ sysmod_in path = id_in (before slash (after slash (after slash (after slash (aft
 
 -- ---- the action
 
--- an operation with the ids in the path, where these are ids
-abbrev pub action_at : Operation → List ℕ → Option Action
-action_at Operation.Publish path = Some Action.Publish
-action_at Operation.Counts path = Some Action.Counts
-action_at Operation.CountsJson path = Some Action.CountsJson
-action_at Operation.ListZones path = Some Action.ListZones
-action_at Operation.ListZonesJson path = Some Action.ListZonesJson
-action_at Operation.PutReceived path = Some Action.PutReceived
-action_at Operation.PutZone path = option_map Action.PutZone (zone_in path)
-action_at Operation.DropZone path = option_map Action.DropZone (zone_in path)
-action_at Operation.PutPatterns path = option_map Action.PutPatterns (zone_in path)
-action_at Operation.ErrSysmods path = option_map Action.ErrSysmods (zone_in path)
-action_at Operation.ErrSysmodsJson path = option_map Action.ErrSysmodsJson (zone_in path)
-action_at Operation.MissingFix path = option_map Action.MissingFix (zone_in path)
-action_at Operation.MissingFixJson path = option_map Action.MissingFixJson (zone_in path)
-action_at Operation.ErrPlan path = option_map Action.ErrPlan (zone_in path)
-action_at Operation.ErrPlanJson path = option_map Action.ErrPlanJson (zone_in path)
-action_at Operation.MissingPlan path = option_map Action.MissingPlan (zone_in path)
-action_at Operation.MissingPlanJson path = option_map Action.MissingPlanJson (zone_in path)
-action_at Operation.Chain path = option_map (λ ids. Action.Chain ids.0 ids.1) (option_zip (zone_in path) (sysmod_in path))
+-- what a method asks for at a path that names this, where the path has the ids that are wanted
+abbrev pub action_at : Resource → List ℕ → List ℕ → Option Action
+action_at Resource.Publication method path = Some Action.Publish
+action_at (Resource.Catalogue form) method path = Some (Action.Counts form)
+action_at (Resource.Zones form) method path = Some (Action.ListZones form)
+action_at Resource.Received method path = Some Action.PutReceived
+action_at Resource.Zone method path =
+    if bytes_eq method (codes "DELETE") then option_map Action.DropZone (zone_in path) else option_map Action.PutZone (zone_in path)
+action_at Resource.Patterns method path = option_map Action.PutPatterns (zone_in path)
+action_at (Resource.Report report wanted) method path = option_map (Action.Report report wanted) (zone_in path)
+action_at Resource.Chain method path = option_map (λ ids. Action.Chain ids.0 ids.1) (option_zip (zone_in path) (sysmod_in path))
 
 abbrev pub action_or : Option Action → Result Action Refusal
 action_or None = Err NotFound
 action_or (Some action) = Ok action
 
-abbrev pub operation_or : Resource → Option Operation → List ℕ → Result Action Refusal
-operation_or resource None path = Err (MethodNotAllowed resource)
-operation_or resource (Some operation) path = action_or (action_at operation path)
-
 abbrev pub resource_or : Option Resource → List ℕ → List ℕ → Result Action Refusal
 resource_or None method path = Err NotFound
-resource_or (Some resource) method path = operation_or resource (operation_of resource method) path
+resource_or (Some resource) method path = if takes resource method then action_or (action_at resource method path) else Err (MethodNotAllowed resource)
 
 -- what a method asks for at a path: first the path, then the method, then the ids in the path
 abbrev pub asked : List ℕ → List ℕ → Result Action Refusal

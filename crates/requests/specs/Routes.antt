@@ -1,6 +1,7 @@
--- The paths of the bureau, as `matchit` matches them, and the call that each method of a path makes.
-use Rattle.std.specs.Prelude.{ℕ, ◌++◌, List, [], ◌∷◌, map, codes, Option, Some, None, Result, Ok, Err, if◌then◌else◌}
-use Rattle.std.specs.List.{fold}
+-- The paths of the bureau, as `matchit` matches them, and the methods of each.
+use Rattle.std.specs.Prelude.{ℕ, ◌++◌, Bool, List, [], ◌∷◌, codes, Option, Result, Ok, Err}
+use Rattle.std.specs.Borrow.{Bor}
+use Rattle.std.specs.List.{fold, list_any}
 use Rattle.std.specs.Option.{option_map}
 use Rattle.std.specs.Str.{bytes_eq}
 use Rattle.matchit.specs.Order.{placed}
@@ -10,27 +11,29 @@ use Rattle.matchit.specs.Rows.{RowsOf}
 use Rattle.matchit.specs.Seek.{first}
 use Rattle.matchit.specs.declared.error.InsertError.{InsertError}
 use Rattle.requests.specs.declared.resource.Resource.{Resource}
-use Rattle.requests.specs.declared.resource.Operation.{Operation}
+use Rattle.questions.specs.declared.report.Report.TheVariants.{ErrSysmods, MissingFix}
+use Rattle.questions.specs.declared.wanted.Form.TheVariants.{Text, Json}
+use Rattle.questions.specs.declared.wanted.Wanted.TheVariants as wanted
 
 -- the paths, with what they name
 unfoldable pub table : List (List ℕ × Resource)
 table =
     (codes "/publish", Resource.Publication)
-    ∷ (codes "/published", Resource.Catalogue)
-    ∷ (codes "/published.json", Resource.CatalogueJson)
-    ∷ (codes "/zones", Resource.Zones)
-    ∷ (codes "/zones.json", Resource.ZonesJson)
+    ∷ (codes "/published", Resource.Catalogue Text)
+    ∷ (codes "/published.json", Resource.Catalogue Json)
+    ∷ (codes "/zones", Resource.Zones Text)
+    ∷ (codes "/zones.json", Resource.Zones Json)
     ∷ (codes "/zones/{zone}", Resource.Zone)
     ∷ (codes "/zones/{zone}/categories", Resource.Patterns)
     ∷ (codes "/received", Resource.Received)
-    ∷ (codes "/zones/{zone}/errsysmods", Resource.ErrSysmods)
-    ∷ (codes "/zones/{zone}/errsysmods.json", Resource.ErrSysmodsJson)
-    ∷ (codes "/zones/{zone}/missingfix", Resource.MissingFix)
-    ∷ (codes "/zones/{zone}/missingfix.json", Resource.MissingFixJson)
-    ∷ (codes "/zones/{zone}/errsysmods/plan", Resource.ErrPlan)
-    ∷ (codes "/zones/{zone}/errsysmods/plan.json", Resource.ErrPlanJson)
-    ∷ (codes "/zones/{zone}/missingfix/plan", Resource.MissingPlan)
-    ∷ (codes "/zones/{zone}/missingfix/plan.json", Resource.MissingPlanJson)
+    ∷ (codes "/zones/{zone}/errsysmods", Resource.Report ErrSysmods (wanted.Rows Text))
+    ∷ (codes "/zones/{zone}/errsysmods.json", Resource.Report ErrSysmods (wanted.Rows Json))
+    ∷ (codes "/zones/{zone}/missingfix", Resource.Report MissingFix (wanted.Rows Text))
+    ∷ (codes "/zones/{zone}/missingfix.json", Resource.Report MissingFix (wanted.Rows Json))
+    ∷ (codes "/zones/{zone}/errsysmods/plan", Resource.Report ErrSysmods (wanted.Plan Text))
+    ∷ (codes "/zones/{zone}/errsysmods/plan.json", Resource.Report ErrSysmods (wanted.Plan Json))
+    ∷ (codes "/zones/{zone}/missingfix/plan", Resource.Report MissingFix (wanted.Plan Text))
+    ∷ (codes "/zones/{zone}/missingfix/plan.json", Resource.Report MissingFix (wanted.Plan Json))
     ∷ (codes "/zones/{zone}/chains/{sysmod}", Resource.Chain)
     ∷ []
 
@@ -46,6 +49,10 @@ with_scan rows resource (Err error) = rows
 unfoldable pub with_route : Rows → List ℕ × Resource → Rows
 with_route rows route = with_scan rows route.1 (parse_route route.0)
 
+-- the same, of an entry as the code lends it
+abbrev pub with_entry : Rows → Bor (List ℕ) × Resource → Rows
+with_entry rows entry = with_route rows (entry.0.now, entry.1)
+
 -- the routes of the table, put in one after the other
 unfoldable pub routes : Rows
 routes = fold with_route [] table
@@ -54,33 +61,24 @@ routes = fold with_route [] table
 abbrev pub resource_at : List ℕ → Option Resource
 resource_at path = option_map (λ route. route.value) (first routes path)
 
--- the methods of a path in alphabetical order, each with what it does
-abbrev pub methods_of : Resource → List (List ℕ × Operation)
-methods_of Resource.Publication = (codes "POST", Operation.Publish) ∷ []
-methods_of Resource.Catalogue = (codes "GET", Operation.Counts) ∷ []
-methods_of Resource.CatalogueJson = (codes "GET", Operation.CountsJson) ∷ []
-methods_of Resource.Zones = (codes "GET", Operation.ListZones) ∷ []
-methods_of Resource.ZonesJson = (codes "GET", Operation.ListZonesJson) ∷ []
-methods_of Resource.Zone = (codes "DELETE", Operation.DropZone) ∷ (codes "PUT", Operation.PutZone) ∷ []
-methods_of Resource.Patterns = (codes "PUT", Operation.PutPatterns) ∷ []
-methods_of Resource.Received = (codes "PUT", Operation.PutReceived) ∷ []
-methods_of Resource.ErrSysmods = (codes "GET", Operation.ErrSysmods) ∷ []
-methods_of Resource.ErrSysmodsJson = (codes "GET", Operation.ErrSysmodsJson) ∷ []
-methods_of Resource.MissingFix = (codes "GET", Operation.MissingFix) ∷ []
-methods_of Resource.MissingFixJson = (codes "GET", Operation.MissingFixJson) ∷ []
-methods_of Resource.ErrPlan = (codes "GET", Operation.ErrPlan) ∷ []
-methods_of Resource.ErrPlanJson = (codes "GET", Operation.ErrPlanJson) ∷ []
-methods_of Resource.MissingPlan = (codes "GET", Operation.MissingPlan) ∷ []
-methods_of Resource.MissingPlanJson = (codes "GET", Operation.MissingPlanJson) ∷ []
-methods_of Resource.Chain = (codes "GET", Operation.Chain) ∷ []
+-- the methods of a path, in alphabetical order
+abbrev pub methods_of : Resource → List (List ℕ)
+methods_of Resource.Publication = codes "POST" ∷ []
+methods_of (Resource.Catalogue form) = codes "GET" ∷ []
+methods_of (Resource.Zones form) = codes "GET" ∷ []
+methods_of Resource.Zone = codes "DELETE" ∷ codes "PUT" ∷ []
+methods_of Resource.Patterns = codes "PUT" ∷ []
+methods_of Resource.Received = codes "PUT" ∷ []
+methods_of (Resource.Report report wanted) = codes "GET" ∷ []
+methods_of Resource.Chain = codes "GET" ∷ []
 
--- what a method does, if it is there
-abbrev pub operation_in : List ℕ → List (List ℕ × Operation) → Option Operation
-operation_in method [] = None
-operation_in method (entry ∷ rest) = if bytes_eq method entry.0 then Some entry.1 else operation_in method rest
+-- whether a method is one of these
+abbrev pub is_among : List (List ℕ) → List ℕ → Bool
+is_among names method = list_any (bytes_eq method) names
 
-abbrev pub operation_of : Resource → List ℕ → Option Operation
-operation_of resource method = operation_in method (methods_of resource)
+-- whether there is such a method at a path
+abbrev pub takes : Resource → List ℕ → Bool
+takes resource = is_among (methods_of resource)
 
 -- names joined by a comma and a blank
 abbrev pub joined : List (List ℕ) → List ℕ
@@ -90,4 +88,4 @@ joined (name ∷ next ∷ rest) = name ++ codes ", " ++ joined (next ∷ rest)
 
 -- the methods of a path, as the line `allow` of a reply has them (RFC 9110, section 10.2.1)
 abbrev pub allow_of : Resource → List ℕ
-allow_of resource = joined (map (λ entry. entry.0) (methods_of resource))
+allow_of resource = joined (methods_of resource)

@@ -2,22 +2,19 @@
 ghost use Rattle.std.specs.Prelude.{◌≡◌, ℕ, List};
 ghost use Rattle.requests.specs.Request as Spec;
 
-use crate::resource::Operation;
+use crate::resource::Resource;
 use mcs_reader::Id;
+use questions::{Form, Report, Wanted};
 
 /// What a request asks the bureau for.
 #[derive(Clone, Copy, Debug, PartialEq, Eq)]
 pub enum Action {
     /// Publishes the statements in the body.
     Publish,
-    /// Tells how much is published, in print.
-    Counts,
-    /// Tells how much is published, as JSON.
-    CountsJson,
-    /// Lists the caller's zones, in print.
-    ListZones,
-    /// Lists the caller's zones, as JSON.
-    ListZonesJson,
+    /// Tells how much is published.
+    Counts(Form),
+    /// Lists the caller's zones.
+    ListZones(Form),
     /// Puts the zone in the body in place of this one.
     PutZone(Id),
     /// Takes this zone away.
@@ -26,53 +23,31 @@ pub enum Action {
     PutPatterns(Id),
     /// Puts the received SYSMODs in the body in place of the caller's.
     PutReceived,
-    /// Reports the exception SYSMODs of this zone, in print.
-    ErrSysmods(Id),
-    /// Reports the exception SYSMODs of this zone, as JSON.
-    ErrSysmodsJson(Id),
-    /// Reports the missing fixes of this zone, in print.
-    MissingFix(Id),
-    /// Reports the missing fixes of this zone, as JSON.
-    MissingFixJson(Id),
-    /// Plans what resolves the exception SYSMODs of this zone, in print.
-    ErrPlan(Id),
-    /// Plans what resolves the exception SYSMODs of this zone, as JSON.
-    ErrPlanJson(Id),
-    /// Plans the missing fixes of this zone, in print.
-    MissingPlan(Id),
-    /// Plans the missing fixes of this zone, as JSON.
-    MissingPlanJson(Id),
+    /// Reports on this zone, or plans what the report asks for.
+    Report(Report, Wanted, Id),
     /// Tells what to install in this zone with this SYSMOD.
     Chain(Id, Id),
 }
 
-// What an operation asks for at a path with these ids, where it has those that the operation needs.
+// What a method asks for at what a path with these ids names, where it has those that are wanted.
 pub(crate) fn action_at(
-    operation: Operation,
+    resource: Resource,
+    method: &[u8],
     zone: Option<Id>,
     sysmod: Option<Id>,
 ) -> Option<Action>
     ensures { (path : List ℕ) → zone ≡ Spec.zone_in path → sysmod ≡ Spec.sysmod_in path →
-        result ≡ Spec.action_at operation path }
+        result ≡ Spec.action_at resource method.now path }
 {
-    match operation {
-        Operation::Publish => Some(Action::Publish),
-        Operation::Counts => Some(Action::Counts),
-        Operation::CountsJson => Some(Action::CountsJson),
-        Operation::ListZones => Some(Action::ListZones),
-        Operation::ListZonesJson => Some(Action::ListZonesJson),
-        Operation::PutReceived => Some(Action::PutReceived),
-        Operation::PutZone => Some(Action::PutZone(zone?)),
-        Operation::DropZone => Some(Action::DropZone(zone?)),
-        Operation::PutPatterns => Some(Action::PutPatterns(zone?)),
-        Operation::ErrSysmods => Some(Action::ErrSysmods(zone?)),
-        Operation::ErrSysmodsJson => Some(Action::ErrSysmodsJson(zone?)),
-        Operation::MissingFix => Some(Action::MissingFix(zone?)),
-        Operation::MissingFixJson => Some(Action::MissingFixJson(zone?)),
-        Operation::ErrPlan => Some(Action::ErrPlan(zone?)),
-        Operation::ErrPlanJson => Some(Action::ErrPlanJson(zone?)),
-        Operation::MissingPlan => Some(Action::MissingPlan(zone?)),
-        Operation::MissingPlanJson => Some(Action::MissingPlanJson(zone?)),
-        Operation::Chain => Some(Action::Chain(zone?, sysmod?)),
+    match resource {
+        Resource::Publication => Some(Action::Publish),
+        Resource::Catalogue(form) => Some(Action::Counts(form)),
+        Resource::Zones(form) => Some(Action::ListZones(form)),
+        Resource::Received => Some(Action::PutReceived),
+        Resource::Zone if method == b"DELETE".as_slice() => Some(Action::DropZone(zone?)),
+        Resource::Zone => Some(Action::PutZone(zone?)),
+        Resource::Patterns => Some(Action::PutPatterns(zone?)),
+        Resource::Report(report, wanted) => Some(Action::Report(report, wanted, zone?)),
+        Resource::Chain => Some(Action::Chain(zone?, sysmod?)),
     }
 }

@@ -16,6 +16,7 @@
 //! - [`ReplyHead`], [`head_text`]: the head of a reply
 //!
 //! ```
+//! use questions::Form;
 //! use requests::{Action, NextRequest, Routes, read_next};
 //! use transfer::{Intake, RETRIES};
 //! let (routes, mut intake) = (Routes::new(alloc)?, Intake::new(alloc));
@@ -24,7 +25,7 @@
 //!     return Err("a whole request".into());
 //! };
 //! assert_eq!(rt; request.token(intake.bytes()), Some(b"alpha-token".as_slice()));
-//! assert_eq!(rt; request.action(intake.bytes(), &routes), Ok(Action::ListZones));
+//! assert_eq!(rt; request.action(intake.bytes(), &routes), Ok(Action::ListZones(Form::Text)));
 //! request.take_off(&mut intake); // what comes after it is the next request
 //! ```
 #![tactic(auto)]

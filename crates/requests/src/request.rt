@@ -112,8 +112,8 @@ pub(crate) fn action_by(routes: &Routes, method: &[u8], path: &str) -> Result<Ac
     let Some(place) = routes.place(path) else {
         return Err(Refusal::NotFound);
     };
-    let Some(operation) = place.resource.operation(method) else {
+    if !place.resource.takes(method) {
         return Err(Refusal::MethodNotAllowed(place.resource));
-    };
-    action_at(operation, place.zone, place.sysmod).ok_or(Refusal::NotFound)
+    }
+    action_at(place.resource, method, place.zone, place.sysmod).ok_or(Refusal::NotFound)
 }

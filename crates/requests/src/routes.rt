@@ -1,5 +1,6 @@
 //! The paths of the bureau.
 ghost use Rattle.std.specs.Prelude.{◌≡◌, option_map, IfSome, IsAscii, OnOk};
+ghost use Rattle.std.specs.List.{fold};
 ghost use Rattle.requests.specs.Request.{sysmod_in, zone_in};
 ghost use Rattle.requests.specs.Routes as Spec;
 
@@ -7,28 +8,52 @@ use crate::place::{Place, id_taken};
 use crate::resource::Resource;
 use faults::NoMemory;
 use matchit::Router;
+use questions::Form::{Json, Text};
+use questions::Report::{ErrSysmods, MissingFix};
+use questions::Wanted::{Plan, Rows};
 use std::alloc::Global;
 
 // The paths, each with what it names.
 static PATHS: [(&str, Resource); 17] = [
     ("/publish", Resource::Publication),
-    ("/published", Resource::Catalogue),
-    ("/published.json", Resource::CatalogueJson),
-    ("/zones", Resource::Zones),
-    ("/zones.json", Resource::ZonesJson),
+    ("/published", Resource::Catalogue(Text)),
+    ("/published.json", Resource::Catalogue(Json)),
+    ("/zones", Resource::Zones(Text)),
+    ("/zones.json", Resource::Zones(Json)),
     ("/zones/{zone}", Resource::Zone),
     ("/zones/{zone}/categories", Resource::Patterns),
     ("/received", Resource::Received),
-    ("/zones/{zone}/errsysmods", Resource::ErrSysmods),
-    ("/zones/{zone}/errsysmods.json", Resource::ErrSysmodsJson),
-    ("/zones/{zone}/missingfix", Resource::MissingFix),
-    ("/zones/{zone}/missingfix.json", Resource::MissingFixJson),
-    ("/zones/{zone}/errsysmods/plan", Resource::ErrPlan),
-    ("/zones/{zone}/errsysmods/plan.json", Resource::ErrPlanJson),
-    ("/zones/{zone}/missingfix/plan", Resource::MissingPlan),
+    (
+        "/zones/{zone}/errsysmods",
+        Resource::Report(ErrSysmods, Rows(Text)),
+    ),
+    (
+        "/zones/{zone}/errsysmods.json",
+        Resource::Report(ErrSysmods, Rows(Json)),
+    ),
+    (
+        "/zones/{zone}/missingfix",
+        Resource::Report(MissingFix, Rows(Text)),
+    ),
+    (
+        "/zones/{zone}/missingfix.json",
+        Resource::Report(MissingFix, Rows(Json)),
+    ),
+    (
+        "/zones/{zone}/errsysmods/plan",
+        Resource::Report(ErrSysmods, Plan(Text)),
+    ),
+    (
+        "/zones/{zone}/errsysmods/plan.json",
+        Resource::Report(ErrSysmods, Plan(Json)),
+    ),
+    (
+        "/zones/{zone}/missingfix/plan",
+        Resource::Report(MissingFix, Plan(Text)),
+    ),
     (
         "/zones/{zone}/missingfix/plan.json",
-        Resource::MissingPlanJson,
+        Resource::Report(MissingFix, Plan(Json)),
     ),
     ("/zones/{zone}/chains/{sysmod}", Resource::Chain),
 ];
@@ -44,9 +69,7 @@ impl Routes {
     /// All paths.
     pub fn new(alloc: Global) -> Result<Routes, NoMemory> {
         let mut router = Router::new(alloc);
-        for (path, resource) in &PATHS {
-            put(&mut router, path, *resource)?;
-        }
+        put_all(&mut router, &PATHS)?;
         Ok(Routes { router })
     }
 
@@ -76,6 +99,16 @@ impl Routes {
             Err(_) => None,
         }
     }
+}
+
+// Some paths more, one after the other.
+fn put_all(router: &mut Router<Resource>, paths: &[(&str, Resource)]) -> Result<(), NoMemory>
+    ensures { OnOk result (router.new ≡ fold Spec.with_entry router.old paths.now) }
+{
+    for (path, resource) in paths {
+        put(router, path, *resource)?;
+    }
+    Ok(())
 }
 
 // One path more. The paths don't conflict, so what fails is the want of memory.

@@ -1,9 +1,8 @@
 -- Rows in one list.
 use Rattle.std.proofs.Common.{◌≡◌, ◌∙◌, ℕ, zero, suc, ◌+◌, ◌-◌, ◌<◌, ◌≤◌, List, [], ◌∷◌, ◌++◌, length, get_or, take, drop, set, replicate, length-append, length-drop, refl, sym, ap, subst, arith}
 use Rattle.std.specs.List.{concat, slice_range}
-use Rattle.std.proofs.lemmas.List.{take-append-drop, take-append-le, take-set-le, drop-append-le, drop-drop, drop-set-add, drop-set-lt, length-take, take_more}
+use Rattle.std.proofs.lemmas.List.{take-append-drop, take-append-le, take-set-le, drop-append-le, drop-drop, drop-set-add, drop-set-lt, length-take, take_more, get_or_past}
 use Rattle.std.proofs.Math.Seq.{drop-append_seam, drop-length, take-length, take-set-lt}
-use Rattle.std.proofs.lemmas.List.{get_or_past}
 use Rattle.requisites.specs.Nodes.{row}
 use Rattle.requisites.specs.Rows.{AreEnds, blank_rows, rows_from, start_at}
 

@@ -5,7 +5,7 @@
 //! - [`resolve`]: which nodes some plan holds, and what gives what, as a [`Resolution`]
 //! - [`verdict_of_node`]: a node's chosen plan or its blocked need, as a [`Verdict`]
 //! - [`chosen_plans`]: what the chosen plans of several nodes have together
-//! - [`least_sources`]: for each node the least marked one that leads to it
+//! - [`least_sources`]: for each node the least marked one that leads to it; [`source_at`], [`has_source`]
 //! - [`turned`]: for each node those in whose rows it stands
 //! - [`is_marked`]: whether a node is marked
 //!
@@ -39,7 +39,7 @@ pub use good::{Resolution, resolve};
 pub use nodes::{Nodes, is_marked};
 pub use reversed::turned;
 pub use rows::Rows;
-pub use sources::least_sources;
+pub use sources::{has_source, least_sources, source_at};
 /// Memory ran out.
 pub use std::alloc::AllocError as NoMemory;
 pub use verdict::{Verdict, verdict_of_node};

@@ -1,6 +1,6 @@
 //! From which marked node each node is reached first.
-ghost use Rattle.std.specs.Prelude.{◌≡◌, ℕ, [], ◌∷◌, length, IfOk, OnOk, vec_len};
-ghost use Rattle.requisites.specs.Sources.{AreLeastSources, source_of};
+ghost use Rattle.std.specs.Prelude.{◌≡◌, ◌↔◌, ℕ, [], ◌∷◌, length, true, IfOk, OnOk, vec_len};
+ghost use Rattle.requisites.specs.Sources.{AreLeastSources, HasSource, source_of};
 ghost use Rattle.requisites.specs.Spread.{AreClosed, SourcesSpread, SourcesTaken};
 
 use crate::nodes::is_marked;
@@ -99,9 +99,16 @@ fn take_node(
     Ok(())
 }
 
-// The source of a node, where it has one.
-pub(crate) fn source_at(sources: &[Option<usize>], node: usize) -> Option<usize>
+/// The source of a node, where it has one.
+pub fn source_at(sources: &[Option<usize>], node: usize) -> Option<usize>
     ensures { result ≡ source_of sources.now node }
 {
     sources.get(node).copied().flatten()
+}
+
+/// Whether a node has a source.
+pub fn has_source(sources: &[Option<usize>], node: usize) -> bool
+    ensures { (result ≡ true) ↔ HasSource sources.now node }
+{
+    source_at(sources, node).is_some()
 }

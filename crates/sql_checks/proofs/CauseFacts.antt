@@ -11,8 +11,8 @@ use Rattle.sql_reads.specs.Answering.{Answers, IsRefusedFor}
 use Rattle.sql_reads.specs.Version.{Shows}
 use Rattle.sql_reads.specs.declared.fault.ReadFault.{ReadFault}
 use Rattle.sql_reads.specs.declared.fault.ReadFault.TheVariants.{Device}
-use Rattle.sql_state.proofs.StopFacts.{failed_after, was_clean}
-use Rattle.sql_state.specs.Reading.{OnlyReads}
+use Rattle.sql_tables.proofs.StopFacts.{failed_after, was_clean}
+use Rattle.sql_tables.specs.Reading.{OnlyReads}
 use Rattle.sql_texts.specs.Schema.{bureau}
 use Rattle.sql_checks.specs.Refused.{IsAskedBy, IsCausedBy, IsUnread, IsUnsaid, IsUnseen, IsUnshown, IsWithheld, Question, of_rows, of_version}
 

@@ -25,8 +25,8 @@ use Rattle.sqlite_value.specs.Keys.{plain}
 use Rattle.sqlite_value.specs.Order.{Row, column}
 use Rattle.sqlite_value.specs.declared.value.Value.{Value}
 use Rattle.sqlite_value.specs.declared.value.Value.TheVariants.{Null, Int, Real, Text, Blob}
-use Rattle.sql_state.specs.Numbered.{AreNumbered, IsNumbered}
-use Rattle.sql_state.specs.Ours.{IsOurs, held_by, version_rows}
+use Rattle.sql_tables.specs.Numbered.{AreNumbered, IsNumbered}
+use Rattle.sql_tables.specs.Ours.{IsOurs, held_by, version_rows}
 use Rattle.sql_tables.specs.InTrees.{columns_of, stored_in}
 use Rattle.sql_tables.specs.Fit.{IsHold, IsRecord}
 use Rattle.sql_tables.specs.Rows.{hold_row, sysmod_row}

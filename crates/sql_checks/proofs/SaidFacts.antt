@@ -19,7 +19,7 @@ use Rattle.sqlite_value.specs.declared.value.Value.{Value}
 use Rattle.sqlite_value.specs.declared.value.Value.TheVariants.{Null, Int, Real, Text, Blob}
 use Rattle.sql_tables.specs.Fit.{AreIds}
 use Rattle.sql_tables.specs.Values.{categories_in, categories_of, date_in, date_value, hold_kind_in, hold_kind_value, id_in, id_value, ids_in, ids_of, ids_value, number_in, optional_id_in, optional_id_value, parts_of, patterns_in, patterns_of, state_in, state_value, sysmod_kind_in, sysmod_kind_value, texts_in, texts_value, with_number}
-use Rattle.sql_state.proofs.TextFacts.{text_again}
+use Rattle.sql_tables.proofs.TextFacts.{text_again}
 
 -- ---- ids
 

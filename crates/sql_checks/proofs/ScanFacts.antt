@@ -15,8 +15,8 @@ use Rattle.sqlite_value.specs.declared.value.Value.TheVariants.{Int}
 use Rattle.sql_reads.specs.Answering.{Answers}
 use Rattle.sql_reads.specs.Columns.{indices_of}
 use Rattle.sql_reads.specs.Version.{version_in}
-use Rattle.sql_state.proofs.StopFacts.{read_on, was_clean}
-use Rattle.sql_state.specs.Ours.{held_by}
+use Rattle.sql_tables.proofs.StopFacts.{read_on, was_clean}
+use Rattle.sql_tables.specs.Ours.{held_by}
 use Rattle.sql_tables.proofs.TreeFacts.{shown_after}
 use Rattle.sql_tables.specs.InTrees.{columns_of, stored_in}
 use Rattle.sql_tables.specs.Stored.{Stored}

@@ -10,9 +10,9 @@ use Rattle.sqlite.specs.Effect.{Database}
 use Rattle.sqlite.specs.State.{HasCleanDisk, State}
 use Rattle.sql_reads.specs.declared.fault.ReadFault.{ReadFault}
 use Rattle.sql_reads.specs.declared.fault.ReadFault.TheVariants.{Device}
-use Rattle.sql_state.proofs.StopFacts.{no_read, read_on}
-use Rattle.sql_state.specs.Ours.{IsOurs, held_by}
-use Rattle.sql_state.specs.Reading.{Finds, OnlyReads}
+use Rattle.sql_tables.proofs.StopFacts.{no_read, read_on}
+use Rattle.sql_tables.specs.Ours.{IsOurs, held_by}
+use Rattle.sql_tables.specs.Reading.{Finds, OnlyReads}
 use Rattle.sql_tables.specs.Stored.{Stored, tables_of}
 use Rattle.sql_checks.specs.Checked.{Looks}
 use Rattle.sql_checks.specs.Refused.{AreUntallied, IsCausedBy, IsUncounted}

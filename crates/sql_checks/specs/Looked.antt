@@ -3,7 +3,7 @@ use Rattle.std.specs.Prelude.{◌≡◌, ◌↔◌, Bool, IfErr, IsTrue, Result}
 use Rattle.sqlite.specs.State.{HasCleanDisk, State}
 use Rattle.sql_reads.specs.declared.fault.ReadFault.{ReadFault}
 use Rattle.sql_reads.specs.declared.fault.ReadFault.TheVariants.{Device}
-use Rattle.sql_state.specs.Ours.{held_by}
+use Rattle.sql_tables.specs.Ours.{held_by}
 use Rattle.sql_checks.specs.Checked.{Looks}
 use Rattle.sql_checks.specs.Known.{AllKeep, Known}
 use Rattle.sql_checks.specs.Refused.{IsCausedBy, IsUnshown, of_known}

@@ -11,7 +11,7 @@ use Rattle.sqlite_value.specs.Order.{Row, column}
 use Rattle.sqlite_value.specs.declared.value.Value.TheVariants.{Text}
 use Rattle.sql_reads.specs.Version.{MeansNothing, Shows, Withholds}
 use Rattle.sql_reads.specs.ZoneCounts.{zone_counted}
-use Rattle.sql_state.specs.Reading.{HasFailed}
+use Rattle.sql_tables.specs.Reading.{HasFailed}
 use Rattle.sql_tables.specs.Rows.{caller_found, change_found}
 use Rattle.sql_tables.specs.Values.{number_in}
 use Rattle.sql_texts.specs.Meaning.{Reads}

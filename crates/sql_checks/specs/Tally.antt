@@ -6,7 +6,7 @@ use Rattle.bureau_store.specs.Caller.{caller_named}
 use Rattle.bureau_store.specs.Tables.{Tables}
 use Rattle.bureau_store.specs.declared.caller.CallerRow.{CallerRow}
 use Rattle.sqlite.specs.Effect.{Database}
-use Rattle.sql_state.specs.Ours.{IsOurs, held_by}
+use Rattle.sql_tables.specs.Ours.{IsOurs, held_by}
 use Rattle.sql_tables.specs.Stored.{tables_of}
 use Rattle.sql_checks.specs.declared.tallies.CallerLine.{CallerLine}
 use Rattle.sql_checks.specs.declared.tallies.CallerTally.{CallerTally}

@@ -9,7 +9,7 @@ ghost use Rattle.sqlite.specs.State.{HasCleanDisk};
 ghost use Rattle.sql_checks.specs.Tally.{tally_of};
 ghost use Rattle.sql_reads.specs.Answering.{IsRead};
 ghost use Rattle.sql_reads.specs.Counts.{Counts};
-ghost use Rattle.sql_state.specs.Reading.{Finds};
+ghost use Rattle.sql_tables.specs.Reading.{Finds};
 ghost use Rattle.sql_tables.specs.Stored.{Stored, tables_of};
 ghost use Rattle.sql_checks.specs.Refused.{AreUncounted, IsAskedBy, IsCausedBy, IsUncounted, IsUnsaid, SaysCallers, SaysCount, SaysLast, SaysZones, of_callers, of_count, of_last, of_zones};
 

@@ -10,7 +10,7 @@
 //!
 //! `specs/` says what a row keeps to (`Kept`), what a check tells (`Checked`), how much a store has (`Tally`), and why
 //! each of these is refused (`Refused`).
-//! Where a database is found to be whole, it is the bureau's own (`IsOurs` of `sql_state`), which is what all that
+//! Where a database is found to be whole, it is the bureau's own (`IsOurs` of `sql_tables`), which is what all that
 //! is promised of a store begins with.
 #![tactic(auto)]
 

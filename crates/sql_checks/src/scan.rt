@@ -4,7 +4,7 @@ ghost use Rattle.sqlite.specs.Held.{state};
 ghost use Rattle.sqlite.specs.State.{HasCleanDisk};
 ghost use Rattle.sql_checks.specs.Checked.{Looks, TellsVersion2, WrongIn};
 ghost use Rattle.sql_checks.specs.Refused.{AreUnseen, IsCausedBy, IsUnshown, of_version};
-ghost use Rattle.sql_state.specs.Ours.{held_by};
+ghost use Rattle.sql_tables.specs.Ours.{held_by};
 ghost use Rattle.sql_reads.specs.Version.{version_in};
 
 use crate::table::StoreTable;

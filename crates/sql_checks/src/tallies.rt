@@ -5,7 +5,7 @@ ghost use Rattle.sqlite.specs.State.{HasCleanDisk};
 ghost use Rattle.sql_checks.specs.Checked.{Looks};
 ghost use Rattle.sql_checks.specs.Refused.{AreUntallied, IsCausedBy, IsUntallied};
 ghost use Rattle.sql_checks.specs.Tally.{HasTallied, IsTallyOf};
-ghost use Rattle.sql_state.specs.Ours.{IsOurs, held_by};
+ghost use Rattle.sql_tables.specs.Ours.{IsOurs, held_by};
 ghost use Rattle.sql_tables.specs.Stored.{tables_of};
 
 use crate::asked::{caller_tally, counts};

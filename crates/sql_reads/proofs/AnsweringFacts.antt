@@ -18,9 +18,9 @@ use Rattle.sqlite_value.specs.Order.{Row}
 use Rattle.sqlite_value.specs.declared.value.Value.TheVariants.{Null}
 use Rattle.sql_texts.specs.Meaning.{Reads, selection}
 use Rattle.sql_texts.proofs.AnswerFacts.{plain_trees}
-use Rattle.sql_state.proofs.ReadFacts.{refused_keeps, shown_unchanged, survives_read}
-use Rattle.sql_state.proofs.StopFacts.{failed_by, kept_unchanged}
-use Rattle.sql_state.specs.Reading.{HasFailed}
+use Rattle.sql_tables.proofs.StateReadFacts.{refused_keeps, shown_unchanged, survives_read}
+use Rattle.sql_tables.proofs.StopFacts.{failed_by, kept_unchanged}
+use Rattle.sql_tables.specs.Reading.{HasFailed}
 use Rattle.sql_reads.specs.Answering.{Answers, IsRead}
 use Rattle.sql_reads.specs.Version.{MeansNothing, Shows, Withholds}
 use Rattle.sql_reads.proofs.QuietFacts.{quiet}

@@ -23,7 +23,7 @@ use Rattle.sql_texts.specs.Reads as read
 use Rattle.sql_reads.specs.Answering.{one_of}
 use Rattle.sql_reads.proofs.ClientFacts.{table_said}
 use Rattle.sql_reads.proofs.TableFacts.{filter_alike, filter_true, one_case, one_passes, table_found}
-use Rattle.sql_state.proofs.TextFacts.{one_given}
+use Rattle.sql_tables.proofs.TextFacts.{one_given}
 
 abbrev pub name_shown : Row → Option Caller
 name_shown row = option_map caller_named (id_in (column row 0))

@@ -25,7 +25,7 @@ use Rattle.sql_texts.specs.Found.{shown}
 use Rattle.sql_texts.specs.Reads as read
 use Rattle.sql_reads.specs.Answering.{one_of}
 use Rattle.sql_reads.proofs.TableFacts.{one_case, table_found}
-use Rattle.sql_state.proofs.TextFacts.{of_given}
+use Rattle.sql_tables.proofs.TextFacts.{of_given}
 
 pub proper_name : (caller : Caller) (name : List ℕ) → caller ≡ Client name → IsProper caller → name_of caller ≡ Some name
 proper_name caller name is proper = ap name_of is ∙ by (is_publisher name) refl

@@ -28,12 +28,12 @@ use Rattle.sql_texts.specs.Meaning.{Reads}
 use Rattle.sql_texts.specs.Schema.{bureau}
 use Rattle.sql_texts.specs.Reads as read
 use Rattle.sql_texts.specs.Reads.{count_of, how_many}
-use Rattle.sql_state.specs.Reading.{Finds}
+use Rattle.sql_tables.specs.Reading.{Finds}
 use Rattle.sql_reads.specs.Answering.{Answers, one_of}
 use Rattle.sql_reads.specs.Counts.{Counts}
 use Rattle.sql_reads.proofs.LengthFacts.{holds_length, sysmods_length, zones_length}
 use Rattle.sql_reads.proofs.TableFacts.{finds_of_two}
-use Rattle.sql_state.proofs.TextFacts.{of_given}
+use Rattle.sql_tables.proofs.TextFacts.{of_given}
 
 abbrev all_rows : Grouping
 all_rows = record { keys = []; collations = []; aggregates = how_many ∷ []; having = [] }

@@ -50,7 +50,7 @@ use Rattle.sql_texts.specs.Reads as read
 use Rattle.sql_texts.proofs.AnswerFacts.{join_answer, same_text, truth_again}
 use Rattle.sql_reads.proofs.JoinFacts.{join_said}
 use Rattle.sql_reads.proofs.MemberFacts.{all_of, any_from, filtered, joined_from, made_from, one_key, read_from}
-use Rattle.sql_state.proofs.TextFacts.{text_named}
+use Rattle.sql_tables.proofs.TextFacts.{text_named}
 
 -- ---- how the database compares
 

@@ -43,7 +43,7 @@ use Rattle.sql_texts.proofs.AnswerFacts.{join_answer}
 use Rattle.sql_reads.proofs.ClientFacts.{all_said}
 use Rattle.sql_reads.proofs.MemberFacts.{all_of, any_from, filtered, joined_from, made_from, read_from}
 use Rattle.sql_reads.proofs.PublishedFacts.{sysmods_ids}
-use Rattle.sql_state.proofs.TextFacts.{text_given}
+use Rattle.sql_tables.proofs.TextFacts.{text_given}
 
 -- what the rows of a join say
 pub join_said : {A : Type 0} (read : Row → Option A) (rows joined : List Row) (found : List A) → IsPermutation joined rows → map Some found ≡ map read rows

@@ -36,7 +36,7 @@ use Rattle.sql_tables.specs.InTrees.{columns_of, stored_in}
 use Rattle.sql_tables.specs.Stored.{Stored, is_named, is_of, shown}
 use Rattle.sql_tables.specs.Values.{text_in}
 use Rattle.sql_tables.proofs.TreeFacts.{column_after}
-use Rattle.sql_state.proofs.TextFacts.{text_named}
+use Rattle.sql_tables.proofs.TextFacts.{text_named}
 use Rattle.sql_reads.specs.Runs.{IsRun, TextsAscend}
 use Rattle.sql_reads.specs.Scans.{AreOf, HaveEach, KeysRise, between_given, has_key, scan_of}
 use Rattle.sql_reads.proofs.TableFacts.{kept_alike, table_found}

@@ -13,9 +13,9 @@ use Rattle.sqlite.specs.Tree.{Trees}
 use Rattle.sqlite_value.specs.Order.{Row}
 use Rattle.lemmas.proofs.ListFacts.{first_inside, inside_cases, none_inside}
 use Rattle.lemmas.proofs.ResultFacts.{ok_both}
-use Rattle.sql_state.specs.Ours.{IsOurs, held_by}
-use Rattle.sql_state.specs.Reading.{Finds, OnlyReads}
-use Rattle.sql_state.proofs.StopFacts.{read_on, was_clean}
+use Rattle.sql_tables.specs.Ours.{IsOurs, held_by}
+use Rattle.sql_tables.specs.Reading.{Finds, OnlyReads}
+use Rattle.sql_tables.proofs.StopFacts.{read_on, was_clean}
 use Rattle.sql_tables.specs.InTrees.{columns_of}
 use Rattle.sql_tables.specs.Stored.{Stored, first}
 use Rattle.sql_tables.specs.Whole.{IsWhole}

@@ -16,8 +16,8 @@ use Rattle.sql_texts.specs.Reads as read
 use Rattle.sql_texts.specs.Found.{passes, shown}
 use Rattle.sql_texts.specs.Schema.{bureau, bureau_1}
 use Rattle.sql_texts.proofs.AnswerFacts.{table_answer}
-use Rattle.sql_state.specs.Earlier.{IsOfVersion1}
-use Rattle.sql_state.specs.Ours.{IsOurs, version_rows}
+use Rattle.sql_tables.specs.Earlier.{IsOfVersion1}
+use Rattle.sql_tables.specs.Ours.{IsOurs, version_rows}
 use Rattle.sql_reads.specs.Answering.{Answers}
 use Rattle.sql_reads.specs.Version.{HasVersion, version_in}
 

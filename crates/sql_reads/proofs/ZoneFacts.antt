@@ -35,7 +35,7 @@ use Rattle.sql_reads.specs.ZoneCounts.{with_count, zone_counted}
 use Rattle.sql_reads.proofs.ClientFacts.{map_map}
 use Rattle.sql_reads.proofs.LengthFacts.{zone_rows_length}
 use Rattle.sql_reads.proofs.MemberFacts.{all_of, filtered, made_from, read_from}
-use Rattle.sql_state.proofs.TextFacts.{both_given, of_given}
+use Rattle.sql_tables.proofs.TextFacts.{both_given, of_given}
 
 -- how many rows of the other table are of the zone of a head
 abbrev pub rows_counted : Row → List Row → Row → ℕ

@@ -10,7 +10,7 @@ use Rattle.sqlite_value.specs.declared.value.Value.TheVariants.{Text}
 use Rattle.mcs_reader.specs.Id.{IsId, text_of}
 use Rattle.bureau_store.specs.declared.caller.Caller.{Caller}
 use Rattle.sql_tables.specs.Stored.{name_of}
-use Rattle.sql_state.specs.Reading.{HasFailed, OnlyReads}
+use Rattle.sql_tables.specs.Reading.{HasFailed, OnlyReads}
 use Rattle.sql_texts.specs.Meaning.{Reads}
 use Rattle.sql_texts.specs.Schema.{bureau}
 use Rattle.sql_reads.specs.Version.{MeansNothing, Shows, Withholds}

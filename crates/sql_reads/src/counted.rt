@@ -6,7 +6,7 @@ ghost use Rattle.sqlite.specs.Values.{bound};
 ghost use Rattle.sqlite_value.specs.Order as order;
 ghost use Rattle.sql_reads.specs.Answering.{IsRead, one_of};
 ghost use Rattle.sql_reads.specs.Counts.{Counts};
-ghost use Rattle.sql_state.specs.Reading.{Finds};
+ghost use Rattle.sql_tables.specs.Reading.{Finds};
 ghost use Rattle.sql_tables.specs.Stored.{Stored, tables_of};
 ghost use Rattle.sql_tables.specs.Values as value;
 ghost use Rattle.sql_texts.specs.Meaning.{Reads};

@@ -7,7 +7,7 @@ ghost use Rattle.catalogue.specs.Content.{superseders};
 ghost use Rattle.catalogue.specs.Ids.{Ascend};
 ghost use Rattle.holddata.specs.HoldBook.{IsInKeyOrder};
 ghost use Rattle.sqlite.specs.Held.{state};
-ghost use Rattle.sql_state.specs.Reading.{Finds};
+ghost use Rattle.sql_tables.specs.Reading.{Finds};
 ghost use Rattle.sql_tables.specs.Stored.{tables_of, zone_rows_of};
 ghost use Rattle.zone_lists.specs.ZoneList.{RowsAscend};
 

@@ -15,7 +15,7 @@
 //! - [`each`], [`entries`]: what its rows say, each an [`Entry`]; [`are_ascending`]: whether these are in order
 //! - [`ReadFault`]: why a read is refused
 //!
-//! A contract says by `Finds` of `sql_state` what a read tells and what it leaves.
+//! A contract says by `Finds` of `sql_tables` what a read tells and what it leaves.
 #![tactic(auto)]
 
 mod all_columns;

@@ -2,7 +2,7 @@
 ghost use Rattle.std.specs.Prelude.{◌≡◌, ◌∷◌, ◌↔◌, ℕ, List, false, map, IfOk, IsTrue};
 ghost use Rattle.sqlite.specs.Held.{state};
 ghost use Rattle.catalogue.specs.Seen.{seen_in};
-ghost use Rattle.sql_state.specs.Reading.{Finds};
+ghost use Rattle.sql_tables.specs.Reading.{Finds};
 ghost use Rattle.sql_reads.specs.Runs.{IsRun, TextsAscend};
 ghost use Rattle.sql_reads.specs.Scans.{AreLeft};
 ghost use Rattle.sql_tables.specs.Stored.{Stored, tables_of};

@@ -2,7 +2,7 @@
 ghost use Rattle.std.specs.Prelude.{◌≡◌, ℕ, List, false, IfOk};
 ghost use Rattle.sqlite.specs.Held.{state};
 ghost use Rattle.sqlite_value.specs.Order.{Row as Values, column};
-ghost use Rattle.sql_state.specs.Reading.{Finds};
+ghost use Rattle.sql_tables.specs.Reading.{Finds};
 ghost use Rattle.sql_tables.specs.Stored.{shown as show};
 ghost use Rattle.sql_texts.specs.Meaning.{Reads};
 ghost use Rattle.sql_texts.specs.Schema.{bureau};

@@ -7,9 +7,9 @@ ghost use Rattle.sql_texts.specs.Meaning.{Reads};
 ghost use Rattle.sql_texts.specs.Reads as read;
 ghost use Rattle.sql_texts.specs.Schema.{bureau, bureau_1};
 ghost use Rattle.sql_reads.specs.declared.fault.ReadFault.TheVariants.{Device};
-ghost use Rattle.sql_state.specs.Earlier.{IsOfVersion1};
-ghost use Rattle.sql_state.specs.Ours.{IsOurs};
-ghost use Rattle.sql_state.specs.Reading.{HasFailed, OnlyReads};
+ghost use Rattle.sql_tables.specs.Earlier.{IsOfVersion1};
+ghost use Rattle.sql_tables.specs.Ours.{IsOurs};
+ghost use Rattle.sql_tables.specs.Reading.{HasFailed, OnlyReads};
 
 use crate::ReadFault;
 use crate::rows::rows_of;

@@ -38,8 +38,8 @@ use Rattle.sql_tables.specs.Changes.{is_under, replaced}
 use Rattle.sql_tables.specs.InTrees.{columns_of}
 use Rattle.sql_tables.specs.Stored.{is_named, is_of}
 use Rattle.sql_tables.specs.Values.{hold_kind_value, id_value}
-use Rattle.sql_state.specs.Writing.{IsKnown}
-use Rattle.sql_state.proofs.TextFacts.{text_given, text_named}
+use Rattle.sql_tables.specs.Writing.{IsKnown}
+use Rattle.sql_tables.proofs.TextFacts.{text_given, text_named}
 use Rattle.sql_rows.proofs.KindFacts.{key_given}
 use Rattle.sql_rows.proofs.RowidFacts.{any_mapped}
 

@@ -7,9 +7,9 @@ use Rattle.sqlite.specs.Order.{Row}
 use Rattle.sqlite.specs.State.{Executes, HasCleanDisk, IsNotRun, IsUnchanged, KeepsCommit, State, Survives}
 use Rattle.sqlite.specs.declared.error.Error.{Error}
 use Rattle.sql_tables.specs.Stored.{Stored}
-use Rattle.sql_state.specs.Ours.{held_by}
-use Rattle.sql_state.specs.Writing.{Changes, IsKnown}
-use Rattle.sql_state.proofs.StopFacts.{kept_then, kept_unchanged, kept_unrun, no_read, survives_both, was_clean}
+use Rattle.sql_tables.specs.Ours.{held_by}
+use Rattle.sql_tables.specs.Writing.{Changes, IsKnown}
+use Rattle.sql_tables.proofs.StopFacts.{kept_then, kept_unchanged, kept_unrun, no_read, survives_both, was_clean}
 use Rattle.sql_rows.specs.Running.{Ran}
 
 -- one statement is a change

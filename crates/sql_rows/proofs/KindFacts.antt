@@ -26,7 +26,7 @@ use Rattle.sql_texts.proofs.AnswerFacts.{truth_again}
 use Rattle.sql_tables.proofs.TreeFacts.{column_after}
 use Rattle.sql_tables.specs.Changes.{is_kind, is_under}
 use Rattle.sql_tables.specs.Values.{hold_kind_in, hold_kind_value, id_value}
-use Rattle.sql_state.proofs.TextFacts.{text_given}
+use Rattle.sql_tables.proofs.TextFacts.{text_given}
 
 -- ---- which kind a number is
 

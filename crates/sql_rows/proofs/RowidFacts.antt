@@ -23,7 +23,7 @@ use Rattle.sqlite_rules.proofs.PlaceLemmas.{tied_same}
 use Rattle.sqlite_rules.proofs.TableLemmas.{int_is}
 use Rattle.lemmas.proofs.TestFacts.{equal_is}
 use Rattle.sql_texts.specs.Found.{shown}
-use Rattle.sql_state.specs.Numbered.{IsNumbered}
+use Rattle.sql_tables.specs.Numbered.{IsNumbered}
 
 -- ---- lists
 

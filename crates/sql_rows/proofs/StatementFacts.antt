@@ -32,8 +32,8 @@ use Rattle.sql_texts.specs.Meaning.{Means}
 use Rattle.sql_texts.specs.Reads.{from_table}
 use Rattle.sql_texts.specs.Schema.{bureau, bureau_version, tables}
 use Rattle.sql_texts.specs.Writes.{delete_of, this_version, insert_given}
-use Rattle.sql_state.specs.Numbered.{IsNumbered}
-use Rattle.sql_state.specs.Ours.{version_rows}
+use Rattle.sql_tables.specs.Numbered.{IsNumbered}
+use Rattle.sql_tables.specs.Ours.{version_rows}
 use Rattle.sql_rows.proofs.RowidFacts.{left_by_test, put_next}
 
 -- one table has other rows, which are numbered, and the others have what they had

@@ -12,9 +12,9 @@ use Rattle.sql_texts.specs.Schema.{tables}
 use Rattle.sql_tables.specs.InTrees.{columns_of, stored_in}
 use Rattle.sql_tables.proofs.TreeFacts.{filter_after}
 use Rattle.sql_tables.specs.Changes.{replaced}
-use Rattle.sql_state.specs.Numbered.{AreNumbered, IsNumbered}
-use Rattle.sql_state.specs.Ours.{held_by}
-use Rattle.sql_state.specs.Writing.{IsKnown}
+use Rattle.sql_tables.specs.Numbered.{AreNumbered, IsNumbered}
+use Rattle.sql_tables.specs.Ours.{held_by}
+use Rattle.sql_tables.specs.Writing.{IsKnown}
 use Rattle.sqlite_trees.proofs.ListLemmas.{all_weaker}
 use Rattle.sql_rows.proofs.RowidFacts.{kept_alike}
 use Rattle.sql_rows.proofs.StatementFacts.{IsSet}

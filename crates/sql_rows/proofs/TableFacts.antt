@@ -15,9 +15,9 @@ use Rattle.sql_texts.specs.Schema.{bureau, tables}
 use Rattle.sql_texts.specs.Writes.{delete_of}
 use Rattle.sql_tables.specs.Changes.{coming, going, instead, replaced}
 use Rattle.sql_tables.specs.Stored.{Stored, of_table}
-use Rattle.sql_state.specs.Numbered.{IsNumbered}
-use Rattle.sql_state.specs.Ours.{held_by}
-use Rattle.sql_state.specs.Writing.{Changes, IsKnown}
+use Rattle.sql_tables.specs.Numbered.{IsNumbered}
+use Rattle.sql_tables.specs.Ours.{held_by}
+use Rattle.sql_tables.specs.Writing.{Changes, IsKnown}
 use Rattle.sql_rows.specs.Running.{Ran}
 use Rattle.sql_rows.specs.Standing.{Stands}
 use Rattle.sql_rows.proofs.ChangeFacts.{changed_by}

@@ -5,7 +5,7 @@ use Rattle.std.proofs.lemmas.List.{map-append, take_all, take_more}
 use Rattle.sqlite.specs.Order.{Row}
 use Rattle.sqlite.specs.State.{State}
 use Rattle.sql_tables.specs.Stored.{Stored}
-use Rattle.sql_state.specs.Writing.{Changes}
+use Rattle.sql_tables.specs.Writing.{Changes}
 use Rattle.sql_rows.proofs.ChangeFacts.{alike, changes_then}
 
 -- the same success, told otherwise

@@ -63,7 +63,7 @@ impl Key for Id {
     ghost use Rattle.sql_texts.specs.Reads.{is_given};
     ghost use Rattle.sql_tables.specs.Stored.{is_of};
     ghost use Rattle.sql_tables.specs.Values.{id_value};
-    ghost use Rattle.sql_state.proofs.TextFacts.{of_given};
+    ghost use Rattle.sql_tables.proofs.TextFacts.{of_given};
 
     ghost values = { λ id. id_value id ∷ [] };
 
@@ -103,7 +103,7 @@ impl Key for Zone {
     ghost use Rattle.sql_texts.specs.Reads.{is_given};
     ghost use Rattle.sql_tables.specs.Stored.{is_of_both};
     ghost use Rattle.sql_tables.specs.Values.{id_value};
-    ghost use Rattle.sql_state.proofs.TextFacts.{both_given};
+    ghost use Rattle.sql_tables.proofs.TextFacts.{both_given};
 
     ghost values = { λ key. id_value key.client ∷ id_value key.zone ∷ [] };
 

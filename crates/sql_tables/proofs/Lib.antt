@@ -15,3 +15,7 @@ pub mod TreeFacts
 pub mod ValueFacts
 pub mod ZoneFacts
 pub mod WholeFacts
+pub mod OursFacts
+pub mod StateReadFacts
+pub mod StopFacts
+pub mod TextFacts

@@ -5,3 +5,8 @@ pub mod Rows
 pub mod Stored
 pub mod Values
 pub mod Whole
+pub mod Earlier
+pub mod Numbered
+pub mod Ours
+pub mod Reading
+pub mod Writing

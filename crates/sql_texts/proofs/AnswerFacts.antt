@@ -1,6 +1,6 @@
 -- What a query of one table answers.
 use Rattle.std.proofs.Common.{◌≡◌, ℕ, Bool, true, false, cond, List, [], ◌∷◌, ◌++◌, refl, sym, ◌∙◌, ap, subst}
-use Rattle.std.specs.Prelude.{filter, flat_map, map, Some, None, unwrap_or, nat_le}
+use Rattle.std.specs.Prelude.{filter, flat_map, map, Some, None, unwrap_or, nat_le, slice_get, ◌-◌, ◌^◌}
 use Rattle.std.specs.List.{list_all}
 use Rattle.std.specs.List.Sorted.{IsPermutation}
 use Rattle.std.specs.Ordering.{is_eq, nat_cmp}
@@ -8,7 +8,6 @@ use Rattle.std.specs.Cmp.Lexicographic.{slice_cmp}
 use Rattle.std.proofs.lemmas.List.{map-append}
 use Rattle.std.proofs.lemmas.List.Sorted.{IsPermutation-map}
 use Rattle.std.proofs.lemmas.Map.Text.{is_eq-slice_cmp}
-use Rattle.std.specs.Prelude.{slice_get, ◌-◌, ◌^◌}
 use Rattle.std.specs.Str.{bytes_eq}
 use Rattle.sqlite.proofs.Callers.{IsPlain, command_of, reads_as}
 use Rattle.sqlite.specs.Ops.{binary, from_truth, is_true}

@@ -1,6 +1,6 @@
 -- A read in a transaction: it changes nothing, and why it is refused.
 use Rattle.std.proofs.Common.{◌≡◌, ℕ, true, List, [], Option, Some, None, Result, Ok, Err, IfErr, IfOk, IsTrue, sym, ◌∙◌, ap, subst, ◌⊎◌, inl, inr, arith, cond}
-use Rattle.std.specs.Prelude.{length, map}
+use Rattle.std.specs.Prelude.{length, map, IsSome}
 use Rattle.sqlite.specs.Effect.{Database}
 use Rattle.sqlite.specs.Order.{Row}
 use Rattle.sqlite.specs.Query.{Query}
@@ -14,11 +14,10 @@ use Rattle.sql_texts.specs.Meaning.{Reads}
 use Rattle.sql_texts.specs.Schema.{bureau}
 use Rattle.sqlite.specs.Values.{bound}
 use Rattle.sqlite_value.specs.declared.value.ValueRef.{ValueRef}
-use Rattle.sql_state.specs.Ours.{held_by}
-use Rattle.sql_state.specs.Writing.{Changes, IsKnown}
-use Rattle.sql_state.proofs.StopFacts.{kept_failing, kept_unchanged, kept_unrun}
+use Rattle.sql_tables.specs.Ours.{held_by}
+use Rattle.sql_tables.specs.Writing.{Changes, IsKnown}
+use Rattle.sql_tables.proofs.StopFacts.{kept_failing, kept_unchanged, kept_unrun}
 use Rattle.std.specs.List.{range_with_len}
-use Rattle.std.specs.Prelude.{IsSome}
 use Rattle.std.specs.Result.{IsErr, IsErrAnd}
 use Rattle.std.proofs.lemmas.Bool.{false≢true}
 use Rattle.std.proofs.lemmas.List.{append-nil}

@@ -42,7 +42,7 @@ use Rattle.sql_texts.specs.Schema.{bureau, indexes}
 use Rattle.mcs_reader.specs.Id.{text_of}
 use Rattle.bureau_store.specs.declared.caller.CallerRow.{CallerRow}
 use Rattle.sql_tables.specs.Rows.{caller_row}
-use Rattle.sql_state.specs.Numbered.{IsNumbered}
+use Rattle.sql_tables.specs.Numbered.{IsNumbered}
 use Rattle.sql_writes.specs.Making.{AreApart, AreFit, caller_rows}
 use Rattle.sql_rows.proofs.RowidFacts.{all_below, put_next}
 use Rattle.sql_writes.proofs.RefusalFacts.{both}

@@ -20,8 +20,8 @@ use Rattle.sql_tables.specs.Changes.{coming}
 use Rattle.sql_tables.specs.Rows.{caller_row, change_row, hold_row}
 use Rattle.sql_tables.specs.Stored.{caller_table, change_table, hold_table}
 use Rattle.sql_tables.specs.Values.{date_value, hold_kind_value, id_value, optional_id_value, texts_value}
-use Rattle.sql_state.specs.Ours.{held_by}
-use Rattle.sql_state.specs.Writing.{Changes}
+use Rattle.sql_tables.specs.Ours.{held_by}
+use Rattle.sql_tables.specs.Writing.{Changes}
 use Rattle.sql_rows.specs.Running.{Ran}
 use Rattle.sql_rows.proofs.ChangeFacts.{changed_by}
 use Rattle.sql_rows.proofs.StatementFacts.{cast_int, cast_null, inserts}

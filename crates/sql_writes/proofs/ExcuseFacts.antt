@@ -22,7 +22,7 @@ use Rattle.sqlite_schema.specs.declared.schema.Index.{Index}
 use Rattle.sql_texts.specs.Meaning.{MakesIndex, MakesTable, Means}
 use Rattle.sql_texts.specs.Schema.{bureau, bureau_version}
 use Rattle.sql_texts.specs.Writes.{delete_of, this_version}
-use Rattle.sql_state.proofs.StopFacts.{was_clean}
+use Rattle.sql_tables.proofs.StopFacts.{was_clean}
 use Rattle.sql_writes.specs.Excused.{Excuses, IsExcused}
 use Rattle.sql_writes.specs.Many.{statement_by}
 use Rattle.sql_writes.specs.Making.{Leads}

@@ -20,9 +20,9 @@ use Rattle.sql_tables.specs.Changes.{coming, going, with_head}
 use Rattle.sql_tables.specs.InTrees.{columns_of}
 use Rattle.sql_tables.specs.Rows.{head_row}
 use Rattle.sql_tables.specs.Stored.{Stored, head_table, is_of_both, of_table}
-use Rattle.sql_state.specs.Ours.{held_by}
-use Rattle.sql_state.specs.Writing.{Changes, IsKnown}
-use Rattle.sql_state.proofs.StopFacts.{was_clean}
+use Rattle.sql_tables.specs.Ours.{held_by}
+use Rattle.sql_tables.specs.Writing.{Changes, IsKnown}
+use Rattle.sql_tables.proofs.StopFacts.{was_clean}
 use Rattle.sql_rows.specs.Standing.{Stands}
 use Rattle.sql_rows.proofs.ChangeFacts.{alike_here, changes_then}
 use Rattle.sql_rows.proofs.TableFacts.{none_goes}

@@ -21,7 +21,7 @@ use Rattle.sql_texts.specs.Writes.{insert_given}
 use Rattle.sql_tables.specs.Rows.{caller_row}
 use Rattle.sql_tables.specs.Stored.{Stored, opened}
 use Rattle.sql_tables.specs.Values.{id_value}
-use Rattle.sql_state.specs.Ours.{held_by}
+use Rattle.sql_tables.specs.Ours.{held_by}
 use Rattle.sql_writes.specs.Excused.{IsExcused}
 use Rattle.sql_writes.specs.Making.{AreFit, IsOpened, Leads}
 use Rattle.sql_rows.specs.Running.{FailsInside, Ran}

@@ -22,8 +22,8 @@ use Rattle.sql_tables.specs.Changes.{going, is_under}
 use Rattle.sql_tables.specs.InTrees.{columns_of}
 use Rattle.sql_tables.specs.Stored.{caller_table, hold_table}
 use Rattle.sql_tables.specs.Values.{hold_kind_value, id_value}
-use Rattle.sql_state.specs.Ours.{held_by}
-use Rattle.sql_state.specs.Writing.{Changes}
+use Rattle.sql_tables.specs.Ours.{held_by}
+use Rattle.sql_tables.specs.Writing.{Changes}
 use Rattle.sql_rows.specs.Running.{Ran}
 use Rattle.sql_rows.proofs.ChangeFacts.{changed_by}
 use Rattle.sql_rows.proofs.KindFacts.{key_given}

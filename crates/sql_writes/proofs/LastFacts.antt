@@ -9,7 +9,7 @@ use Rattle.sql_tables.specs.Changes as change
 use Rattle.sql_tables.specs.Changes.{changed, coming, going, stored_after}
 use Rattle.sql_tables.specs.Rows.{change_row}
 use Rattle.sql_tables.specs.Stored.{change_table, is_of, name_of}
-use Rattle.sql_state.specs.Writing.{Changes}
+use Rattle.sql_tables.specs.Writing.{Changes}
 use Rattle.bureau_store.specs.Effects.{effect_as, maker_of}
 use Rattle.bureau_store.specs.declared.effect.Effect.{Effect}
 use Rattle.sql_rows.proofs.ChangeFacts.{both, changes_then}

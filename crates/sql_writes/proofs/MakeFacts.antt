@@ -19,11 +19,11 @@ use Rattle.sqlite.specs.Schema.{Schema}
 use Rattle.sql_texts.specs.Meaning.{MakesIndex, MakesTable, Means}
 use Rattle.sql_texts.specs.Schema.{bureau, indexes, made, tables}
 use Rattle.sql_texts.specs.Writes.{this_version}
-use Rattle.sql_state.specs.Numbered.{IsNumbered}
-use Rattle.sql_state.specs.Ours.{version_rows}
+use Rattle.sql_tables.specs.Numbered.{IsNumbered}
+use Rattle.sql_tables.specs.Ours.{version_rows}
 use Rattle.sql_writes.specs.Making.{IsMade, IsOpened, Leads}
 use Rattle.sql_rows.specs.Running.{Ran}
-use Rattle.sql_state.proofs.StopFacts.{survives_both, was_clean}
+use Rattle.sql_tables.proofs.StopFacts.{survives_both, was_clean}
 use Rattle.sql_rows.proofs.ChangeFacts.{keeps_both}
 use Rattle.sql_writes.proofs.RefusalFacts.{whole_text}
 use Rattle.sql_rows.proofs.StatementFacts.{inserts_version, on_table, same_value, went}

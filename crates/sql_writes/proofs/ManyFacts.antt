@@ -45,10 +45,10 @@ use Rattle.sqlite_trees.specs.View.{IsStorable, IsStorableRow, is_int}
 use Rattle.sql_texts.specs.Schema.{bureau, indexes, tables}
 use Rattle.sql_tables.specs.InTrees.{columns_of}
 use Rattle.sql_tables.specs.Stored.{Stored}
-use Rattle.sql_state.specs.Numbered.{IsNumbered}
-use Rattle.sql_state.specs.Ours.{held_by}
-use Rattle.sql_state.specs.Writing.{IsKnown}
-use Rattle.sql_state.proofs.StopFacts.{was_clean}
+use Rattle.sql_tables.specs.Numbered.{IsNumbered}
+use Rattle.sql_tables.specs.Ours.{held_by}
+use Rattle.sql_tables.specs.Writing.{IsKnown}
+use Rattle.sql_tables.proofs.StopFacts.{was_clean}
 use Rattle.sql_writes.specs.Excused.{IsExcused, Takes}
 use Rattle.sql_writes.specs.Many.{IsGiven, MeansBy, unnumbered, with_next}
 use Rattle.sql_writes.specs.Room.{AreUpTo, IsRoomy, are_up_to}

@@ -15,9 +15,9 @@ use Rattle.sql_texts.specs.Meaning.{MakesTable, Means}
 use Rattle.sql_texts.specs.Schema.{bureau, bureau_1, bureau_version, sysmod_cond, tables}
 use Rattle.sql_texts.specs.Writes.{delete_of, this_version}
 use Rattle.sql_tables.specs.Stored.{Stored}
-use Rattle.sql_state.specs.Earlier.{IsOfVersion1, held_by_version_1}
-use Rattle.sql_state.specs.Numbered.{IsNumbered}
-use Rattle.sql_state.specs.Ours.{version_rows}
+use Rattle.sql_tables.specs.Earlier.{IsOfVersion1, held_by_version_1}
+use Rattle.sql_tables.specs.Numbered.{IsNumbered}
+use Rattle.sql_tables.specs.Ours.{version_rows}
 use Rattle.sql_writes.specs.Making.{Leads}
 use Rattle.sql_writes.specs.Migrating.{HeldEarlier, HoldsAll}
 use Rattle.sql_rows.specs.Running.{Ran}

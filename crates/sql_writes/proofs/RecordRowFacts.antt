@@ -11,7 +11,7 @@ use Rattle.sqlite.specs.Order.{Row, column}
 use Rattle.sql_texts.specs.Found.{is_text}
 use Rattle.sql_tables.specs.Fit.{IsFitChange}
 use Rattle.sql_tables.specs.Rows.{sysmod_row}
-use Rattle.sql_state.proofs.TextFacts.{text_named}
+use Rattle.sql_tables.proofs.TextFacts.{text_named}
 use Rattle.sql_writes.specs.Many.{AreNew}
 use Rattle.sql_writes.specs.Records.{AreNewRecords, IsShortRow, has_id_of, record_rows, values_of}
 use Rattle.sql_writes.specs.Room.{are_short_ids, is_short_change}

@@ -20,9 +20,9 @@ use Rattle.sql_texts.specs.Schema.{bureau, tables}
 use Rattle.sql_tables.specs.Changes.{coming, going, replaced}
 use Rattle.sql_tables.specs.InTrees.{columns_of}
 use Rattle.sql_tables.specs.Stored.{Stored, of_table}
-use Rattle.sql_state.specs.Numbered.{IsNumbered}
-use Rattle.sql_state.specs.Ours.{held_by}
-use Rattle.sql_state.specs.Writing.{Changes}
+use Rattle.sql_tables.specs.Numbered.{IsNumbered}
+use Rattle.sql_tables.specs.Ours.{held_by}
+use Rattle.sql_tables.specs.Writing.{Changes}
 use Rattle.sql_rows.specs.Fitting.{IsFitting}
 use Rattle.sql_rows.specs.Running.{FailsInside, Ran}
 use Rattle.sql_rows.specs.Standing.{Stands}

@@ -38,7 +38,7 @@ use Rattle.lemmas.proofs.TestFacts.{or_true}
 use Rattle.sql_texts.specs.Reads.{from_table}
 use Rattle.sql_texts.specs.Schema.{bureau, indexes, tables}
 use Rattle.sql_texts.specs.Writes.{delete_of}
-use Rattle.sql_state.specs.Numbered.{IsNumbered}
+use Rattle.sql_tables.specs.Numbered.{IsNumbered}
 use Rattle.sql_writes.specs.Room.{are_up_to}
 use Rattle.sql_rows.specs.Fitting.{IsFitting}
 use Rattle.sql_writes.proofs.NumberFacts.{next_is}

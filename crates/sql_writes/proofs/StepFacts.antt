@@ -24,10 +24,10 @@ use Rattle.sql_texts.specs.Reads.{from_table}
 use Rattle.sql_texts.specs.Schema.{bureau, tables}
 use Rattle.sql_texts.specs.Writes.{delete_of, insert_given}
 use Rattle.sql_tables.specs.Stored.{Stored}
-use Rattle.sql_state.specs.Numbered.{IsNumbered}
-use Rattle.sql_state.specs.Ours.{held_by}
-use Rattle.sql_state.specs.Writing.{IsKnown}
-use Rattle.sql_state.proofs.StopFacts.{was_clean}
+use Rattle.sql_tables.specs.Numbered.{IsNumbered}
+use Rattle.sql_tables.specs.Ours.{held_by}
+use Rattle.sql_tables.specs.Writing.{IsKnown}
+use Rattle.sql_tables.proofs.StopFacts.{was_clean}
 use Rattle.sql_writes.specs.Excused.{IsExcused, Takes}
 use Rattle.sql_writes.specs.Room.{AreUpTo, IsRoomy, are_up_to}
 use Rattle.sql_rows.specs.Fitting.{IsFitting}

@@ -8,9 +8,9 @@ use Rattle.sqlite_rules.proofs.ListLemmas.{all_has, has_at, test_has}
 use Rattle.sqlite.specs.State.{HasCleanDisk, State, Survives}
 use Rattle.sqlite.specs.declared.error.Error.{Error}
 use Rattle.sql_tables.specs.Stored.{Stored}
-use Rattle.sql_state.specs.Ours.{held_by}
-use Rattle.sql_state.specs.Writing.{Changes, IsKnown}
-use Rattle.sql_state.proofs.StopFacts.{was_clean}
+use Rattle.sql_tables.specs.Ours.{held_by}
+use Rattle.sql_tables.specs.Writing.{Changes, IsKnown}
+use Rattle.sql_tables.proofs.StopFacts.{was_clean}
 use Rattle.sql_writes.specs.Excused.{Excuses, IsExcused, Takes}
 use Rattle.bureau_store.specs.Effects.{effect_as}
 use Rattle.sql_writes.specs.Room.{AreUpTo, IsRoomy, rows_made}

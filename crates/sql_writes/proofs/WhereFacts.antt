@@ -5,8 +5,8 @@ use Rattle.std.proofs.lemmas.Bool.{false≢true}
 use Rattle.sqlite.specs.State.{HasCleanDisk, State, Survives}
 use Rattle.sqlite.specs.declared.error.Error.{Error}
 use Rattle.sql_tables.specs.Stored.{Stored}
-use Rattle.sql_state.specs.Ours.{held_by}
-use Rattle.sql_state.specs.Writing.{Changes, IsKnown}
+use Rattle.sql_tables.specs.Ours.{held_by}
+use Rattle.sql_tables.specs.Writing.{Changes, IsKnown}
 use Rattle.sql_writes.specs.Altering.{ChangesWhere}
 use Rattle.sql_writes.specs.Excused.{IsExcused, Takes}
 use Rattle.sql_writes.specs.Room.{IsRoomy}

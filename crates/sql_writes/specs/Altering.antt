@@ -6,7 +6,7 @@ use Rattle.sqlite.specs.State.{State}
 use Rattle.sqlite.specs.declared.error.Error.{Error}
 use Rattle.sqlite_trees.specs.declared.store.Store.{Ghosts}
 use Rattle.sql_tables.specs.Stored.{Stored}
-use Rattle.sql_state.specs.Writing.{Changes}
+use Rattle.sql_tables.specs.Writing.{Changes}
 use Rattle.sql_writes.specs.Excused.{IsExcused, Takes}
 use Rattle.sql_writes.specs.Making.{Leads}
 

@@ -12,8 +12,8 @@ use Rattle.sqlite_value.specs.Order.{Row}
 use Rattle.catalogue.specs.declared.change.Change.{Change}
 use Rattle.sql_texts.specs.Reads.{from_table}
 use Rattle.sql_tables.specs.Stored.{Stored}
-use Rattle.sql_state.specs.Ours.{held_by}
-use Rattle.sql_state.specs.Writing.{Changes, IsKnown}
+use Rattle.sql_tables.specs.Ours.{held_by}
+use Rattle.sql_tables.specs.Writing.{Changes, IsKnown}
 use Rattle.sql_writes.specs.Excused.{Takes}
 use Rattle.sql_writes.specs.Records.{AreFree, IsBare}
 

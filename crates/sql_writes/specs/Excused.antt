@@ -6,8 +6,8 @@ use Rattle.sqlite.specs.State.{HasCleanDisk, State, store_error}
 use Rattle.sqlite.specs.declared.error.Error.{Error}
 use Rattle.sqlite_trees.specs.declared.error.StoreError.TheVariants.{OutOfMemory}
 use Rattle.sql_tables.specs.Stored.{Stored}
-use Rattle.sql_state.specs.Ours.{held_by}
-use Rattle.sql_state.specs.Reading.{HasFailed}
+use Rattle.sql_tables.specs.Ours.{held_by}
+use Rattle.sql_tables.specs.Reading.{HasFailed}
 use Rattle.sql_writes.specs.Room.{AreUpTo, IsRoomy}
 
 -- Memory ran out. Or the device has failed since, or the connection was shut. Or a statement may take only so many steps.

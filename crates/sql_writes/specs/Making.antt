@@ -10,8 +10,8 @@ use Rattle.sqlite.specs.declared.types.Value.TheVariants.{Int}
 use Rattle.sql_texts.specs.Schema.{made, tables}
 use Rattle.sql_tables.specs.Rows.{caller_row}
 use Rattle.sql_tables.specs.Stored.{opened}
-use Rattle.sql_state.specs.Ours.{held_by, version_rows}
-use Rattle.sql_state.specs.Writing.{IsKnown}
+use Rattle.sql_tables.specs.Ours.{held_by, version_rows}
+use Rattle.sql_tables.specs.Writing.{IsKnown}
 
 -- no table, no index and no view
 abbrev pub IsEmpty : Database → Type 0

@@ -13,9 +13,9 @@ use Rattle.sql_texts.specs.Writes.{delete_of, this_version}
 use Rattle.sqlite.specs.Effect.{Database}
 use Rattle.sqlite.specs.Order.{Row}
 use Rattle.sql_tables.specs.Stored.{Stored}
-use Rattle.sql_state.specs.Earlier.{IsOfVersion1, held_by_version_1}
-use Rattle.sql_state.specs.Ours.{held_by}
-use Rattle.sql_state.specs.Writing.{IsKnown}
+use Rattle.sql_tables.specs.Earlier.{IsOfVersion1, held_by_version_1}
+use Rattle.sql_tables.specs.Ours.{held_by}
+use Rattle.sql_tables.specs.Writing.{IsKnown}
 
 -- a database of version 1 that is ours, with these rows
 pub record HeldEarlier (stored : Stored) (database : Database) : Type 0 where

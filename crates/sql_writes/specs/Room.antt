@@ -13,7 +13,7 @@ use Rattle.sqlite.specs.Tree.{Trees, rowid}
 use Rattle.sqlite.specs.declared.types.Value.{Value}
 use Rattle.sqlite.specs.declared.types.Value.TheVariants.{Blob, Int, Null, Real, Text}
 use Rattle.sql_texts.specs.Schema.{tables}
-use Rattle.sql_state.specs.Writing.{IsKnown}
+use Rattle.sql_tables.specs.Writing.{IsKnown}
 
 -- ---- lengths
 

@@ -6,7 +6,7 @@
 //! - [`migrate`]: the tables of version 1 become those of version 2, with the rows that they hold
 //!
 //! A contract says what a change makes of the rows that the transaction sees, in the words of `sql_tables`: `Alters`
-//! is `Changes` of `sql_state` for the connection that the transaction lends. `specs/Making` says what `create` leads to,
+//! is `Changes` of `sql_tables` for the connection that the transaction lends. `specs/Making` says what `create` leads to,
 //! and `specs/Migrating` what `migrate` does.
 #![tactic(auto)]
 

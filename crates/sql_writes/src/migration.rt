@@ -1,8 +1,8 @@
 //! The tables of version 1 become those of version 2, with the rows that they hold.
 ghost use Rattle.std.specs.Prelude.{◌≡◌, []};
 ghost use Rattle.sqlite.specs.Effect.{Database};
-ghost use Rattle.sql_state.specs.Earlier.{IsOfVersion1};
-ghost use Rattle.sql_state.specs.Ours.{version_rows};
+ghost use Rattle.sql_tables.specs.Earlier.{IsOfVersion1};
+ghost use Rattle.sql_tables.specs.Ours.{version_rows};
 ghost use Rattle.sql_tables.specs.Stored.{Stored};
 ghost use Rattle.sql_writes.specs.Altering.{RefusesExcused, Turns};
 ghost use Rattle.sql_writes.specs.Migrating.{HeldEarlier, HoldsAll, IsMigration, IsWithConditions, IsWithoutVersion};

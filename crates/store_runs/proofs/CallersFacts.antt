@@ -16,8 +16,8 @@ use Rattle.bureau_sql.specs.SqlState.{SqlState}
 use Rattle.bureau_sql.specs.SqlView.{IsOurStore, shown, sql_view}
 use Rattle.bureau_sql.proofs.ChangedFacts.{of_call}
 use Rattle.bureau_sql.proofs.FilesFacts.{earlier_found, store_found}
-use Rattle.sql_state.specs.Ours.{AreOurs, IsOurs, held_by}
-use Rattle.sql_state.proofs.StopFacts.{was_clean}
+use Rattle.sql_tables.specs.Ours.{AreOurs, IsOurs, held_by}
+use Rattle.sql_tables.proofs.StopFacts.{was_clean}
 use Rattle.sql_tables.specs.InTrees.{stored_in}
 use Rattle.sql_tables.specs.Stored.{tables_of}
 use Rattle.sqlite_disk.specs.declared.Disk as disk

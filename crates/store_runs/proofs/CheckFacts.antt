@@ -40,10 +40,10 @@ use Rattle.sql_checks.specs.declared.tallies.StoreTally.{StoreTally}
 use Rattle.sql_reads.specs.Version.{HasVersion}
 use Rattle.sql_reads.specs.declared.fault.ReadFault.{ReadFault}
 use Rattle.sql_reads.specs.declared.fault.ReadFault.TheVariants as fault
-use Rattle.sql_state.proofs.StopFacts.{read_on, was_clean}
-use Rattle.sql_state.specs.Ours.{IsOurs, held_by}
-use Rattle.sql_state.specs.Reading as read
-use Rattle.sql_state.specs.Reading.{OnlyReads}
+use Rattle.sql_tables.proofs.StopFacts.{read_on, was_clean}
+use Rattle.sql_tables.specs.Ours.{IsOurs, held_by}
+use Rattle.sql_tables.specs.Reading as read
+use Rattle.sql_tables.specs.Reading.{OnlyReads}
 use Rattle.sql_tables.specs.Stored.{tables_of}
 use Rattle.sql_texts.specs.Found.{shown}
 use Rattle.sql_texts.specs.Schema.{bureau}

@@ -10,9 +10,9 @@ use Rattle.bureau_sql.proofs.CallersFacts.{callers_named}
 use Rattle.bureau_sql.proofs.FilesFacts.{earlier_found, store_found}
 use Rattle.bureau_sql.proofs.FoundedFacts.{ours_new, tables_new}
 use Rattle.bureau_sql.specs.Migrated.{AreMigrated}
-use Rattle.sql_state.specs.Earlier.{AreOfVersion1, IsOfVersion1, held_by_version_1}
-use Rattle.sql_state.specs.Ours.{AreOurs}
-use Rattle.sql_state.proofs.StopFacts.{was_clean}
+use Rattle.sql_tables.specs.Earlier.{AreOfVersion1, IsOfVersion1, held_by_version_1}
+use Rattle.sql_tables.specs.Ours.{AreOurs}
+use Rattle.sql_tables.proofs.StopFacts.{was_clean}
 use Rattle.sql_tables.specs.InTrees.{stored_in}
 use Rattle.sql_tables.specs.Stored.{Stored, tables_of}
 use Rattle.bureau_sql.proofs.MigratedFacts.{after_is_ours}

@@ -8,9 +8,9 @@ use Rattle.bureau_sql.specs.Files.{HoldsStore}
 use Rattle.bureau_sql.specs.Opening.{IsNoStore}
 use Rattle.bureau_sql.proofs.FilesFacts.{store_found}
 use Rattle.bureau_sql.proofs.OpensFacts.{opens_unless}
-use Rattle.sql_state.specs.Ours.{IsOurs}
-use Rattle.sql_state.specs.Reading.{OnlyReads}
-use Rattle.sql_state.proofs.StopFacts.{was_clean}
+use Rattle.sql_tables.specs.Ours.{IsOurs}
+use Rattle.sql_tables.specs.Reading.{OnlyReads}
+use Rattle.sql_tables.proofs.StopFacts.{was_clean}
 use Rattle.sqlite_disk.specs.declared.Disk.{Ghosts}
 use Rattle.sqlite_store.specs.FileStore.{view}
 use Rattle.sqlite_store.specs.declared.store.FileStore.{FileStore}

@@ -3,9 +3,9 @@ use Rattle.std.proofs.Common.{◌≡◌, ◌⊎◌, ◌∙◌, ◌<◌, [], ap, 
 use Rattle.std.proofs.Math.Logic.{∥∥₁_map}
 use Rattle.bureau_store.specs.Tables.{Tables}
 use Rattle.bureau_sql.specs.Files.{HoldTrees, HoldsEarlier, HoldsStore}
-use Rattle.sql_state.specs.Earlier.{AreOfVersion1}
-use Rattle.sql_state.specs.Ours.{AreOurs}
-use Rattle.sql_state.proofs.OursFacts.{found_earlier, found_ours}
+use Rattle.sql_tables.specs.Earlier.{AreOfVersion1}
+use Rattle.sql_tables.specs.Ours.{AreOurs}
+use Rattle.sql_tables.proofs.OursFacts.{found_earlier, found_ours}
 use Rattle.sql_tables.specs.InTrees.{stored_in}
 use Rattle.sql_tables.specs.Stored.{tables_of}
 use Rattle.sql_texts.specs.Schema.{made}

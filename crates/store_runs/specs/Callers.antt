@@ -14,7 +14,7 @@ use Rattle.bureau_sql.specs.Files.{HoldTables, HoldsStore}
 use Rattle.bureau_sql.specs.Opening.{IsNoStore}
 use Rattle.bureau_sql.specs.SqlState.{SqlState}
 use Rattle.bureau_sql.specs.SqlView.{IsAtRest, sql_view}
-use Rattle.sql_state.specs.Reading.{OnlyReads}
+use Rattle.sql_tables.specs.Reading.{OnlyReads}
 use Rattle.sqlite_disk.specs.declared.Disk as disk
 use Rattle.sqlite_trees.specs.declared.store.Store.{Ghosts}
 use Rattle.sqlite_wal.specs.Recovery.{Image}

@@ -23,8 +23,8 @@ use Rattle.sql_checks.specs.declared.tallies.StoreTally.{StoreTally}
 use Rattle.sql_reads.specs.Version.{HasVersion}
 use Rattle.sql_reads.specs.declared.fault.ReadFault.{ReadFault}
 use Rattle.sql_reads.specs.declared.fault.ReadFault.TheVariants as fault
-use Rattle.sql_state.specs.Ours.{IsOurs, held_by}
-use Rattle.sql_state.specs.Reading.{OnlyReads}
+use Rattle.sql_tables.specs.Ours.{IsOurs, held_by}
+use Rattle.sql_tables.specs.Reading.{OnlyReads}
 use Rattle.sql_tables.specs.Stored.{tables_of}
 use Rattle.sqlite_disk.specs.declared.Disk as disk
 use Rattle.sqlite_wal.specs.Recovery.{Image}

@@ -16,9 +16,9 @@ use Rattle.bureau_sql.specs.Opening.{HasConditions, HasTables, IsNoStore}
 use Rattle.bureau_sql.specs.SqlState.{SqlState}
 use Rattle.bureau_sql.specs.SqlView.{IsAtRest, IsOurStore, shown, sql_view}
 use Rattle.sql_reads.specs.Version.{HasVersion}
-use Rattle.sql_state.specs.Earlier.{IsOfVersion1}
-use Rattle.sql_state.specs.Ours.{IsOurs, held_by}
-use Rattle.sql_state.specs.Reading.{OnlyReads}
+use Rattle.sql_tables.specs.Earlier.{IsOfVersion1}
+use Rattle.sql_tables.specs.Ours.{IsOurs, held_by}
+use Rattle.sql_tables.specs.Reading.{OnlyReads}
 use Rattle.sqlite_disk.specs.declared.Disk as disk
 use Rattle.sqlite_trees.specs.Tree.{Trees}
 use Rattle.sqlite_trees.specs.declared.store.Store.{Ghosts}

@@ -12,8 +12,8 @@ use Rattle.bureau_sql.specs.Migrated.{AreMigrated, LeavesUntouched}
 use Rattle.bureau_sql.specs.SqlView.{IsAtRest}
 use Rattle.bureau_sql.specs.Opening.{CanMakeConditions, HasTables, IsNotEarlier}
 use Rattle.sql_reads.specs.Version.{HasVersion}
-use Rattle.sql_state.specs.Earlier.{IsOfVersion1, held_by_version_1}
-use Rattle.sql_state.specs.Ours.{IsOurs, held_by}
+use Rattle.sql_tables.specs.Earlier.{IsOfVersion1, held_by_version_1}
+use Rattle.sql_tables.specs.Ours.{IsOurs, held_by}
 use Rattle.sql_tables.specs.Stored.{tables_of}
 use Rattle.store_runs.specs.Desk.{of_store}
 use Rattle.store_runs.specs.Ended.{IsRefused, IsUsed}

@@ -9,7 +9,7 @@ ghost use Rattle.sqlite.specs.State.{HasCleanDisk};
 ghost use Rattle.sqlite_wal.specs.Files.{image_at};
 ghost use Rattle.bureau_sql.specs.Opening.{IsNoStore};
 ghost use Rattle.bureau_sql.specs.SqlView.{IsAtRest};
-ghost use Rattle.sql_state.specs.Reading.{OnlyReads};
+ghost use Rattle.sql_tables.specs.Reading.{OnlyReads};
 
 use crate::ended::{Ended, end};
 use crate::stores::Stores;

@@ -14,12 +14,12 @@ use Rattle.supersede.specs.Giving.{gives, is_candidate}
 use Rattle.supersede.specs.Reach.{has}
 use Rattle.supersede.proofs.LeadingFacts.{gives_is}
 use Rattle.supersede.proofs.ReachFacts.{has_from}
-use Rattle.chains.specs.Judge.{status_of}
-use Rattle.chains.specs.Verdicts.{Judged, good, held, lack, verdict_of}
-use Rattle.chains.specs.Worlds.{IsVerdict}
-use Rattle.chains.specs.declared.verdict.Status.{Status}
-use Rattle.chains.specs.declared.verdict.Status.TheVariants.{Good, Held, Lack}
-use Rattle.chains.proofs.VerdictFacts.{found_verdict}
+use Rattle.verdicts.specs.Judge.{status_of}
+use Rattle.verdicts.specs.Verdicts.{Judged, good, held, lack, verdict_of}
+use Rattle.verdicts.specs.Worlds.{IsVerdict}
+use Rattle.verdicts.specs.declared.verdict.Status.{Status}
+use Rattle.verdicts.specs.declared.verdict.Status.TheVariants.{Good, Held, Lack}
+use Rattle.verdicts.proofs.VerdictFacts.{found_verdict}
 use Rattle.report_holds.specs.Holds.{HoldLists}
 use Rattle.report_holds.specs.declared.holds.Resolver.{Resolver}
 use Rattle.zone_plans.specs.Choices.{is_given, of_status, or_all, received_or_all, same_status}

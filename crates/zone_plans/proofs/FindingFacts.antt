@@ -7,8 +7,8 @@ use Rattle.catalogue.specs.Content.{Content}
 use Rattle.catalogue.proofs.IdFacts.{in_order_has}
 use Rattle.supersede.specs.Reach.{has}
 use Rattle.supersede.proofs.ReachFacts.{has_from}
-use Rattle.chains.specs.Candidates.{candidates_unless_there}
-use Rattle.chains.specs.United.{united}
+use Rattle.verdicts.specs.Candidates.{candidates_unless_there}
+use Rattle.verdicts.specs.United.{united}
 use Rattle.report_holds.specs.Holds.{HoldLists}
 use Rattle.report_holds.specs.declared.holds.HoldOn.{HoldOn}
 use Rattle.zone_plans.specs.Findings.{AreFindings, AreFoundOf, FindingLists, findings_of, known_givers}

@@ -4,7 +4,7 @@ use Rattle.std.specs.Bool.{OnFalse, OnTrue}
 use Rattle.std.specs.Prelude.{◌↔◌}
 use Rattle.std.specs.List.{Contains, flat_map}
 use Rattle.std.proofs.lemmas.Bool.{cases_lt}
-use Rattle.std.proofs.lemmas.List.{get_or_past, take_more}
+use Rattle.std.proofs.lemmas.List.{get_or_past, take_more, get_or-map}
 use Rattle.std.proofs.lemmas.List.Elements.{Contains-append_cases, Contains-append_left, Contains-append_right, Contains-push, Contains-push_cases}
 use Rattle.lemmas.proofs.ListFacts.{first_inside}
 use Rattle.catalogue.specs.Ids.{Ascend}
@@ -14,11 +14,8 @@ use Rattle.supersede.proofs.ReachFacts.{has_from}
 use Rattle.requisites.specs.Nodes.{mark_of}
 use Rattle.requisites.specs.Sources.{HasSource, source_of}
 use Rattle.requisites.proofs.SourceFacts.{marked_inside}
-use Rattle.chains.specs.Cuts.{id_at}
-use Rattle.chains.specs.Indices.{IsAt, MarksAre}
-use Rattle.chains.proofs.AnswerFacts.{index_is}
-use Rattle.chains.proofs.IndexFacts.{indexed_inside}
-use Rattle.chains.proofs.PartFacts.{at_map}
+use Rattle.verdicts.specs.Indices.{id_at, IsAt, MarksAre}
+use Rattle.verdicts.proofs.IndexFacts.{index_is, indexed_inside}
 use Rattle.zone_plans.specs.Graphs.{AreAnswered, AreGivenIndices, ArePushed, AreSourced, AreStarts, IsGivenIndex, IsLeftAmong, IsStart}
 use Rattle.zone_plans.specs.Readings.{ReadingLists, all_needs}
 
@@ -198,4 +195,4 @@ pub item_inside : (xs : List (List ℕ)) (i : ℕ) (x : List ℕ) → i < length
 item_inside xs i x below at = (i, below, sym at)
 
 pub list_of_item : {X : Type 0} (f : X → List (List ℕ)) (xs : List X) (i : ℕ) (x : X) → i < length xs → x ≡ get_or xs i x → get_or (map f xs) i [] ≡ f x
-list_of_item f xs i x below at = at_map f xs i x [] below ∙ ap f (sym at)
+list_of_item f xs i x below at = get_or-map f xs i x [] below ∙ ap f (sym at)

@@ -1,6 +1,6 @@
 -- Starts, and what is reached from them.
 use Rattle.std.proofs.Common.{◌≡◌, ◌∙◌, ◌<◌, ℕ, List, [], Bool, false, Option, Some, None, length, get_or, map, refl, sym, ap, subst, arith}
-use Rattle.std.proofs.lemmas.List.{length-map}
+use Rattle.std.proofs.lemmas.List.{length-map, get_or-map}
 use Rattle.supersede.specs.Reach.{has}
 use Rattle.requisites.specs.Leads.{Leads}
 use Rattle.requisites.specs.Nodes.{IsMarked, Links, mark_of}
@@ -10,8 +10,7 @@ use Rattle.requisites.proofs.SourceFacts.{marked_inside}
 use Rattle.install_order.specs.Steps.{AreInOrder, IsClosed}
 use Rattle.std.proofs.lemmas.List.Elements.{Contains-get_or}
 use Rattle.supersede.proofs.ReachFacts.{has_from, has_to}
-use Rattle.chains.specs.Cuts.{id_at}
-use Rattle.chains.proofs.PartFacts.{at_map}
+use Rattle.verdicts.specs.Indices.{id_at}
 use Rattle.zone_plans.specs.Graphs.{AreReachedFrom, AreSourced, AreStarts, AreStartsOf, AreWithin}
 
 sourced_by : (lists : List (List ℕ)) (marks : List Bool) (sources : List (Option ℕ)) (q m : ℕ) → AreLeastSources lists marks sources → IsMarked marks m → Leads (Links lists (length marks)) m q → (o : Option ℕ) → source_of sources q ≡ o → HasSource sources q
@@ -42,7 +41,7 @@ starts_by ids above left chosen marks sources starts len marked least are = reco
   as_many = ap length marked ∙ length-map ids (has chosen)
 
   mark_at : (p : ℕ) → p < length ids → mark_of marks p ≡ has chosen (id_at ids p)
-  mark_at p within = ap (λ (l : List Bool). mark_of l p) marked ∙ at_map (has chosen) ids p [] false within
+  mark_at p within = ap (λ (l : List Bool). mark_of l p) marked ∙ get_or-map (has chosen) ids p [] false within
 
 pub members_by : (needs : List (List ℕ)) (starts : List Bool) (sources : List (Option ℕ)) (members : List Bool) → length sources ≡ length starts → AreLeastSources needs starts sources → AreSourced sources members → AreReachedFrom needs starts members
 members_by needs starts sources members len least are = record {

@@ -18,9 +18,9 @@ use Rattle.supersede.proofs.LeadingFacts.{gives_is}
 use Rattle.requisites.specs.Nodes.{row}
 use Rattle.install_order.specs.Left.{is_outdone}
 use Rattle.install_order.proofs.LeftFacts.{Outdoes, outdone_so, so_outdone}
-use Rattle.chains.specs.Cuts.{id_at}
-use Rattle.chains.proofs.IndexFacts.{at_inside, below_at, inside_at, one_index, order_down}
-use Rattle.chains.proofs.OrderFacts.{not_below_itself}
+use Rattle.verdicts.specs.Indices.{id_at}
+use Rattle.verdicts.proofs.IndexFacts.{at_inside, below_at, inside_at, one_index, order_down}
+use Rattle.verdicts.proofs.OrderFacts.{not_below_itself}
 use Rattle.zone_plans.specs.Members.{is_less, outdoes}
 
 less_lt : (o : Ordering) → o ≡ Less → is_lt o ≡ true

@@ -8,15 +8,15 @@ use Rattle.catalogue.specs.Content.{Content}
 use Rattle.catalogue.specs.Ids.{in_order}
 use Rattle.catalogue.specs.View.{HasFailed, IsLawful, IsOpen, MayAsk, View}
 use Rattle.catalogue.proofs.IdFacts.{in_order_has}
-use Rattle.chains.specs.Judge.{status_of}
-use Rattle.chains.specs.Verdicts.{verdict_of}
-use Rattle.chains.specs.declared.verdict.Status.{Status}
-use Rattle.chains.specs.declared.verdict.Status.TheVariants.{Good, Held}
+use Rattle.verdicts.specs.Judge.{status_of}
+use Rattle.verdicts.specs.Verdicts.{verdict_of}
+use Rattle.verdicts.specs.declared.verdict.Status.{Status}
+use Rattle.verdicts.specs.declared.verdict.Status.TheVariants.{Good, Held}
 use Rattle.report_holds.specs.Holds.{AreTold, HoldLists}
 use Rattle.zone_plans.specs.Choices.{choice, is_given, of_status, on_top, received_or_all, same_status}
 use Rattle.blocked_needs.specs.Blocked.{AreBlockedNeeds, blocked_needs_of}
 use Rattle.blocked_needs.specs.declared.blocked.BlockedNeed.{BlockedNeed}
-use Rattle.chains.specs.United.{united}
+use Rattle.verdicts.specs.United.{united}
 use Rattle.zone_plans.specs.Findings.{FindingLists, findings_of}
 use Rattle.zone_plans.specs.Members.{AreZoneSteps, IsGivenBy, joined, zone_steps_of}
 use Rattle.zone_plans.specs.Plans.{IsPlanFor, IsZonePlan, PlanLists, chosen_in, fate_by, held_in, if_held, placed, resolved_in, resolver_by, resolvers_of, unresolved_in}

@@ -11,16 +11,16 @@ use Rattle.supersede.specs.Leading.{Gives, IsThere, IsWay}
 use Rattle.supersede.proofs.LeadingFacts.{gives_is, there_is}
 use Rattle.requisites.specs.World.{IsChosen, IsGood, IsGoodGiver, IsPick, PicksFor}
 use Rattle.requisites.proofs.LeadsFacts.{leads_closed, leads_itself, leads_more}
-use Rattle.chains.specs.Candidates.{candidates_unless_there}
-use Rattle.chains.specs.Judge.{status_of}
-use Rattle.chains.specs.United.{plan_by, plan_in, united}
-use Rattle.chains.specs.Verdicts.{Judged, good, held, is_good, lack, verdict_of}
-use Rattle.chains.specs.Worlds.{IsVerdict, world_of}
-use Rattle.chains.specs.declared.verdict.Status.TheVariants as status
-use Rattle.chains.proofs.GoodFacts.{candidate_inside, good_from}
-use Rattle.chains.proofs.OrderFacts.{find_least}
-use Rattle.chains.proofs.StatusFacts.{candidate_gives, find_none, find_some, not_good}
-use Rattle.chains.proofs.VerdictFacts.{found_verdict, giver_passes, pick_gives}
+use Rattle.verdicts.specs.Candidates.{candidates_unless_there}
+use Rattle.verdicts.specs.Judge.{status_of}
+use Rattle.verdicts.specs.United.{plan_by, plan_in, united}
+use Rattle.verdicts.specs.Verdicts.{Judged, good, held, is_good, lack, verdict_of}
+use Rattle.verdicts.specs.Worlds.{IsVerdict, world_of}
+use Rattle.verdicts.specs.declared.verdict.Status.TheVariants as status
+use Rattle.verdicts.proofs.GoodFacts.{candidate_inside, good_from}
+use Rattle.verdicts.proofs.OrderFacts.{find_least}
+use Rattle.verdicts.proofs.StatusFacts.{candidate_gives, find_none, find_some, not_good}
+use Rattle.verdicts.proofs.VerdictFacts.{found_verdict, giver_passes, pick_gives}
 use Rattle.zone_plans.specs.Findings.{givers_or, known_givers}
 use Rattle.zone_plans.specs.Members.{IsPlanned}
 

@@ -4,7 +4,7 @@ use Rattle.std.specs.Prelude.{not}
 use Rattle.std.specs.List.{Contains, filter, list_any}
 use Rattle.std.proofs.lemmas.List.FromFn.{get_or-map-range_with_len}
 use Rattle.std.proofs.lemmas.Bool.{cases_lt, and_from}
-use Rattle.std.proofs.lemmas.List.{get_or_past, length-map, map-append}
+use Rattle.std.proofs.lemmas.List.{get_or_past, length-map, map-append, get_or-map}
 use Rattle.lemmas.proofs.ListFacts.{any_at, any_from, first_inside, first_true, flat_from, flat_inside, map_from, map_inside, none_inside, rest_inside, second_true}
 use Rattle.zone_lists.specs.declared.zones.ZoneRow.{ZoneRow}
 use Rattle.catalogue.specs.Content.{Content}
@@ -21,17 +21,14 @@ use Rattle.install_order.specs.Left.{AreGivers, AreLeft, is_outdone, left_in}
 use Rattle.install_order.specs.Steps.{AreInOrder, AreNext, AreSteps, IsClosed, IsNext, StandsIn}
 use Rattle.install_order.proofs.PutFacts.{stands_before, stands_cases}
 use Rattle.install_order.proofs.RingFacts.{leads_joined}
-use Rattle.chains.specs.Candidates.{candidates_unless_there}
-use Rattle.chains.specs.Cuts.{id_at}
-use Rattle.chains.specs.Indices.{AreIndicesOf, RowsAre}
-use Rattle.chains.specs.Judge.{status_of}
-use Rattle.chains.specs.Verdicts.{verdict_of}
-use Rattle.chains.specs.Worlds.{world_of}
-use Rattle.chains.specs.declared.verdict.Status.TheVariants as status
-use Rattle.chains.specs.United.{united}
-use Rattle.chains.proofs.AnswerFacts.{index_is}
-use Rattle.chains.proofs.IndexFacts.{at_inside, inside_at}
-use Rattle.chains.proofs.PartFacts.{at_map}
+use Rattle.verdicts.specs.Candidates.{candidates_unless_there}
+use Rattle.verdicts.specs.Indices.{id_at, AreIndicesOf, RowsAre}
+use Rattle.verdicts.specs.Judge.{status_of}
+use Rattle.verdicts.specs.Verdicts.{verdict_of}
+use Rattle.verdicts.specs.Worlds.{world_of}
+use Rattle.verdicts.specs.declared.verdict.Status.TheVariants as status
+use Rattle.verdicts.specs.United.{united}
+use Rattle.verdicts.proofs.IndexFacts.{index_is, at_inside, inside_at}
 use Rattle.zone_plans.specs.Findings.{known_givers}
 use Rattle.zone_plans.specs.Graphs.{AreGiven, AreReachedFrom, AreStartsOf, ids_of_steps, list_at, needs_at}
 use Rattle.zone_plans.specs.Readings.{ReadingLists, reading_of}
@@ -80,12 +77,12 @@ module _ (content : Content) (rows : List ZoneRow) (chosen ids : List (List ℕ)
   as_many = ap length read ∙ length-map ids (reading_of content rows)
 
   reading_at : (p : ℕ) (d : ReadingLists) → p < length ids → get_or readings p d ≡ reading_of content rows (id_at ids p)
-  reading_at p d within = ap (λ (l : List ReadingLists). get_or l p d) read ∙ at_map (reading_of content rows) ids p [] d within
+  reading_at p d within = ap (λ (l : List ReadingLists). get_or l p d) read ∙ get_or-map (reading_of content rows) ids p [] d within
 
   -- what is read of a member, by its index
   needs_of : (p : ℕ) → p < length ids → needs_at readings p ≡ needs_in content rows (id_at ids p)
   needs_of p within =
-      at_map (λ (r : ReadingLists). r.needs) readings p (reading_of content rows []) [] (omega (arith, within, as_many))
+      get_or-map (λ (r : ReadingLists). r.needs) readings p (reading_of content rows []) [] (omega (arith, within, as_many))
       ∙ ap (λ (r : ReadingLists). r.needs) (reading_at p (reading_of content rows []) within)
 
   in_all : (p : ℕ) → p < length ids → Contains (united content rows chosen) (id_at ids p)
@@ -100,7 +97,7 @@ module _ (content : Content) (rows : List ZoneRow) (chosen ids : List (List ℕ)
   lists_len = ap length known ∙ length-map ids (known_givers content rows)
 
   list_is : (p : ℕ) → p < length ids → list_at lists p ≡ known_givers content rows (id_at ids p)
-  list_is p within = ap (λ (l : List (List (List ℕ))). get_or l p []) known ∙ at_map (known_givers content rows) ids p [] [] within
+  list_is p within = ap (λ (l : List (List (List ℕ))). get_or l p []) known ∙ get_or-map (known_givers content rows) ids p [] [] within
 
   row_inside : (p q : ℕ) → Contains (row above p) q → p < length ids
   row_inside p q listed = elim (cases_lt p (length ids)) [

@@ -20,9 +20,9 @@ use Rattle.requisites.proofs.SourceFacts.{marked_inside}
 use Rattle.install_order.specs.Steps.{AreSteps, marked_in, may_come, steps_of}
 use Rattle.install_order.proofs.ListFacts.{filter_twice, in_range, range_has}
 use Rattle.install_order.proofs.RingFacts.{leads_joined}
-use Rattle.chains.specs.Cuts.{id_at}
-use Rattle.chains.proofs.IndexFacts.{one_index}
-use Rattle.chains.specs.United.{united}
+use Rattle.verdicts.specs.Indices.{id_at}
+use Rattle.verdicts.proofs.IndexFacts.{one_index}
+use Rattle.verdicts.specs.United.{united}
 use Rattle.zone_plans.specs.Graphs.{ids_of_steps}
 use Rattle.zone_plans.specs.Members.{caused_in, is_needed, left_of, needed_within, needs_id, outdoes, zone_steps_of}
 

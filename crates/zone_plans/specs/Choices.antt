@@ -4,8 +4,8 @@ use Rattle.std.specs.List.{list_any, slice_get}
 use Rattle.catalogue.specs.Content.{Content}
 use Rattle.catalogue.specs.Ids.{in_order, same_id}
 use Rattle.supersede.specs.Giving.{gives}
-use Rattle.chains.specs.declared.verdict.Status.{Status}
-use Rattle.chains.specs.declared.verdict.Status.TheVariants.{Good, Held, Lack}
+use Rattle.verdicts.specs.declared.verdict.Status.{Status}
+use Rattle.verdicts.specs.declared.verdict.Status.TheVariants.{Good, Held, Lack}
 use Rattle.report_holds.specs.Holds.{HoldLists}
 use Rattle.report_holds.specs.declared.holds.Resolver.{Resolver}
 

@@ -4,7 +4,7 @@ use Rattle.std.specs.Prelude.{◌≡◌, ℕ, List, Option, Some, None, Contains
 use Rattle.zone_lists.specs.declared.zones.ZoneRow.{ZoneRow}
 use Rattle.catalogue.specs.Content.{Content}
 use Rattle.supersede.specs.Giving.{givers_of}
-use Rattle.chains.specs.Candidates.{candidates_unless_there}
+use Rattle.verdicts.specs.Candidates.{candidates_unless_there}
 use Rattle.zone_plans.specs.Readings.{ReadingLists, all_needs, reading_of}
 
 -- what is answered for a SYSMOD, or all that give it

@@ -10,10 +10,9 @@ use Rattle.supersede.specs.Reach.{has}
 use Rattle.requisites.specs.Leads.{Leads}
 use Rattle.requisites.specs.Nodes.{IsMarked, Links}
 use Rattle.requisites.specs.Sources.{HasSource}
-use Rattle.chains.specs.Cuts.{id_at}
-use Rattle.chains.specs.Indices.{RowsAre}
-use Rattle.chains.specs.Judge.{status_of}
-use Rattle.chains.specs.Verdicts.{verdict_of}
+use Rattle.verdicts.specs.Indices.{id_at, RowsAre}
+use Rattle.verdicts.specs.Judge.{status_of}
+use Rattle.verdicts.specs.Verdicts.{verdict_of}
 use Rattle.report_holds.specs.Holds.{HoldLists}
 use Rattle.report_holds.specs.declared.holds.Resolver.{Resolver}
 use Rattle.zone_plans.specs.Findings.{known_givers}

@@ -11,8 +11,8 @@ use Rattle.supersede.specs.Leading.{Gives, IsThere}
 use Rattle.requisites.specs.Leads.{Leads}
 use Rattle.requisites.specs.World.{IsPlan}
 use Rattle.install_order.specs.Steps.{steps_of}
-use Rattle.chains.specs.United.{plan_in, united}
-use Rattle.chains.specs.Worlds.{world_of}
+use Rattle.verdicts.specs.United.{plan_in, united}
+use Rattle.verdicts.specs.Worlds.{world_of}
 
 -- the ids of all steps
 abbrev pub joined : List (List (List ℕ)) → List (List ℕ)

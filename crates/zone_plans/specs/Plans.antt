@@ -4,10 +4,10 @@ use Rattle.std.specs.List.{filter_map, flat_map}
 use Rattle.zone_lists.specs.declared.zones.ZoneRow.{ZoneRow}
 use Rattle.catalogue.specs.Content.{Content}
 use Rattle.catalogue.specs.Ids.{in_order}
-use Rattle.chains.specs.Judge.{status_of}
-use Rattle.chains.specs.United.{united}
-use Rattle.chains.specs.Verdicts.{verdict_of}
-use Rattle.chains.specs.declared.verdict.Status.TheVariants as status
+use Rattle.verdicts.specs.Judge.{status_of}
+use Rattle.verdicts.specs.United.{united}
+use Rattle.verdicts.specs.Verdicts.{verdict_of}
+use Rattle.verdicts.specs.declared.verdict.Status.TheVariants as status
 use Rattle.blocked_needs.specs.Blocked.{AreBlockedNeeds, HasRow, blocked_needs_of}
 use Rattle.blocked_needs.specs.declared.blocked.BlockedNeed.{BlockedNeed}
 use Rattle.report_holds.specs.Holds.{HoldLists}

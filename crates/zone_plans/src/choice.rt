@@ -4,17 +4,17 @@ ghost use Rattle.zone_lists.specs.declared.zones.ZoneRow.{ZoneRow};
 ghost use Rattle.catalogue.specs.Content.{Content};
 ghost use Rattle.catalogue.specs.Ids.{Ascend, in_order, same_id};
 ghost use Rattle.supersede.specs.Reach.{has};
-ghost use Rattle.chains.specs.declared.verdict.Status.TheVariants.{Lack};
+ghost use Rattle.verdicts.specs.declared.verdict.Status.TheVariants.{Lack};
 ghost use Rattle.zone_plans.specs.Choices.{choice, greatest_of, last_of, of_status, or_all, received_or_all, same_status};
 ghost use Rattle.zone_plans.specs.Graphs.{AreKnown, MayPlace, is_given_by, lists_of, not_given};
 
-use chains::{Status, listed};
 use faults::NoMemory;
 use mcs_reader::Id;
 use report_holds::{HoldResolvers, Resolver};
 use reports::{is_among, list_among, put_all};
 use std::alloc::Global;
 use std::collections::BTreeSet;
+use verdicts::{Status, listed};
 
 /// The resolver of a kind that is chosen for a hold, by what gives each resolver.
 pub(crate) fn choice(

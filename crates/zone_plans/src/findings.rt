@@ -5,7 +5,7 @@ ghost use Rattle.catalogue.specs.Ids.{Ascend};
 ghost use Rattle.catalogue.specs.View.{MayAsk, Tells};
 ghost use Rattle.catalogue.specs.declared.fault.SourceFault.TheVariants.{Device};
 ghost use Rattle.supersede.specs.Reach.{has};
-ghost use Rattle.chains.specs.United.{united};
+ghost use Rattle.verdicts.specs.United.{united};
 ghost use Rattle.zone_plans.specs.Findings.{findings_of};
 ghost use Rattle.zone_plans.specs.Readings.{ReadingLists};
 
@@ -13,12 +13,12 @@ use crate::giving::givers_of_all;
 use crate::graph::Answer;
 use crate::reading::{Reading, needs_of_all, readings};
 use catalogue::{Published, SourceFault};
-use chains::Judge;
 use mcs_reader::Id;
 use reports::{answer_among, list_among};
 use std::alloc::Global;
 use std::marker::Model;
 use supersede::{Zone, index_among};
+use verdicts::Judge;
 
 /// What is found of the SYSMODs that chosen plans have together, before those are left out that another one gives: what
 /// is read of each, what gives it, and what gives the needs of all (IBM z/OS SMP/E Reference, `++VER`, operands FMID,
@@ -56,7 +56,7 @@ impl Model for Findings {
 impl Findings {
     ghost use Rattle.std.specs.Prelude.{◌≡◌, List, Contains, option_map};
     ghost use Rattle.catalogue.specs.Content.{Content};
-    ghost use Rattle.chains.specs.Candidates.{candidates_unless_there};
+    ghost use Rattle.verdicts.specs.Candidates.{candidates_unless_there};
     ghost use Rattle.zone_lists.specs.declared.zones.ZoneRow.{ZoneRow};
     ghost use Rattle.zone_plans.specs.Findings.{AreFindings, known_givers};
     ghost use Rattle.zone_plans.specs.Readings.{reading_of};

@@ -9,12 +9,12 @@ ghost use Rattle.zone_plans.specs.Graphs.{lists_of};
 
 use crate::graph::Answer;
 use catalogue::{Published, SourceFault};
-use chains::Judge;
 use faults::NoMemory;
 use mcs_reader::Id;
 use reports::answer_among;
 use std::alloc::Global;
 use supersede::{Zone, givers};
+use verdicts::Judge;
 
 /// For each of some SYSMODs those that give it, itself or through others: all candidates that do, and maybe others.
 pub(crate) fn givers_of_all<P: Published, J: Judge<P>>(

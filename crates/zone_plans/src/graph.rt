@@ -2,17 +2,17 @@
 ghost use Rattle.std.specs.Prelude.{◌≡◌, ◌<◌, ◌∷◌, [], ℕ, List, Option, true, Contains, IfOk, OnOk, length, map, option_map};
 ghost use Rattle.catalogue.specs.Ids.{Ascend};
 ghost use Rattle.supersede.specs.Reach.{has};
-ghost use Rattle.chains.specs.Indices.{AreIndicesOf, RowsAre};
+ghost use Rattle.verdicts.specs.Indices.{AreIndicesOf, RowsAre};
 ghost use Rattle.zone_plans.specs.Graphs.{AreGiven, AreGivenIndices, AreAnswered, ArePushed, list_at, lists_of};
 ghost use Rattle.zone_plans.specs.Readings.{all_needs};
 
 use crate::reading::Reading;
 use faults::NoMemory;
-use listings::{index_of, put_indices};
 use mcs_reader::Id;
 use reports::answer_among;
 use requisites::{Rows, is_marked};
 use std::alloc::Global;
+use verdicts::{index_of, put_indices};
 
 /// What is answered for a need: the candidates that give it, ascending, unless it is there.
 pub(crate) type Answer = Option<Vec<Id>>;

@@ -6,10 +6,9 @@ ghost use Rattle.supersede.specs.Reach.{has};
 ghost use Rattle.zone_plans.specs.Graphs.{AreSourced, AreStarts, IsStart};
 
 use faults::NoMemory;
-use listings::has_source;
 use mcs_reader::Id;
 use reports::is_among;
-use requisites::is_marked;
+use requisites::{has_source, is_marked};
 use std::alloc::Global;
 
 /// Which of some ids stand among others.

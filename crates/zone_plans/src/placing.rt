@@ -14,13 +14,13 @@ use crate::choice::choice;
 use crate::giving::givers_of_all;
 use crate::holds::ChosenResolver;
 use catalogue::{Published, SourceFault};
-use chains::{Judge, Status, listed};
 use faults::NoMemory;
 use mcs_reader::Id;
 use report_holds::{HoldOn, HoldResolvers, Resolver};
 use std::alloc::Global;
 use std::collections::BTreeSet;
 use supersede::Zone;
+use verdicts::{Judge, Status, listed};
 
 /// What becomes of a hold.
 #[derive(Clone, Copy)]

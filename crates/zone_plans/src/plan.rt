@@ -11,11 +11,11 @@ use crate::placing::{Placed, PlacedHolds, chosen_in, place_all, placed_holds, re
 use crate::steps::{Steps, zone_steps};
 use blocked_needs::{BlockedNeed, blocked_needs};
 use catalogue::{Published, SourceFault};
-use chains::Judge;
 use report_holds::{HoldOn, HoldResolvers};
 use std::alloc::Global;
 use std::marker::Model;
 use supersede::Zone;
+use verdicts::Judge;
 
 /// One plan for the holds of a report on a zone.
 #[derive(Debug, Drop)]

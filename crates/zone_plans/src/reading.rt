@@ -8,7 +8,6 @@ ghost use Rattle.reports.specs.ChainText.{reasons_in};
 ghost use Rattle.zone_plans.specs.Readings.{all_needs, reading_from, reading_of};
 
 use catalogue::{CondNeed, Published, SourceFault, Sysmod};
-use chains::listed;
 use faults::NoMemory;
 use holddata::{Hold, Kind};
 use mcs_reader::Id;
@@ -17,6 +16,7 @@ use std::alloc::Global;
 use std::collections::BTreeSet;
 use std::marker::Model;
 use supersede::Zone;
+use verdicts::listed;
 
 /// What is read of a SYSMOD: its functions, what it needs in a zone, and the reasons of the SYSTEM and USER holds on
 /// it (IBM z/OS SMP/E Reference, `++VER`, operands FMID, PRE and REQ, `++IF`, and `++HOLD`).

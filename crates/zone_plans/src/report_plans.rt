@@ -10,13 +10,13 @@ ghost use Rattle.report_holds.specs.Rows.{err_holds_of, missing_holds_of};
 
 use crate::plan::{ZonePlan, zone_plan};
 use catalogue::{Published, SourceFault};
-use chains::Judge;
 use holddata::Hold;
 use mcs_reader::Id;
 use report_holds::{err_holds, missing_holds};
 use reports::{err_rows, missing_rows};
 use std::alloc::Global;
 use supersede::Zone;
+use verdicts::Judge;
 use zone_lists::Pattern;
 
 /// The plan for the exception SYSMOD report on a zone, from the ERROR holds on the SYSMODs that are installed in it.

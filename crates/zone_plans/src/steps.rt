@@ -2,16 +2,16 @@
 ghost use Rattle.std.specs.Prelude.{◌≡◌, ◌<◌, List, ℕ, Contains, IfOk, length, map, option_map};
 ghost use Rattle.catalogue.specs.Content.{Content};
 ghost use Rattle.catalogue.specs.Ids.{Ascend};
-ghost use Rattle.chains.specs.Candidates.{candidates_unless_there};
-ghost use Rattle.chains.specs.Cuts as cuts;
-ghost use Rattle.chains.specs.Judge as judge;
-ghost use Rattle.chains.specs.Verdicts.{verdict_of};
-ghost use Rattle.chains.specs.declared.verdict.Status.TheVariants as status;
+ghost use Rattle.verdicts.specs.Candidates.{candidates_unless_there};
+ghost use Rattle.verdicts.specs.Indices as Indices;
+ghost use Rattle.verdicts.specs.Judge as judge;
+ghost use Rattle.verdicts.specs.Verdicts.{verdict_of};
+ghost use Rattle.verdicts.specs.declared.verdict.Status.TheVariants as status;
 ghost use Rattle.zone_lists.specs.declared.zones.ZoneRow.{ZoneRow};
 ghost use Rattle.zone_plans.specs.Findings.{findings_of, known_givers};
 ghost use Rattle.zone_plans.specs.Graphs.{AreReachedFrom, AreStartsOf, AreWithin, ids_of_steps, lists_of};
 ghost use Rattle.zone_plans.specs.Readings.{all_needs, reading_of};
-ghost use Rattle.chains.specs.United.{united};
+ghost use Rattle.verdicts.specs.United.{united};
 ghost use Rattle.zone_plans.specs.Members.{AreZoneSteps};
 
 use crate::findings::Findings;
@@ -71,7 +71,7 @@ impl Steps {
 // The ids that stand at indices.
 fn ids_at(alloc: Global, ids: &[Id], indices: &[usize]) -> Result<Vec<Id>, NoMemory>
     requires { (p : ℕ) → Contains indices.now p → p < length ids.now }
-    ensures { IfOk result (λ found. found.items ≡ map (cuts.id_at ids.now) indices.now) }
+    ensures { IfOk result (λ found. found.items ≡ map (Indices.id_at ids.now) indices.now) }
 {
     let mut found = Vec::with_capacity(alloc, indices.len())?;
     for index in indices {
@@ -82,7 +82,7 @@ fn ids_at(alloc: Global, ids: &[Id], indices: &[usize]) -> Result<Vec<Id>, NoMem
 
 fn id_at(ids: &[Id], index: usize) -> Id
     requires { index < length ids.now }
-    ensures { result ≡ cuts.id_at ids.now index }
+    ensures { result ≡ Indices.id_at ids.now index }
 {
     ids[index]
 }

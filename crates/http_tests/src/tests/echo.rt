@@ -5,6 +5,7 @@ use bureau_http::{ConnFault, Desk, serve_one};
 use bureau_store::{Caller, ListStore, StoreFault, callers};
 use chains::Whole;
 use faults::NoMemory;
+use questions::Form;
 use std::alloc::Global;
 use std::io::{Read, Write};
 use std::test::Fail;
@@ -44,8 +45,12 @@ impl Answering for Echo {
         let (status, json, text) = match *call {
             Call::Publish { number: None, .. } => (400, false, b"BAD NUMBER\n".as_slice()),
             Call::Publish { body, .. } => (200, false, body),
-            Call::Counts => (200, false, b"PUBLISHED SYSMODS 0 HOLDS 0\n".as_slice()),
-            Call::CountsJson => (200, true, b"{\"holds\":0,\"sysmods\":0}".as_slice()),
+            Call::Counts { form: Form::Text } => {
+                (200, false, b"PUBLISHED SYSMODS 0 HOLDS 0\n".as_slice())
+            }
+            Call::Counts { form: Form::Json } => {
+                (200, true, b"{\"holds\":0,\"sysmods\":0}".as_slice())
+            }
             _ => (403, false, b"NOT ALLOWED\n".as_slice()),
         };
         match Vec::from_slice(self.alloc, text) {

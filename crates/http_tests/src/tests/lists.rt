@@ -1,6 +1,7 @@
 //! Connections in memory, one after the other.
 use super::echo::{Echo, counts};
 use bureau_http::{replay, serve_list};
+use chains::Whole;
 use std::test::Fail;
 use testing::assert_equal;
 
@@ -32,6 +33,7 @@ fn connections_to_the_bureau(rt: HostRuntime) -> Result<(), Fail> {
     connections.push(one)?;
     match replay(
         rt.alloc(),
+        Whole::new(),
         b"NAME,TOKEN\nPUBLISH,publisher-token\n",
         connections,
     ) {

@@ -6,7 +6,7 @@ ghost use Rattle.bureau_store.specs.Tables.{NamesAscend};
 ghost use Rattle.sqlite.specs.Held.{state};
 ghost use Rattle.sqlite_value.specs.Order as order;
 ghost use Rattle.sql_reads.specs.Answering.{one_of};
-ghost use Rattle.sql_state.specs.Reading.{Finds};
+ghost use Rattle.sql_tables.specs.Reading.{Finds};
 ghost use Rattle.sql_tables.specs.Stored.{tables_of};
 ghost use Rattle.sql_tables.specs.Values as value;
 ghost use Rattle.sql_reads.specs.Columns.{ShowsAll};

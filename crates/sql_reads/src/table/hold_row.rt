@@ -3,7 +3,7 @@ ghost use Rattle.std.specs.Prelude.{◌≡◌, false, IfOk};
 ghost use Rattle.sqlite.specs.Held.{state};
 ghost use Rattle.catalogue.specs.Content.{holds_on};
 ghost use Rattle.holddata.specs.HoldBook.{IsInKeyOrder};
-ghost use Rattle.sql_state.specs.Reading.{Finds};
+ghost use Rattle.sql_tables.specs.Reading.{Finds};
 ghost use Rattle.sql_tables.specs.Stored.{tables_of};
 ghost use Rattle.sql_reads.specs.Columns.{ShowsAll, indices_of};
 ghost use Rattle.sql_texts.specs.Schema as schema;

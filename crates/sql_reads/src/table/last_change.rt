@@ -5,7 +5,7 @@ ghost use Rattle.bureau_store.specs.Tables.{no_change};
 ghost use Rattle.sqlite.specs.Held.{state};
 ghost use Rattle.sqlite_value.specs.Value.{owned};
 ghost use Rattle.sql_reads.specs.Answering.{IsNameOf, one_of};
-ghost use Rattle.sql_state.specs.Reading.{Finds};
+ghost use Rattle.sql_tables.specs.Reading.{Finds};
 ghost use Rattle.sql_tables.specs.Rows.{change_found};
 ghost use Rattle.sql_tables.specs.Stored.{tables_of};
 ghost use Rattle.sql_reads.specs.Columns.{ShowsAll};

@@ -2,7 +2,7 @@
 ghost use Rattle.std.specs.Prelude.{◌≡◌, false, IfOk};
 ghost use Rattle.catalogue.specs.Ids.{Ascend};
 ghost use Rattle.sqlite.specs.Held.{state};
-ghost use Rattle.sql_state.specs.Reading.{Finds};
+ghost use Rattle.sql_tables.specs.Reading.{Finds};
 ghost use Rattle.sql_tables.specs.Stored.{tables_of};
 ghost use Rattle.sql_reads.specs.Columns.{ShowsAll};
 ghost use Rattle.sql_texts.specs.Schema as schema;

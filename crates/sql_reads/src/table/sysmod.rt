@@ -3,7 +3,7 @@ ghost use Rattle.std.specs.Prelude.{◌≡◌, false, IfOk, Some};
 ghost use Rattle.sqlite.specs.Held.{state};
 ghost use Rattle.catalogue.specs.Content.{ids_of, record_of};
 ghost use Rattle.catalogue.specs.Ids.{Ascend};
-ghost use Rattle.sql_state.specs.Reading.{Finds};
+ghost use Rattle.sql_tables.specs.Reading.{Finds};
 ghost use Rattle.sql_reads.specs.Answering.{one_of};
 ghost use Rattle.sql_tables.specs.Rows.{sysmod_found};
 ghost use Rattle.sql_tables.specs.Stored.{beside_of, tables_of};

@@ -1,7 +1,7 @@
 //! The table `zone_row`: the SYSMODs of a client's zone.
 ghost use Rattle.std.specs.Prelude.{◌≡◌, false, IfOk, IfSome};
 ghost use Rattle.sqlite.specs.Held.{state};
-ghost use Rattle.sql_state.specs.Reading.{Finds};
+ghost use Rattle.sql_tables.specs.Reading.{Finds};
 ghost use Rattle.sql_tables.specs.Stored.{zone_rows_of};
 ghost use Rattle.zone_lists.specs.ZoneList.{RowsAscend};
 ghost use Rattle.sql_reads.specs.Columns.{ShowsAll};

@@ -5,8 +5,8 @@ ghost use Rattle.bureau_store.specs.Caller.{IsProper};
 use super::script::{ALPHA, Asked, BETA, Checked, PUBLISHER, Told};
 use bureau::{Bureau, Reply};
 use bureau_store::{Caller, CallerRow, ListStore, Store};
-use chains::Judge;
 use std::alloc::Global;
+use verdicts::Judge;
 
 /// Who has which token. It is looked up elsewhere than at the desk, so that a desk that is closed is asked too.
 pub(crate) struct Known {

@@ -1,6 +1,7 @@
 //! What the publisher and two clients ask one after the other, and what each is told.
 use bureau::Call;
 use mcs_reader::Id;
+use questions::{Form, Wanted};
 use testing::{BASE, LONG_PLAN, ONE_RECEIVED, ONE_RESOLVER, SHORT_PLAN, TWO_RESOLVERS};
 
 /// A value, or what is wrong.
@@ -179,17 +180,17 @@ impl Ask {
                 number: Some(number),
                 zone,
             },
-            Ask::Report => Call::ErrSysmods { zone },
-            Ask::ReportJson => Call::ErrSysmodsJson { zone },
-            Ask::Missing => Call::MissingFix { zone },
-            Ask::MissingJson => Call::MissingFixJson { zone },
-            Ask::ErrPlan => Call::ErrPlan { zone },
-            Ask::MissingPlanJson => Call::MissingPlanJson { zone },
+            Ask::Report => errors(zone, Wanted::Rows(Form::Text)),
+            Ask::ReportJson => errors(zone, Wanted::Rows(Form::Json)),
+            Ask::Missing => missing(zone, Wanted::Rows(Form::Text)),
+            Ask::MissingJson => missing(zone, Wanted::Rows(Form::Json)),
+            Ask::ErrPlan => errors(zone, Wanted::Plan(Form::Text)),
+            Ask::MissingPlanJson => missing(zone, Wanted::Plan(Form::Json)),
             Ask::Chain => Call::Chain { zone, sysmod },
-            Ask::Zones => Call::ListZones,
-            Ask::ZonesJson => Call::ListZonesJson,
-            Ask::Counts => Call::Counts,
-            Ask::CountsJson => Call::CountsJson,
+            Ask::Zones => Call::ListZones { form: Form::Text },
+            Ask::ZonesJson => Call::ListZones { form: Form::Json },
+            Ask::Counts => Call::Counts { form: Form::Text },
+            Ask::CountsJson => Call::Counts { form: Form::Json },
         }
     }
 
@@ -198,4 +199,12 @@ impl Ask {
         let (zone, sysmod) = place.ids()?;
         Some(self.call(zone, sysmod))
     }
+}
+
+fn errors(zone: Id, wanted: Wanted) -> Call<'static> {
+    Call::ErrSysmods { zone, wanted }
+}
+
+fn missing(zone: Id, wanted: Wanted) -> Call<'static> {
+    Call::MissingFix { zone, wanted }
 }

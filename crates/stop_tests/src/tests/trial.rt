@@ -4,9 +4,10 @@ use super::script::{CALLERS, Checked, QUESTIONS, SCRIPT};
 use bureau::{Bureau, Reply};
 use bureau_store::{CallerRow, Store, callers};
 use chain_cache::ChainCache;
-use chains::{Judge, Whole};
+use chains::Whole;
 use std::alloc::Global;
 use std::hash::RandomState;
+use verdicts::Judge;
 
 /// The callers of the script, what is right in it, and what desks are made of that are asked.
 pub(crate) struct Trial {

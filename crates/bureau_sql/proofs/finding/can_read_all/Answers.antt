@@ -2,7 +2,7 @@ use Rattle.std.proofs.Common.{[], get_or, rules}
 use Rattle.std.proofs.lemmas.List.Elements.{Contains-get_or}
 use Rattle.sqlite.specs.Held.{state}
 use Rattle.sqlite.specs.State.{HasCleanDisk}
-use Rattle.sql_state.proofs.StopFacts.{read_on}
+use Rattle.sql_tables.proofs.StopFacts.{read_on}
 use Rattle.bureau_sql.specs.Opening.{IsOneStatement, IsSeen, LacksText}
 use Rattle.bureau_sql.proofs.OpenFacts.{meant_so_far, seen_before}
 use Rattle.bureau_sql.proofs.finding.can_read_all.Goals as goal

@@ -2,7 +2,7 @@ use Rattle.std.proofs.Common.{◌≡◌, IsTrue, false, take}
 use Rattle.std.specs.List.{AllByRecursion}
 use Rattle.sqlite.specs.Held.{state}
 use Rattle.sqlite.specs.State.{HasCleanDisk}
-use Rattle.sql_state.specs.Reading.{OnlyReads}
+use Rattle.sql_tables.specs.Reading.{OnlyReads}
 use Rattle.bureau_sql.specs.Opening.{IsUnderstood}
 use Rattle.bureau_sql.proofs.finding.can_read_all.Given as goal
 

@@ -1,7 +1,7 @@
 use Rattle.std.proofs.Common.{Err, IfErr, Ok, Result, rules, subst, sym}
 use Rattle.sqlite.specs.Effect.{Database}
 use Rattle.sqlite.specs.Held.{state}
-use Rattle.sql_state.proofs.StopFacts.{was_clean}
+use Rattle.sql_tables.proofs.StopFacts.{was_clean}
 use Rattle.sqlite.specs.State.{HasCleanDisk}
 use Rattle.sql_texts.specs.Schema.{bureau_1}
 use Rattle.bureau_sql.specs.Opening.{IsOneStatement, IsOther, IsSeen, IsUnderstood, LacksVersion}

@@ -1,7 +1,7 @@
 use Rattle.std.proofs.Common.{inl, inr, rules}
 use Rattle.sqlite.specs.Held.{state}
 use Rattle.sqlite.specs.State.{HasCleanDisk}
-use Rattle.sql_state.proofs.StopFacts.{read_on, was_clean}
+use Rattle.sql_tables.proofs.StopFacts.{read_on, was_clean}
 use Rattle.bureau_sql.specs.Opening.{HasTables, IsOneStatement, IsOther, IsSeen, IsUnderstood, LacksMore, LacksTables, LacksVersion}
 use Rattle.bureau_sql.proofs.OpenFacts.{found_where_open, probe_seen, seen_before, seen_so}
 use Rattle.bureau_sql.proofs.finding.holds.Goals as goal

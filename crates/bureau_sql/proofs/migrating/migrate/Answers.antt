@@ -1,9 +1,9 @@
 use Rattle.std.proofs.Common.{Err, Ok, ap, inl, rules}
 use Rattle.sqlite.specs.Held.{state}
 use Rattle.sqlite.specs.State.{HasCleanDisk}
-use Rattle.sql_state.proofs.StopFacts.{was_clean}
-use Rattle.sql_state.specs.Earlier.{IsOfVersion1, held_by_version_1}
-use Rattle.sql_state.specs.Ours.{version_rows}
+use Rattle.sql_tables.proofs.StopFacts.{was_clean}
+use Rattle.sql_tables.specs.Earlier.{IsOfVersion1, held_by_version_1}
+use Rattle.sql_tables.specs.Ours.{version_rows}
 use Rattle.sql_tables.specs.Stored.{tables_of}
 use Rattle.sql_writes.specs.Migrating.{HoldsAll}
 use Rattle.bureau_sql.specs.Migrated.{LeavesUntouched}

@@ -1,7 +1,7 @@
 use Rattle.std.proofs.Common.{◌≡◌, rules}
 use Rattle.sqlite.specs.Held.{state}
-use Rattle.sql_state.specs.Earlier.{IsOfVersion1, held_by_version_1}
-use Rattle.sql_state.specs.Ours.{version_rows}
+use Rattle.sql_tables.specs.Earlier.{IsOfVersion1, held_by_version_1}
+use Rattle.sql_tables.specs.Ours.{version_rows}
 use Rattle.sql_writes.specs.Migrating.{HoldsAll, IsMigration}
 use Rattle.sql_writes.proofs.MigrateFacts.{from_version_1}
 use Rattle.bureau_sql.specs.Migrated.{LeadsToMigration}

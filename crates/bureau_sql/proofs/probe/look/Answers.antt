@@ -4,7 +4,7 @@ use Rattle.bureau_store.specs.declared.fault.StoreFault.TheVariants.{Device}
 use Rattle.sqlite.specs.Given.{IsPlain}
 use Rattle.sqlite.specs.Held.{state}
 use Rattle.sqlite.specs.State.{FailsToQuery, HasCleanDisk}
-use Rattle.sql_state.specs.Reading.{HasFailed}
+use Rattle.sql_tables.specs.Reading.{HasFailed}
 use Rattle.bureau_sql.proofs.PlainFacts.{query_reads, refused_as_no_query}
 use Rattle.bureau_sql.proofs.RefusedFacts.{probe_failed, probe_shows_nothing}
 use Rattle.bureau_sql.proofs.probe.look.Goals as goal

@@ -1,6 +1,6 @@
 use Rattle.std.proofs.Common.{◌≡◌, ◌∙◌, ℕ, true, subst, sym}
 use Rattle.requisites.specs.Nodes.{mark_of}
-use Rattle.chains.proofs.AnswerFacts.{index_is}
+use Rattle.verdicts.proofs.IndexFacts.{index_is}
 use Rattle.chains.proofs.candidates.absent_at.Goals as goal
 
 pub returns-then-is_marked-clause-none : goal.returns-then-is_marked-clause-none

@@ -1,7 +1,7 @@
 use Rattle.std.proofs.Common.{◌≡◌, ◌∙◌, ◌+◌, Bool, List, ℕ, ap, length, true, take, subst, sym}
 use Rattle.std.specs.List.{Contains}
 use Rattle.std.proofs.lemmas.List.{length-set, take_all}
-use Rattle.listings.specs.Cuts.{id_at}
+use Rattle.verdicts.specs.Indices.{id_at}
 use Rattle.chains.proofs.AnswerFacts.{AreMarked, marks_pass, marks_put}
 use Rattle.chains.proofs.candidates.absent_marks.Goals as goal
 use Rattle.chains.proofs.candidates.absent_marks.Goals.{in-Some, in_default}

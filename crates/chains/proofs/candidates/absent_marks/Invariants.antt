@@ -1,7 +1,7 @@
 use Rattle.std.proofs.Common.{◌≡◌, ◌<◌, ℕ, true, false, length, take}
 use Rattle.std.specs.List.{Contains}
 use Rattle.requisites.specs.Nodes.{mark_of}
-use Rattle.listings.specs.Cuts.{id_at}
+use Rattle.verdicts.specs.Indices.{id_at}
 use Rattle.chains.proofs.candidates.absent_marks.Given as goal
 
 abbrev pub invariant-loop-id : goal.invariant-loop-id

@@ -4,12 +4,12 @@ use Rattle.catalogue.proofs.TellingFacts.{told_by_two}
 use Rattle.requisites.specs.Sources.{AreLeastSources, HasSource}
 use Rattle.supersede.specs.Giving.{is_candidate}
 use Rattle.chains.specs.Climbs.{IsFound}
-use Rattle.listings.specs.Cuts.{id_at}
-use Rattle.listings.specs.Indices.{AreThere, MarksAre}
+use Rattle.verdicts.specs.Indices.{id_at, MarksAre}
+use Rattle.listings.specs.SeenIndices.{AreThere}
 use Rattle.chains.proofs.AboveFacts.{unheld_above}
 use Rattle.chains.proofs.AnswerFacts.{AreMarked, found_is, one_inside}
 use Rattle.listings.proofs.SupersederFacts.{unheld, unheld_in_order}
-use Rattle.chains.proofs.AskingFacts.{failed_since}
+use Rattle.verdicts.proofs.AskingFacts.{failed_since}
 use Rattle.chains.proofs.candidates.candidates_by.Goals as goal
 
 pub returns-clause-candidates : goal.returns-clause-candidates

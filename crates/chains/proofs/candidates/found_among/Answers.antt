@@ -1,9 +1,9 @@
 use Rattle.std.proofs.Common.{◌≡◌, List, Option, length, subst, ℕ}
 use Rattle.lemmas.proofs.ResultFacts.{ok_so}
 use Rattle.requisites.specs.Nodes.{row}
-use Rattle.chains.specs.Candidates.{candidates_unless_there}
+use Rattle.verdicts.specs.Candidates.{candidates_unless_there}
 use Rattle.chains.specs.Climbs.{IsAnswer, with_source}
-use Rattle.listings.specs.Indices.{RowsAre}
+use Rattle.verdicts.specs.Indices.{RowsAre}
 use Rattle.chains.proofs.AnswerFacts.{answer_is, kept_answers}
 use Rattle.chains.proofs.candidates.found_among.Goals as goal
 

@@ -7,7 +7,7 @@ use Rattle.requisites.specs.Leads.{Leads}
 use Rattle.requisites.specs.Nodes.{Links, mark_of}
 use Rattle.requisites.proofs.LeadsFacts.{leads_closed}
 use Rattle.chains.specs.Climbs.{AreFrom}
-use Rattle.listings.specs.Cuts.{id_at}
+use Rattle.verdicts.specs.Indices.{id_at}
 use Rattle.chains.proofs.AnswerFacts.{marked_are}
 use Rattle.chains.proofs.candidates.found_from.Goals as goal
 

@@ -1,7 +1,7 @@
 use Rattle.std.proofs.Common.{◌≡◌, ◌∙◌, ap}
 use Rattle.requisites.specs.Nodes.{row}
 use Rattle.chains.specs.Climbs.{with_source}
-use Rattle.listings.proofs.IndexFacts.{rows_more}
+use Rattle.verdicts.proofs.IndexFacts.{rows_more}
 use Rattle.chains.proofs.candidates.rows_with_source.Goals as goal
 
 pub loop-index-preserved : goal.loop-index-preserved

@@ -1,7 +1,7 @@
 use Rattle.std.proofs.Common.{◌≡◌}
 use Rattle.requisites.specs.Nodes.{row}
 use Rattle.chains.specs.Climbs.{with_source}
-use Rattle.listings.specs.Indices.{RowsAre}
+use Rattle.verdicts.specs.Indices.{RowsAre}
 use Rattle.chains.proofs.candidates.rows_with_source.Given as goal
 
 abbrev pub invariant-loop-index : goal.invariant-loop-index

@@ -4,10 +4,9 @@ use Rattle.catalogue.proofs.SourceFacts.{no_fault, told_so}
 use Rattle.requisites.specs.Sources.{HasSource}
 use Rattle.supersede.specs.Giving.{is_candidate}
 use Rattle.catalogue.proofs.TellingFacts.{tells_on}
-use Rattle.listings.specs.Cuts.{id_at}
-use Rattle.listings.specs.Indices.{MarksAre}
-use Rattle.listings.proofs.IndexFacts.{length-push, marks_more}
-use Rattle.chains.proofs.AskingFacts.{failed_since}
+use Rattle.verdicts.specs.Indices.{id_at, MarksAre}
+use Rattle.verdicts.proofs.IndexFacts.{length-push, marks_more}
+use Rattle.verdicts.proofs.AskingFacts.{failed_since}
 use Rattle.chains.proofs.candidates.wanted_candidates.Goals as goal
 
 pub loop-index-preserved : goal.loop-index-preserved

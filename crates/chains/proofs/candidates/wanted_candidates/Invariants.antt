@@ -2,8 +2,7 @@ use Rattle.std.proofs.Common.{◌≡◌, length}
 use Rattle.requisites.specs.Sources.{HasSource}
 use Rattle.supersede.specs.Giving.{is_candidate}
 use Rattle.catalogue.proofs.TellingFacts.{HasTold}
-use Rattle.listings.specs.Cuts.{id_at}
-use Rattle.listings.specs.Indices.{MarksAre}
+use Rattle.verdicts.specs.Indices.{id_at, MarksAre}
 use Rattle.listings.specs.Marks.{IsAtHand}
 use Rattle.chains.proofs.candidates.wanted_candidates.Given as goal
 

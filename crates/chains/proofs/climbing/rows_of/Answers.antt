@@ -1,7 +1,7 @@
 use Rattle.std.proofs.Common.{◌≡◌, ◌∙◌, ◌++◌, ◌∷◌, [], List, ℕ, length, ap, arith, subst}
-use Rattle.listings.specs.Indices.{AreIndicesOf, RowsAre, list_at}
+use Rattle.verdicts.specs.Indices.{AreIndicesOf, RowsAre, list_at}
 use Rattle.chains.proofs.ClimbFacts.{listed_here}
-use Rattle.listings.proofs.IndexFacts.{rows_more}
+use Rattle.verdicts.proofs.IndexFacts.{rows_more}
 use Rattle.chains.proofs.climbing.rows_of.Goals as goal
 
 pub loop-index-preserved : goal.loop-index-preserved

@@ -1,4 +1,4 @@
-use Rattle.listings.specs.Indices.{AreIndicesOf, RowsAre, list_at}
+use Rattle.verdicts.specs.Indices.{AreIndicesOf, RowsAre, list_at}
 use Rattle.chains.proofs.climbing.rows_of.Given as goal
 
 abbrev pub invariant-loop-index : goal.invariant-loop-index

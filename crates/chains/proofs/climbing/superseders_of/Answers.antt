@@ -6,7 +6,7 @@ use Rattle.catalogue.proofs.TellingFacts.{tells_on}
 use Rattle.listings.specs.Gathered.{AreRead}
 use Rattle.chains.proofs.ClimbFacts.{above_now, asked_now, listed_ends, listed_now, starts_stay}
 use Rattle.listings.proofs.WalkFacts.{all_asked}
-use Rattle.chains.proofs.AskingFacts.{failed_since}
+use Rattle.verdicts.proofs.AskingFacts.{failed_since}
 use Rattle.chains.proofs.climbing.superseders_of.Goals as goal
 
 pub loop-at-preserved : goal.loop-at-preserved

@@ -1,6 +1,6 @@
 use Rattle.std.specs.List.{list_any}
 use Rattle.zone_lists.specs.Installed.{is_installed}
-use Rattle.listings.proofs.IndexFacts.{made_more}
+use Rattle.verdicts.proofs.IndexFacts.{made_more}
 use Rattle.chains.proofs.planning.candidate_marks.Goals as goal
 
 pub loop-node-preserved : goal.loop-node-preserved

@@ -2,9 +2,9 @@ use Rattle.std.proofs.Common.{◌∙◌, ◌≡◌, ◌<◌, Bool, List, ap, len
 use Rattle.std.specs.List.{filter}
 use Rattle.lemmas.proofs.ResultFacts.{ok_so}
 use Rattle.requisites.specs.Nodes.{mark_of}
-use Rattle.listings.specs.Cuts.{id_at}
+use Rattle.verdicts.specs.Indices.{id_at}
 use Rattle.chains.specs.Frames.{ids_in}
-use Rattle.chains.specs.Verdicts.{is_good}
+use Rattle.verdicts.specs.Verdicts.{is_good}
 use Rattle.chains.proofs.PlanFacts.{marks_good}
 use Rattle.chains.proofs.planning.good.Goals as goal
 

@@ -1,7 +1,7 @@
 use Rattle.std.proofs.Common.{◌≡◌, ◌<◌, Bool, List, ℕ, length, take}
 use Rattle.std.specs.List.{filter}
 use Rattle.requisites.specs.Nodes.{mark_of}
-use Rattle.listings.specs.Cuts.{id_at}
+use Rattle.verdicts.specs.Indices.{id_at}
 use Rattle.chains.proofs.planning.marked_ids.Given as goal
 
 abbrev pub invariant-loop-index : goal.invariant-loop-index

@@ -1,6 +1,6 @@
 use Rattle.std.proofs.Common.{◌∙◌, List, ap, subst, sym, ℕ}
 use Rattle.lemmas.proofs.ResultFacts.{ok_so}
-use Rattle.listings.specs.Indices.{IsAt}
+use Rattle.verdicts.specs.Indices.{IsAt}
 use Rattle.chains.specs.NodeVerdicts.{IsWithin, verdict_at}
 use Rattle.chains.proofs.NodeVerdictFacts.{verdict_within}
 use Rattle.chains.proofs.PlanFacts.{part_within, planned}

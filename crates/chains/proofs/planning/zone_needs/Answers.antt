@@ -2,7 +2,7 @@ use Rattle.std.proofs.Common.{List, ℕ, [], ◌∷◌, ◌++◌, ◌∙◌, ◌
 use Rattle.lemmas.proofs.ResultFacts.{ok_so}
 use Rattle.catalogue.specs.declared.conditional.CondNeed.{CondNeed}
 use Rattle.supersede.specs.Giving.{needs_where}
-use Rattle.listings.specs.Indices.{AreIndexed, AreIndicesOf}
+use Rattle.verdicts.specs.Indices.{AreIndexed, AreIndicesOf}
 use Rattle.chains.specs.FrameIndices.{node_needs}
 use Rattle.chains.specs.Frames.{ids_in}
 use Rattle.chains.specs.declared.frames.FrameNode.{FrameNode}

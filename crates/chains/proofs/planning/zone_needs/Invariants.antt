@@ -1,5 +1,5 @@
 use Rattle.std.proofs.Common.{map}
-use Rattle.listings.specs.Indices.{AreIndicesOf, RowsAre, list_at}
+use Rattle.verdicts.specs.Indices.{AreIndicesOf, RowsAre, list_at}
 use Rattle.chains.specs.FrameIndices.{node_needs}
 use Rattle.chains.specs.Frames.{ids_in}
 use Rattle.chains.proofs.planning.zone_needs.Given as goal

@@ -1,7 +1,7 @@
 use Rattle.std.proofs.Common.{◌∙◌, ◌++◌, ◌∷◌, [], List, ℕ, sym, subst}
-use Rattle.listings.specs.Indices.{AreIndicesOf}
+use Rattle.verdicts.specs.Indices.{AreIndicesOf}
 use Rattle.listings.proofs.ConditionalFacts.{where_installed}
-use Rattle.listings.proofs.IndexFacts.{indices_more, indices_skip}
+use Rattle.verdicts.proofs.IndexFacts.{indices_more, indices_skip}
 use Rattle.listings.proofs.conditional.push_index_where.Goals as goal
 
 pub returns-in_ok-push : goal.returns-in_ok-push

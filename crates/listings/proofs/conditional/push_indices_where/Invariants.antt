@@ -1,6 +1,6 @@
 use Rattle.std.proofs.Common.{◌++◌, List, ℕ, take}
 use Rattle.supersede.specs.Giving.{needs_where}
-use Rattle.listings.specs.Indices.{AreIndicesOf}
+use Rattle.verdicts.specs.Indices.{AreIndicesOf}
 use Rattle.listings.proofs.conditional.push_indices_where.Given as goal
 
 abbrev pub invariant-loop-cond : goal.invariant-loop-cond

@@ -1,6 +1,6 @@
 use Rattle.std.proofs.Common.{◌∙◌, ap, map}
 use Rattle.std.specs.List.{filter}
-use Rattle.listings.specs.Cuts.{id_at}
+use Rattle.verdicts.specs.Indices.{id_at}
 use Rattle.listings.specs.Links.{is_catalogued_at}
 use Rattle.listings.proofs.LinkFacts.{each_giver, givers_up, indices_inside}
 use Rattle.listings.proofs.links.givers_at.Goals as goal

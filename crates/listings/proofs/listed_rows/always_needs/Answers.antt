@@ -1,9 +1,9 @@
 use Rattle.std.proofs.Common.{◌∙◌, ◌++◌, ◌∷◌, [], List, ap, subst, ℕ}
-use Rattle.listings.specs.Indices.{AreIndicesOf}
+use Rattle.verdicts.specs.Indices.{AreIndicesOf}
 use Rattle.listings.specs.ListedRows.{sight_placed}
 use Rattle.listings.specs.Places.{place_at}
 use Rattle.listings.specs.Sights.{Sight}
-use Rattle.listings.proofs.IndexFacts.{rows_more}
+use Rattle.verdicts.proofs.IndexFacts.{rows_more}
 use Rattle.listings.proofs.listed_rows.always_needs.Goals as goal
 
 pub loop-index-preserved : goal.loop-index-preserved

@@ -1,4 +1,4 @@
-use Rattle.listings.specs.Indices.{AreIndicesOf, RowsAre}
+use Rattle.verdicts.specs.Indices.{AreIndicesOf, RowsAre}
 use Rattle.listings.specs.ListedRows.{sight_placed}
 use Rattle.listings.specs.Places.{place_at}
 use Rattle.listings.proofs.listed_rows.always_needs.Given as goal

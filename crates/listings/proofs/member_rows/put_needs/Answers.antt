@@ -1,7 +1,7 @@
 use Rattle.std.proofs.Common.{◌∙◌, ◌++◌, List, ℕ, subst}
 use Rattle.catalogue.specs.declared.conditional.CondNeed.{CondNeed}
 use Rattle.supersede.specs.Giving.{needs_where}
-use Rattle.listings.specs.Indices.{AreIndicesOf}
+use Rattle.verdicts.specs.Indices.{AreIndicesOf}
 use Rattle.listings.proofs.member_rows.put_needs.Goals as goal
 
 pub returns : goal.returns

@@ -1,6 +1,6 @@
 use Rattle.std.proofs.Common.{◌≡◌, ◌∙◌, ℕ, List, [], arith, sym, subst}
 use Rattle.lemmas.proofs.ListFacts.{get_any}
-use Rattle.listings.specs.Cuts.{id_at}
+use Rattle.verdicts.specs.Indices.{id_at}
 use Rattle.listings.specs.Places.{AreLesser}
 use Rattle.listings.proofs.PlaceFacts.{lesser_later, places_more}
 use Rattle.listings.proofs.places.places.Goals as goal

@@ -1,6 +1,6 @@
 use Rattle.std.proofs.Common.{List, ℕ, map, subst}
 use Rattle.catalogue.proofs.TellingFacts.{told_by_two}
-use Rattle.listings.specs.Indices.{AreThere}
+use Rattle.listings.specs.SeenIndices.{AreThere}
 use Rattle.listings.specs.MemberRows.{AreRowsOf, AreRowsWithin}
 use Rattle.listings.specs.Sights.{sight_of}
 use Rattle.listings.proofs.MemberRowFacts.{survey_made}

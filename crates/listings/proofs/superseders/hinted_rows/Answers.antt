@@ -1,6 +1,6 @@
 use Rattle.std.proofs.Common.{◌≡◌, ◌∙◌, ◌++◌, ◌∷◌, [], List, ℕ, ap, rules, subst, true}
 use Rattle.listings.specs.Superseders.{AreIndicesOfAll, superseded_at}
-use Rattle.listings.proofs.IndexFacts.{rows_more}
+use Rattle.verdicts.proofs.IndexFacts.{rows_more}
 use Rattle.listings.proofs.SupersederFacts.{superseded_here}
 use Rattle.listings.proofs.superseders.hinted_rows.Goals as goal
 

@@ -1,4 +1,4 @@
-use Rattle.listings.specs.Indices.{RowsAre}
+use Rattle.verdicts.specs.Indices.{RowsAre}
 use Rattle.listings.specs.Superseders.{AreIndicesOfAll, superseded_at}
 use Rattle.listings.proofs.superseders.hinted_rows.Given as goal
 

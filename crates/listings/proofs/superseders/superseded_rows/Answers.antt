@@ -1,7 +1,7 @@
 use Rattle.std.proofs.Common.{◌≡◌, ◌∙◌, ◌++◌, ◌∷◌, [], List, ℕ, length, ap, arith, subst}
-use Rattle.listings.specs.Indices.{AreIndicesOf, RowsAre}
+use Rattle.verdicts.specs.Indices.{AreIndicesOf, RowsAre}
 use Rattle.listings.specs.Superseders.{superseded_at}
-use Rattle.listings.proofs.IndexFacts.{rows_more}
+use Rattle.verdicts.proofs.IndexFacts.{rows_more}
 use Rattle.listings.proofs.SupersederFacts.{superseded_here}
 use Rattle.listings.proofs.superseders.superseded_rows.Goals as goal
 

@@ -1,4 +1,4 @@
-use Rattle.listings.specs.Indices.{AreIndicesOf, RowsAre}
+use Rattle.verdicts.specs.Indices.{AreIndicesOf, RowsAre}
 use Rattle.listings.specs.Superseders.{superseded_at}
 use Rattle.listings.proofs.superseders.superseded_rows.Given as goal
 

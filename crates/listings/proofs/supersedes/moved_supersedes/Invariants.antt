@@ -1,5 +1,5 @@
 use Rattle.std.proofs.Common.{ℕ, List, length, map}
-use Rattle.listings.specs.Indices.{IsSupSeen}
+use Rattle.listings.specs.SeenIndices.{IsSupSeen}
 use Rattle.listings.specs.Places.{ArePlaces}
 use Rattle.listings.specs.Sights.{Sight}
 use Rattle.listings.specs.Superseders.{AreSuperseders}

@@ -1,7 +1,6 @@
 use Rattle.std.proofs.Common.{◌≡◌}
 use Rattle.zone_lists.specs.Installed.{is_installed}
-use Rattle.listings.specs.Cuts.{id_at}
-use Rattle.listings.specs.Indices.{MarksAre}
+use Rattle.verdicts.specs.Indices.{id_at, MarksAre}
 use Rattle.listings.proofs.zone_nodes.installed_marks.Given as goal
 
 abbrev pub invariant-loop-member : goal.invariant-loop-member

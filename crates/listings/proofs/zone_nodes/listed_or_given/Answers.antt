@@ -1,5 +1,5 @@
 use Rattle.requisites.specs.Sources.{HasSource}
-use Rattle.listings.proofs.IndexFacts.{there_more}
+use Rattle.listings.proofs.SeenFacts.{there_more}
 use Rattle.listings.proofs.zone_nodes.listed_or_given.Goals as goal
 
 pub loop-index-preserved : goal.loop-index-preserved

@@ -1,5 +1,6 @@
 use Rattle.requisites.specs.Sources.{HasSource}
-use Rattle.listings.specs.Indices.{IsThereAt, MarksAre}
+use Rattle.verdicts.specs.Indices.{MarksAre}
+use Rattle.listings.specs.SeenIndices.{IsThereAt}
 use Rattle.listings.proofs.zone_nodes.listed_or_given.Given as goal
 
 abbrev pub invariant-loop-index : goal.invariant-loop-index

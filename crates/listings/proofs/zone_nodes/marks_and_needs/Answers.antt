@@ -3,10 +3,11 @@ use Rattle.std.specs.List.{Contains}
 use Rattle.catalogue.specs.declared.conditional.CondNeed.{CondNeed}
 use Rattle.supersede.specs.Giving.{needs_where}
 use Rattle.requisites.specs.Nodes.{row}
-use Rattle.listings.specs.Cuts.{id_at}
-use Rattle.listings.specs.Indices.{AreIndicesOf, AreSeen, RowsAre}
+use Rattle.verdicts.specs.Indices.{id_at, AreIndicesOf, RowsAre}
+use Rattle.listings.specs.SeenIndices.{AreSeen}
 use Rattle.listings.specs.Sights.{Sight}
-use Rattle.listings.proofs.IndexFacts.{length-push, rows_more, seen_more}
+use Rattle.verdicts.proofs.IndexFacts.{length-push, rows_more}
+use Rattle.listings.proofs.SeenFacts.{seen_more}
 use Rattle.listings.proofs.zone_nodes.marks_and_needs.Goals as goal
 
 pub loop-index-preserved : goal.loop-index-preserved

@@ -1,6 +1,7 @@
 use Rattle.std.proofs.Common.{◌≡◌, ◌<◌, ℕ, List, length, map}
 use Rattle.std.specs.List.{Contains}
-use Rattle.listings.specs.Indices.{AreSeen, RowsAre}
+use Rattle.verdicts.specs.Indices.{RowsAre}
+use Rattle.listings.specs.SeenIndices.{AreSeen}
 use Rattle.listings.specs.Places.{ArePlaces}
 use Rattle.listings.specs.Sights.{Sight}
 use Rattle.listings.proofs.zone_nodes.marks_and_needs.Given as goal

@@ -1,8 +1,9 @@
 use Rattle.std.proofs.Common.{Bool, List, Option, length, subst, ℕ}
 use Rattle.lemmas.proofs.ResultFacts.{ok_so}
 use Rattle.requisites.specs.Sources.{AreLeastSources, HasSource}
-use Rattle.listings.specs.Indices.{IsThereAt, MarksAre}
-use Rattle.listings.proofs.IndexFacts.{there_from}
+use Rattle.verdicts.specs.Indices.{MarksAre}
+use Rattle.listings.specs.SeenIndices.{IsThereAt}
+use Rattle.listings.proofs.SeenFacts.{there_from}
 use Rattle.listings.proofs.zone_nodes.there_marks.Goals as goal
 
 pub returns : goal.returns

@@ -1,7 +1,7 @@
 use Rattle.std.proofs.Common.{◌∙◌, List, ap}
 use Rattle.lemmas.proofs.ResultFacts.{ok_so}
-use Rattle.plan_members.specs.Members.{MemberLists}
-use Rattle.plan_reports.specs.Form.{written_as}
+use Rattle.plan_reports.specs.Members.{MemberLists}
+use Rattle.plan_reports.specs.Replies.{written_as}
 use Rattle.plan_reports.proofs.told.told_as.Goals as goal
 
 pub returns : goal.returns

@@ -14,6 +14,6 @@ pub returns-in-Err-read_files : goal.returns-in-Err-read_files
 returns-in-Err-read_files g c =
     let outputs : Outputs =
     outputs_of g.O.Write.contents g.E.Write.contents c.args.output.now c.args.output.now c.args.errors.now c.refuse-in-Err-read_files.new.errors in
-    not_read (g.S.Files.known_file c.args.surroundings.now) c.args.report c.args.files.now (g.I.Read.remaining c.args.input.now) (g.I.Read.remaining c.read_files.new.input)
+    not_read (g.S.Files.known_file c.args.surroundings.now) c.args.question c.args.files.now (g.I.Read.remaining c.args.input.now) (g.I.Read.remaining c.read_files.new.input)
     outputs c.refuse-in-Err-read_files.result c.in-Err-read_files.fault c.in-Err-read_files.ensures.fault (Keeps-refl outputs.output)
     c.refuse-in-Err-read_files.ensures.told c.refuse-in-Err-read_files.ensures.status

@@ -1,7 +1,7 @@
 use Rattle.std.proofs.Common.{◌∙◌, ap}
 use Rattle.serde_json.specs.Written.{compact_text, has_float}
 use Rattle.catalogue.proofs.SourceFacts.{told_so}
-use Rattle.chains.specs.Judge.{judged_by}
+use Rattle.verdicts.specs.Judge.{judged_by}
 use Rattle.reports.proofs.ChainFacts.{chain_plain}
 use Rattle.reports.proofs.chain.plan_json.Goals as goal
 

@@ -2,7 +2,7 @@ use Rattle.std.proofs.Common.{◌≡◌, ◌∙◌, true, ap, sym}
 use Rattle.lemmas.proofs.ResultFacts.{ok_so, some_is}
 use Rattle.supersede.specs.Giving.{is_there}
 use Rattle.supersede.specs.Reach.{has}
-use Rattle.chains.specs.Candidates.{candidates_unless_there}
+use Rattle.verdicts.specs.Candidates.{candidates_unless_there}
 use Rattle.reports.specs.MissingFound.{unless_resolver_there}
 use Rattle.reports.specs.Resolvers.{candidates_for}
 use Rattle.reports.proofs.MissingFacts.{with_resolver}

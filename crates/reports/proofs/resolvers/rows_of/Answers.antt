@@ -2,7 +2,7 @@ use Rattle.std.proofs.Common.{◌∙◌, ap, filter_map, map, option_map, sym}
 use Rattle.catalogue.specs.Ids.{in_order}
 use Rattle.catalogue.proofs.SourceFacts.{told_both}
 use Rattle.catalogue.proofs.TellingFacts.{told_by_two}
-use Rattle.chains.specs.Candidates.{candidates_unless_there}
+use Rattle.verdicts.specs.Candidates.{candidates_unless_there}
 use Rattle.reports.specs.Resolvers.{row_by, status_in}
 use Rattle.reports.proofs.ResolverFacts.{answers_read}
 use Rattle.reports.proofs.resolvers.rows_of.Goals as goal

@@ -1,5 +1,5 @@
 use Rattle.std.proofs.Common.{◌≡◌, ℕ, List, map}
-use Rattle.chains.specs.declared.verdict.Status.{Status}
+use Rattle.verdicts.specs.declared.verdict.Status.{Status}
 use Rattle.reports.specs.Resolvers.{row_by}
 use Rattle.reports.proofs.ResolverFacts.{AllAsked}
 use Rattle.reports.proofs.resolvers.rows_told.Given as goal

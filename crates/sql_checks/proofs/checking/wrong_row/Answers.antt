@@ -1,6 +1,6 @@
 use Rattle.std.proofs.Common.{◌≡◌, None, rules, subst}
 use Rattle.sqlite.specs.Held.{state}
-use Rattle.sql_state.specs.Ours.{held_by}
+use Rattle.sql_tables.specs.Ours.{held_by}
 use Rattle.sql_checks.specs.Checked.{IsRowSeen, WrongIn}
 use Rattle.sql_checks.specs.declared.checking.Finding.TheVariants.{Whole}
 use Rattle.sql_checks.proofs.ScanFacts.{look_so}

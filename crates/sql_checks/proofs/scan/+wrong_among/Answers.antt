@@ -1,7 +1,7 @@
 use Rattle.std.proofs.Common.{◌≡◌, ◌∷◌, rules}
 use Rattle.std.proofs.lemmas.Result.{IfErr-weaker}
 use Rattle.sqlite.specs.Held.{state}
-use Rattle.sql_state.specs.Ours.{held_by}
+use Rattle.sql_tables.specs.Ours.{held_by}
 use Rattle.sql_checks.specs.Checked.{WrongIn}
 use Rattle.sql_checks.specs.Refused.{AreUnseen, IsUnshown, of_rows}
 use Rattle.sql_checks.proofs.CauseFacts.{caused_after, caused_so}

@@ -2,7 +2,7 @@ use Rattle.std.proofs.Common.{◌≡◌}
 use Rattle.std.specs.Prelude.{map}
 use Rattle.sqlite.specs.Held.{state}
 use Rattle.catalogue.specs.Seen.{seen_in}
-use Rattle.sql_state.proofs.StopFacts.{read_on}
+use Rattle.sql_tables.proofs.StopFacts.{read_on}
 use Rattle.sql_tables.specs.Stored.{tables_of}
 use Rattle.sql_reads.proofs.TableFacts.{finds_made, finds_pair, refused_on}
 use Rattle.sql_reads.proofs.many.seen.Goals as goal

@@ -4,7 +4,7 @@ use Rattle.sqlite.specs.Values.{bound_value}
 use Rattle.sqlite_value.specs.Value.{owned}
 use Rattle.sqlite_value.specs.declared.value.Value.TheVariants.{Text}
 use Rattle.mcs_reader.specs.Id.{text_of}
-use Rattle.sql_state.specs.Ours.{held_by}
+use Rattle.sql_tables.specs.Ours.{held_by}
 use Rattle.sql_reads.specs.Scans.{HaveEach, KeysRise, scan_of}
 use Rattle.sql_reads.proofs.ScanFacts.{scan_has}
 use Rattle.sql_reads.proofs.TableFacts.{finds_of_two}

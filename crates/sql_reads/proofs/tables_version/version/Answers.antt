@@ -1,7 +1,7 @@
 use Rattle.std.proofs.Common.{◌≡◌, ◌⊎◌, [], Err, IfErr, rules, subst, sym}
 use Rattle.sqlite.specs.Held.{state}
 use Rattle.sqlite.specs.State.{HasCleanDisk}
-use Rattle.sql_state.specs.Reading.{HasFailed}
+use Rattle.sql_tables.specs.Reading.{HasFailed}
 use Rattle.sql_reads.specs.Version.{MeansNothing, Withholds}
 use Rattle.sql_reads.specs.declared.fault.ReadFault.TheVariants.{Device}
 use Rattle.sql_reads.proofs.VersionFacts.{our_version, version_before, version_told}

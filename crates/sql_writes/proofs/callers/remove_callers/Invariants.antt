@@ -1,7 +1,7 @@
 use Rattle.std.proofs.Common.{◌≡◌, [], Ok, take}
 use Rattle.sqlite.specs.Held.{state}
 use Rattle.sqlite.specs.declared.error.Error.{Error}
-use Rattle.sql_state.specs.Writing.{Changes}
+use Rattle.sql_tables.specs.Writing.{Changes}
 use Rattle.std.specs.Prelude.{fold}
 use Rattle.sql_tables.specs.Changes.{without_caller}
 use Rattle.sql_tables.specs.Stored.{caller_table}

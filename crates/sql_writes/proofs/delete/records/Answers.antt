@@ -5,7 +5,7 @@ use Rattle.catalogue.specs.declared.change.Change.TheVariants.{Whole}
 use Rattle.sqlite.specs.Held.{state}
 use Rattle.sqlite.specs.declared.error.Error.{Error}
 use Rattle.sql_tables.specs.Stored.{Stored}
-use Rattle.sql_state.specs.Writing.{Changes}
+use Rattle.sql_tables.specs.Writing.{Changes}
 use Rattle.sql_writes.specs.Records.{record_gone}
 use Rattle.sql_rows.proofs.ChangeFacts.{alike}
 use Rattle.sql_rows.proofs.TurnFacts.{begun, more}

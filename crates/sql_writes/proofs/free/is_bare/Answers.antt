@@ -1,9 +1,9 @@
 use Rattle.std.proofs.Common.{◌≡◌, [], subst, sym, ◌∙◌}
 use Rattle.std.proofs.lemmas.Bool.{not-true}
 use Rattle.sqlite.specs.Effect.{Database}
-use Rattle.sql_state.specs.Ours.{held_by}
-use Rattle.sql_state.specs.Writing.{IsKnown}
-use Rattle.sql_state.proofs.StopFacts.{was_clean}
+use Rattle.sql_tables.specs.Ours.{held_by}
+use Rattle.sql_tables.specs.Writing.{IsKnown}
+use Rattle.sql_tables.proofs.StopFacts.{was_clean}
 use Rattle.sql_writes.proofs.AskFacts.{asks_stopped, asks_then, asks_told}
 use Rattle.sql_writes.proofs.free.is_bare.Goals as goal
 

@@ -4,7 +4,7 @@ use Rattle.sqlite.specs.Held.{state}
 use Rattle.sqlite.specs.declared.error.Error.{Error}
 use Rattle.sql_tables.specs.Changes.{coming}
 use Rattle.sql_tables.specs.Stored.{of_table}
-use Rattle.sql_state.specs.Writing.{Changes}
+use Rattle.sql_tables.specs.Writing.{Changes}
 use Rattle.sql_writes.specs.Excused.{Takes}
 use Rattle.sql_writes.proofs.TakeFacts.{takes_alone}
 use Rattle.sql_writes.proofs.insert.joined.Goals as goal

@@ -5,7 +5,7 @@ use Rattle.catalogue.specs.declared.change.Change.{Change}
 use Rattle.sqlite.specs.Held.{state}
 use Rattle.sqlite.specs.declared.error.Error.{Error}
 use Rattle.sql_tables.specs.Fit.{IsFitChange}
-use Rattle.sql_state.specs.Writing.{Changes}
+use Rattle.sql_tables.specs.Writing.{Changes}
 use Rattle.sql_writes.specs.Excused.{Takes}
 use Rattle.sql_writes.specs.Records.{AreNewMembers, AreNewRecords, record_rows, values_of, with_members, with_sysmods}
 use Rattle.sql_writes.specs.Room.{is_short_change}

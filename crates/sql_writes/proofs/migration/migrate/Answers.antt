@@ -1,7 +1,7 @@
 use Rattle.std.proofs.Common.{◌≡◌, []}
 use Rattle.sqlite.specs.Held.{state}
-use Rattle.sql_state.specs.Earlier.{IsOfVersion1, held_by_version_1}
-use Rattle.sql_state.specs.Ours.{version_rows}
+use Rattle.sql_tables.specs.Earlier.{IsOfVersion1, held_by_version_1}
+use Rattle.sql_tables.specs.Ours.{version_rows}
 use Rattle.sql_writes.specs.Migrating.{HeldEarlier, HoldsAll, IsWithoutVersion}
 use Rattle.sql_writes.proofs.ExcuseFacts.{excused_then, version_excused}
 use Rattle.sql_writes.proofs.MakeFacts.{leads_nowhere, leads_then}

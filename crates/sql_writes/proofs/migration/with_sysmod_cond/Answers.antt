@@ -1,7 +1,7 @@
 use Rattle.std.proofs.Common.{◌≡◌, refl, true}
 use Rattle.sqlite_schema.specs.Names.{same_name}
 use Rattle.sql_texts.specs.Schema.{bureau, bureau_1, sysmod_cond}
-use Rattle.sql_state.specs.Earlier.{IsOfVersion1}
+use Rattle.sql_tables.specs.Earlier.{IsOfVersion1}
 use Rattle.sql_writes.proofs.DefineFacts.{is_new, tested_new}
 use Rattle.sql_writes.proofs.ExcuseFacts.{table_excused}
 use Rattle.sql_writes.proofs.MigrateFacts.{table_added}

@@ -3,7 +3,7 @@ use Rattle.std.specs.Prelude.{fold, sum_by}
 use Rattle.std.proofs.lemmas.List.{length-drop, take_all}
 use Rattle.sql_tables.specs.Changes.{published}
 use Rattle.sql_tables.specs.Fit.{IsFitChange}
-use Rattle.sql_state.proofs.StopFacts.{was_clean}
+use Rattle.sql_tables.proofs.StopFacts.{was_clean}
 use Rattle.sql_writes.specs.Records.{FreeIf, IsTogether}
 use Rattle.sql_writes.specs.Room.{is_short_change, rows_of_change}
 use Rattle.sql_writes.proofs.AlikeFacts.{folded_longer, part, part_all, part_as, part_passes, summed_fewer, summed_longer}

@@ -7,7 +7,7 @@ use Rattle.catalogue.specs.declared.change.Change.TheVariants.{OfHold}
 use Rattle.holddata.specs.declared.hold.HoldChange.TheVariants.{Put}
 use Rattle.sqlite.specs.Held.{state}
 use Rattle.sqlite.specs.declared.error.Error.{Error}
-use Rattle.sql_state.specs.Writing.{Changes}
+use Rattle.sql_tables.specs.Writing.{Changes}
 use Rattle.sql_tables.specs.Fit.{IsCond, IsFitChange}
 use Rattle.sql_writes.specs.Excused.{Takes}
 use Rattle.sql_writes.specs.Records.{rest_count, rest_put}

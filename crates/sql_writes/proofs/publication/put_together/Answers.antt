@@ -8,7 +8,7 @@ use Rattle.sqlite.specs.Held.{state}
 use Rattle.sqlite.specs.declared.error.Error.{Error}
 use Rattle.sql_tables.specs.Changes.{published}
 use Rattle.sql_tables.specs.Fit.{IsFitChange}
-use Rattle.sql_state.specs.Writing.{Changes}
+use Rattle.sql_tables.specs.Writing.{Changes}
 use Rattle.sql_writes.specs.Records.{FreeIf, rest_count, rest_put}
 use Rattle.sql_writes.specs.Room.{is_short_change, rows_of_change}
 use Rattle.sql_writes.proofs.TakeFacts.{takes_as, takes_more}

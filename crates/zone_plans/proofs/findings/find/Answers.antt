@@ -3,7 +3,7 @@ use Rattle.std.specs.Global.{Vec}
 use Rattle.mcs_reader.specs.declared.id.Id.{Id}
 use Rattle.catalogue.proofs.SourceFacts.{told_both, told_later, told_sooner}
 use Rattle.catalogue.proofs.TellingFacts.{told_by_two}
-use Rattle.chains.specs.Candidates.{candidates_unless_there}
+use Rattle.verdicts.specs.Candidates.{candidates_unless_there}
 use Rattle.zone_plans.specs.Findings.{known_givers}
 use Rattle.zone_plans.specs.Graphs.{lists_of}
 use Rattle.zone_plans.specs.Readings.{all_needs, reading_of}

@@ -1,8 +1,8 @@
 use Rattle.std.proofs.Common.{◌≡◌, ◌∙◌, ◌++◌, ◌∷◌, [], List, ℕ, length, sym, subst, arith}
 use Rattle.std.specs.Global.{Vec}
 use Rattle.mcs_reader.specs.declared.id.Id.{Id}
-use Rattle.chains.specs.Indices.{AreIndicesOf, RowsAre}
-use Rattle.chains.proofs.IndexFacts.{rows_more}
+use Rattle.verdicts.specs.Indices.{AreIndicesOf, RowsAre}
+use Rattle.verdicts.proofs.IndexFacts.{rows_more}
 use Rattle.zone_plans.specs.Graphs.{list_at, lists_of}
 use Rattle.zone_plans.proofs.GraphFacts.{list_of_item}
 use Rattle.zone_plans.proofs.graph.member_rows.Goals as goal

@@ -1,4 +1,4 @@
-use Rattle.chains.specs.Indices.{AreIndicesOf, RowsAre}
+use Rattle.verdicts.specs.Indices.{AreIndicesOf, RowsAre}
 use Rattle.zone_plans.specs.Graphs.{list_at, lists_of}
 use Rattle.zone_plans.proofs.graph.member_rows.Given as goal
 

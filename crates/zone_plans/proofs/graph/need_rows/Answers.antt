@@ -1,6 +1,6 @@
 use Rattle.std.proofs.Common.{◌≡◌, ◌∙◌, ◌++◌, ◌∷◌, [], List, ℕ, length, sym, subst, arith}
-use Rattle.chains.specs.Indices.{RowsAre}
-use Rattle.chains.proofs.IndexFacts.{rows_more, rows_none}
+use Rattle.verdicts.specs.Indices.{RowsAre}
+use Rattle.verdicts.proofs.IndexFacts.{rows_more, rows_none}
 use Rattle.std.specs.List.{Contains}
 use Rattle.zone_plans.specs.Graphs.{AreGivenIndices, needs_at}
 use Rattle.zone_plans.specs.Readings.{ReadingLists}

@@ -1,5 +1,5 @@
 use Rattle.std.proofs.Common.{◌≡◌, ℕ, List, Option, map, option_map}
-use Rattle.chains.specs.Indices.{RowsAre}
+use Rattle.verdicts.specs.Indices.{RowsAre}
 use Rattle.zone_plans.specs.Graphs.{AreGivenIndices, needs_at}
 use Rattle.zone_plans.specs.Readings.{all_needs}
 use Rattle.zone_plans.proofs.graph.need_rows.Given as goal

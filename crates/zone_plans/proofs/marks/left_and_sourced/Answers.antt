@@ -1,4 +1,4 @@
-use Rattle.chains.proofs.IndexFacts.{marks_more}
+use Rattle.verdicts.proofs.IndexFacts.{marks_more}
 use Rattle.zone_plans.specs.Graphs.{IsStart}
 use Rattle.zone_plans.proofs.GraphFacts.{IsMarkOf, mark_by, starts_end}
 use Rattle.std.proofs.Common.{arith}

@@ -1,4 +1,4 @@
-use Rattle.chains.specs.Indices.{MarksAre}
+use Rattle.verdicts.specs.Indices.{MarksAre}
 use Rattle.zone_plans.proofs.GraphFacts.{IsMarkOf}
 use Rattle.zone_plans.specs.Graphs.{IsStart}
 use Rattle.zone_plans.proofs.marks.left_and_sourced.Given as goal

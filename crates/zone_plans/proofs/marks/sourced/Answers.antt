@@ -1,4 +1,4 @@
-use Rattle.chains.proofs.IndexFacts.{marks_more}
+use Rattle.verdicts.proofs.IndexFacts.{marks_more}
 use Rattle.requisites.specs.Sources.{HasSource}
 use Rattle.zone_plans.proofs.GraphFacts.{IsMarkOf, mark_of_test, sourced_end}
 use Rattle.std.proofs.Common.{arith}

@@ -1,4 +1,4 @@
-use Rattle.chains.specs.Indices.{MarksAre}
+use Rattle.verdicts.specs.Indices.{MarksAre}
 use Rattle.zone_plans.proofs.GraphFacts.{IsMarkOf}
 use Rattle.requisites.specs.Sources.{HasSource}
 use Rattle.zone_plans.proofs.marks.sourced.Given as goal

@@ -1,5 +1,5 @@
 use Rattle.std.proofs.Common.{◌∙◌, ◌++◌, ◌∷◌, [], Option, List, ℕ, ap}
-use Rattle.chains.specs.declared.verdict.Status.TheVariants as status
+use Rattle.verdicts.specs.declared.verdict.Status.TheVariants as status
 use Rattle.zone_plans.specs.Choices.{choice}
 use Rattle.zone_plans.specs.Plans.{fate_by}
 use Rattle.zone_plans.specs.declared.placing.Placed.{Placed}

@@ -3,10 +3,10 @@ use Rattle.std.specs.List.{Contains}
 use Rattle.catalogue.proofs.SourceFacts.{no_fault, told_both}
 use Rattle.catalogue.proofs.TellingFacts.{told_by_two}
 use Rattle.catalogue.specs.declared.fault.SourceFault.TheVariants.{Device}
-use Rattle.chains.specs.Judge.{status_of}
-use Rattle.chains.specs.United.{united}
-use Rattle.chains.specs.Verdicts.{verdict_of}
-use Rattle.chains.specs.declared.verdict.Status.TheVariants as status
+use Rattle.verdicts.specs.Judge.{status_of}
+use Rattle.verdicts.specs.United.{united}
+use Rattle.verdicts.specs.Verdicts.{verdict_of}
+use Rattle.verdicts.specs.declared.verdict.Status.TheVariants as status
 use Rattle.zone_plans.specs.Findings.{findings_of}
 use Rattle.zone_plans.specs.Plans as Plans
 use Rattle.zone_plans.proofs.PlanFacts.{plan_found, refused_later}

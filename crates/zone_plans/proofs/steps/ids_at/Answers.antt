@@ -1,4 +1,4 @@
-use Rattle.chains.proofs.IndexFacts.{ids_more, listed_index}
+use Rattle.verdicts.proofs.IndexFacts.{ids_more, listed_index}
 use Rattle.zone_plans.proofs.steps.ids_at.Goals as goal
 
 pub id_at-requires : goal.id_at-requires

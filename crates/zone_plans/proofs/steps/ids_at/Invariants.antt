@@ -1,5 +1,5 @@
 use Rattle.std.proofs.Common.{◌≡◌, map, take}
-use Rattle.chains.specs.Cuts.{id_at}
+use Rattle.verdicts.specs.Indices.{id_at}
 use Rattle.zone_plans.proofs.steps.ids_at.Given as goal
 
 abbrev pub invariant-loop-index : goal.invariant-loop-index

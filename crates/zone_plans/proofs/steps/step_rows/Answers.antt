@@ -5,8 +5,8 @@ use Rattle.std.specs.Global.{Vec}
 use Rattle.std.proofs.lemmas.List.{length-map}
 use Rattle.lemmas.proofs.ResultFacts.{ok_both, ok_so}
 use Rattle.mcs_reader.specs.declared.id.Id.{Id}
-use Rattle.chains.specs.Indices.{AreIndicesOf, RowsAre}
-use Rattle.chains.specs.Candidates.{candidates_unless_there}
+use Rattle.verdicts.specs.Indices.{AreIndicesOf, RowsAre}
+use Rattle.verdicts.specs.Candidates.{candidates_unless_there}
 use Rattle.install_order.specs.Left.{is_outdone}
 use Rattle.install_order.specs.Steps.{AreInOrder, AreSteps, IsClosed}
 use Rattle.zone_plans.specs.Graphs.{AreGiven, AreReachedFrom, AreStartsOf, list_at, lists_of}

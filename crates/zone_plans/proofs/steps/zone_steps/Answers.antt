@@ -2,8 +2,8 @@ use Rattle.std.proofs.Common.{◌≡◌, ◌∙◌, List, ℕ, map, option_map, 
 use Rattle.std.specs.Global.{Vec}
 use Rattle.mcs_reader.specs.declared.id.Id.{Id}
 use Rattle.catalogue.specs.Ids.{Ascend}
-use Rattle.chains.specs.Candidates.{candidates_unless_there}
-use Rattle.chains.specs.United.{united}
+use Rattle.verdicts.specs.Candidates.{candidates_unless_there}
+use Rattle.verdicts.specs.United.{united}
 use Rattle.zone_plans.specs.Findings.{FindingLists, known_givers}
 use Rattle.zone_plans.specs.Graphs.{AreWithin, ids_of_steps, lists_of}
 use Rattle.zone_plans.specs.Members.{AreZoneSteps}

@@ -1,8 +1,8 @@
 use Rattle.std.proofs.Common.{◌∙◌, ◌+◌, ap}
 use Rattle.catalogue.proofs.SourceFacts.{no_fault, told_both, told_later, told_so, told_sooner}
-use Rattle.chains.specs.Judge.{status_of}
-use Rattle.chains.specs.Verdicts.{verdict_of}
-use Rattle.chains.proofs.IndexFacts.{made_more}
+use Rattle.verdicts.specs.Judge.{status_of}
+use Rattle.verdicts.specs.Verdicts.{verdict_of}
+use Rattle.verdicts.proofs.IndexFacts.{made_more}
 use Rattle.chain_cache.proofs.EntryFacts.{first_inside}
 use Rattle.chain_cache.proofs.FillFacts.{filled_on}
 use Rattle.chain_cache.proofs.cache.ChainCache.statuses_by_frames.Goals as goal

@@ -1,8 +1,8 @@
 use Rattle.std.proofs.Common.{◌≡◌, map, take}
 use Rattle.catalogue.specs.View.{Tells}
 use Rattle.catalogue.proofs.TellingFacts.{HasTold}
-use Rattle.chains.specs.Judge.{status_of}
-use Rattle.chains.specs.Verdicts.{verdict_of}
+use Rattle.verdicts.specs.Judge.{status_of}
+use Rattle.verdicts.specs.Verdicts.{verdict_of}
 use Rattle.chain_cache.specs.Cache.{AreFilled, IsRightFor}
 use Rattle.chain_cache.proofs.cache.ChainCache.statuses_by_frames.Given as goal
 

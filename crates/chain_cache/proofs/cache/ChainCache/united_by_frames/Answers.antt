@@ -1,6 +1,6 @@
 use Rattle.std.proofs.Common.{◌+◌, ap}
 use Rattle.catalogue.proofs.SourceFacts.{no_fault, told_both, told_later, told_so, told_sooner}
-use Rattle.chains.specs.United.{plan_by}
+use Rattle.verdicts.specs.United.{plan_by}
 use Rattle.chain_cache.proofs.EntryFacts.{first_inside}
 use Rattle.chain_cache.proofs.FillFacts.{filled_on}
 use Rattle.chain_cache.proofs.UnitedFacts.{united_on}

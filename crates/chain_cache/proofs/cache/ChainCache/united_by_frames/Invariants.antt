@@ -1,7 +1,7 @@
 use Rattle.std.proofs.Common.{◌≡◌, take}
 use Rattle.catalogue.specs.View.{Tells}
 use Rattle.catalogue.proofs.TellingFacts.{HasTold}
-use Rattle.chains.specs.United.{united}
+use Rattle.verdicts.specs.United.{united}
 use Rattle.chain_cache.specs.Cache.{AreFilled, IsRightFor}
 use Rattle.chain_cache.proofs.cache.ChainCache.united_by_frames.Given as goal
 

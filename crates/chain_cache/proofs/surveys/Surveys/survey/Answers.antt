@@ -1,7 +1,7 @@
 use Rattle.std.proofs.Common.{◌∙◌, List, ℕ, ap, subst, sym}
 use Rattle.lemmas.proofs.ResultFacts.{ok_so, some_is}
-use Rattle.chains.specs.Marks.{IsListingBut}
-use Rattle.chains.proofs.MarkFacts.{listing_is}
+use Rattle.listings.specs.Marks.{IsListingBut}
+use Rattle.listings.proofs.MarkFacts.{listing_is}
 use Rattle.chain_cache.specs.Cache.{AreSurveys, SurveyedLists}
 use Rattle.chain_cache.proofs.surveys.Surveys.survey.Goals as goal
 

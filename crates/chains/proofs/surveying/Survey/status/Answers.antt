@@ -1,7 +1,7 @@
 use Rattle.std.proofs.Common.{◌∙◌, List, ap, subst, sym, ℕ}
 use Rattle.std.specs.List.{Contains}
 use Rattle.requisites.specs.Nodes.{mark_of}
-use Rattle.listings.specs.Indices.{IsAt}
+use Rattle.verdicts.specs.Indices.{IsAt}
 use Rattle.chains.specs.Surveys.{IsSurvey, SurveyLists, status_by}
 use Rattle.chains.proofs.NodeVerdictFacts.{lack_outside, status_here}
 use Rattle.chains.proofs.surveying.Survey.status.Goals as goal

@@ -1,8 +1,8 @@
 use Rattle.std.proofs.Common.{◌∙◌, ap, map}
 use Rattle.std.proofs.lemmas.List.{take_all}
-use Rattle.chains.specs.Judge.{status_of}
-use Rattle.chains.specs.Verdicts.{verdict_of}
-use Rattle.listings.proofs.IndexFacts.{made_more}
+use Rattle.verdicts.specs.Judge.{status_of}
+use Rattle.verdicts.specs.Verdicts.{verdict_of}
+use Rattle.verdicts.proofs.IndexFacts.{made_more}
 use Rattle.chains.proofs.surveying.Survey.statuses.Goals as goal
 
 pub loop-id-preserved : goal.loop-id-preserved

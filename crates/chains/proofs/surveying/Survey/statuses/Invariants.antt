@@ -1,9 +1,9 @@
 use Rattle.std.proofs.Common.{◌≡◌, List, map, take}
 use Rattle.zone_lists.specs.declared.zones.ZoneRow.{ZoneRow}
 use Rattle.catalogue.specs.Content.{Content}
-use Rattle.chains.specs.Judge.{status_of}
+use Rattle.verdicts.specs.Judge.{status_of}
 use Rattle.chains.specs.Surveys.{IsSurvey}
-use Rattle.chains.specs.Verdicts.{verdict_of}
+use Rattle.verdicts.specs.Verdicts.{verdict_of}
 use Rattle.chains.proofs.surveying.Survey.statuses.Given as goal
 
 abbrev pub invariant-loop-id : goal.invariant-loop-id

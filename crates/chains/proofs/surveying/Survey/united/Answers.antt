@@ -2,8 +2,7 @@ use Rattle.std.proofs.Common.{◌∙◌, ◌<◌, List, ap, length, map, subst, 
 use Rattle.std.specs.List.{Contains}
 use Rattle.lemmas.proofs.ResultFacts.{ok_so}
 use Rattle.catalogue.specs.Ids.{Ascend}
-use Rattle.listings.specs.Cuts.{id_at}
-use Rattle.listings.specs.Indices.{AreIndicesOf}
+use Rattle.verdicts.specs.Indices.{id_at, AreIndicesOf}
 use Rattle.chains.specs.Surveys.{IsSurvey, SurveyLists}
 use Rattle.chains.proofs.UnitedFacts.{plans_ascend, plans_within, united_here}
 use Rattle.chains.proofs.surveying.Survey.united.Goals as goal

@@ -1,7 +1,7 @@
 use Rattle.std.proofs.Common.{◌∙◌, List, ap, refl, subst, sym, ℕ}
 use Rattle.std.specs.List.{Contains}
 use Rattle.lemmas.proofs.ResultFacts.{ok_so}
-use Rattle.listings.specs.Indices.{IsAt}
+use Rattle.verdicts.specs.Indices.{IsAt}
 use Rattle.chains.specs.NodeVerdicts.{IsWithin, verdict_at}
 use Rattle.chains.specs.Surveys.{IsSurvey, SurveyLists}
 use Rattle.chains.proofs.NodeVerdictFacts.{verdict_here, verdict_outside, verdict_within}

@@ -1,7 +1,7 @@
 use Rattle.std.proofs.Common.{◌∙◌, ◌++◌, ◌∷◌, [], List, ℕ, ap, map}
-use Rattle.listings.specs.Indices.{AreIndicesOf, list_at}
+use Rattle.verdicts.specs.Indices.{AreIndicesOf, list_at}
 use Rattle.listings.proofs.LinkFacts.{indexed_here}
-use Rattle.listings.proofs.IndexFacts.{rows_more}
+use Rattle.verdicts.proofs.IndexFacts.{rows_more}
 use Rattle.listings.proofs.links.Links.of.Goals as goal
 
 pub loop-index-preserved : goal.loop-index-preserved

@@ -1,5 +1,5 @@
 use Rattle.std.proofs.Common.{map}
-use Rattle.listings.specs.Indices.{AreIndicesOf, RowsAre, list_at}
+use Rattle.verdicts.specs.Indices.{AreIndicesOf, RowsAre, list_at}
 use Rattle.listings.proofs.links.Links.of.Given as goal
 
 abbrev pub invariant-loop-index : goal.invariant-loop-index

@@ -2,7 +2,7 @@ use Rattle.std.proofs.Common.{◌∙◌, List, ℕ, ap, subst, sym}
 use Rattle.std.specs.List.{Contains, list_any}
 use Rattle.zone_lists.specs.Installed.{is_installed}
 use Rattle.supersede.specs.Giving.{fmids_of}
-use Rattle.listings.specs.Indices.{IsAt}
+use Rattle.verdicts.specs.Indices.{IsAt}
 use Rattle.listings.specs.Sights.{IsListing, ListingLists}
 use Rattle.listings.proofs.SupersederFacts.{candidate_listed, candidate_unlisted}
 use Rattle.listings.proofs.listing.Listing.is_candidate.Goals as goal

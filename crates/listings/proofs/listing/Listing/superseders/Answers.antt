@@ -1,6 +1,6 @@
 use Rattle.std.proofs.Common.{◌∙◌, length, map, ap, arith, subst, sym}
 use Rattle.catalogue.specs.Ids.{in_order}
-use Rattle.listings.specs.Cuts.{id_at}
+use Rattle.verdicts.specs.Indices.{id_at}
 use Rattle.listings.specs.Sights.{IsListing, ListingLists}
 use Rattle.listings.proofs.SupersederFacts.{superseders_listed}
 use Rattle.listings.proofs.listing.Listing.superseders.Goals as goal

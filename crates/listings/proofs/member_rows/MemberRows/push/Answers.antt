@@ -1,5 +1,5 @@
 use Rattle.std.proofs.Common.{◌∙◌, ◌++◌, ◌∷◌, [], List, ℕ, ap, subst}
-use Rattle.listings.specs.Indices.{AreIndicesOf}
+use Rattle.verdicts.specs.Indices.{AreIndicesOf}
 use Rattle.listings.proofs.MemberRowFacts.{row_pushed}
 use Rattle.listings.proofs.member_rows.MemberRows.push.Goals as goal
 

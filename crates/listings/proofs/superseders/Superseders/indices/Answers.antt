@@ -1,6 +1,6 @@
 use Rattle.std.proofs.Common.{List, ℕ, refl, subst}
 use Rattle.std.specs.List.{Contains}
-use Rattle.listings.specs.Indices.{IsAt}
+use Rattle.verdicts.specs.Indices.{IsAt}
 use Rattle.listings.proofs.SupersederFacts.{turned_at, turned_nowhere}
 use Rattle.listings.proofs.superseders.Superseders.indices.Goals as goal
 

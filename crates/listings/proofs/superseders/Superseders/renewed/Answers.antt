@@ -1,6 +1,6 @@
 use Rattle.std.proofs.Common.{List, Option, ℕ, IfSome, length, subst}
 use Rattle.lemmas.proofs.ResultFacts.{ok_so}
-use Rattle.listings.specs.Indices.{RowsAre}
+use Rattle.verdicts.specs.Indices.{RowsAre}
 use Rattle.listings.specs.Superseders.{AreIndicesOfAll, superseded_at}
 use Rattle.listings.proofs.SupersederFacts.{all_below, have_all}
 use Rattle.listings.proofs.superseders.Superseders.renewed.Goals as goal

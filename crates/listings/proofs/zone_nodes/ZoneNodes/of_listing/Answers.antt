@@ -3,7 +3,7 @@ use Rattle.std.specs.List.{Contains}
 use Rattle.requisites.specs.Nodes.{world}
 use Rattle.listings.specs.Cuts.{IsCut}
 use Rattle.listings.specs.Sights.{sight_of}
-use Rattle.listings.specs.ZoneNodes.{world_of}
+use Rattle.verdicts.specs.Worlds.{world_of}
 use Rattle.listings.proofs.MadeCutFacts.{cut_of}
 use Rattle.listings.proofs.SupFacts.{superseded_as}
 use Rattle.listings.proofs.zone_nodes.ZoneNodes.of_listing.Goals as goal

@@ -1,7 +1,7 @@
 use Rattle.std.proofs.Common.{◌∙◌, refl}
 use Rattle.lemmas.proofs.ResultFacts.{ok_so}
 use Rattle.catalogue.proofs.IdFacts.{itself}
-use Rattle.chains.specs.Candidates.{candidates_unless_there}
+use Rattle.verdicts.specs.Candidates.{candidates_unless_there}
 use Rattle.reports.proofs.errors.ErrorHeldReportedErrorFound.answer.Goals as goal
 
 pub returns : goal.returns

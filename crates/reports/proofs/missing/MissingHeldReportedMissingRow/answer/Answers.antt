@@ -1,7 +1,7 @@
 use Rattle.std.proofs.Common.{◌∙◌, ap, option_map, refl}
 use Rattle.lemmas.proofs.ResultFacts.{ok_so}
 use Rattle.catalogue.proofs.IdFacts.{itself}
-use Rattle.chains.specs.Candidates.{candidates_unless_there}
+use Rattle.verdicts.specs.Candidates.{candidates_unless_there}
 use Rattle.reports.specs.MissingFound.{both_of}
 use Rattle.reports.specs.Resolvers.{unless_there}
 use Rattle.reports.proofs.MissingFacts.{resolver_among}

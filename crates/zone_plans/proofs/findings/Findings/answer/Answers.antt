@@ -2,7 +2,7 @@ use Rattle.std.proofs.Common.{◌∙◌, map, option_map, sym, ap, subst}
 use Rattle.std.specs.Global.{Vec}
 use Rattle.mcs_reader.specs.declared.id.Id.{Id}
 use Rattle.catalogue.specs.Ids.{Ascend}
-use Rattle.chains.specs.Candidates.{candidates_unless_there}
+use Rattle.verdicts.specs.Candidates.{candidates_unless_there}
 use Rattle.zone_plans.specs.Findings.{FindingLists}
 use Rattle.zone_plans.proofs.FindingFacts.{looked_up}
 use Rattle.zone_plans.proofs.findings.Findings.answer.Goals as goal

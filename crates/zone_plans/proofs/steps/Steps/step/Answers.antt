@@ -1,9 +1,8 @@
 use Rattle.std.proofs.Common.{◌∙◌, ◌<◌, [], List, ℕ, get_or, length, map, sym, ap, subst, arith}
 use Rattle.std.specs.List.{Contains}
-use Rattle.std.proofs.lemmas.List.{length-map}
+use Rattle.std.proofs.lemmas.List.{length-map, get_or-map}
 use Rattle.lemmas.proofs.ResultFacts.{ok_so}
-use Rattle.chains.specs.Cuts.{id_at}
-use Rattle.chains.proofs.PartFacts.{at_map}
+use Rattle.verdicts.specs.Indices.{id_at}
 use Rattle.zone_plans.proofs.steps.Steps.step.Goals as goal
 
 pub ids_at-requires : goal.ids_at-requires
@@ -28,5 +27,5 @@ returns c =
     is
     ∙ ap (λ (l : List (List ℕ)). map (id_at l) c.row.result.now) c.deref.ensures.value
     ∙ ap (map (id_at ids)) c.row.ensures
-    ∙ sym (at_map (λ (s : List ℕ). map (id_at ids) s) rows c.args.index [] [] (omega (arith, below, len)))
+    ∙ sym (get_or-map (λ (s : List ℕ). map (id_at ids) s) rows c.args.index [] [] (omega (arith, below, len)))
     ∙ ap (λ (l : List (List (List ℕ))). get_or l c.args.index []) c.self.view_is)

@@ -1,5 +1,0 @@
-use Rattle.chains.proofs.GoodFacts.{good_both_ways}
-use Rattle.chains.proofs.law.good_is_planned.Goals as goal
-
-pub returns : goal.returns
-returns c = λ content rows id. good_both_ways content rows id

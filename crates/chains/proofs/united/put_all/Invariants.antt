@@ -1,6 +1,0 @@
-use Rattle.std.proofs.Common.{◌≡◌, take}
-use Rattle.catalogue.specs.Ids.{put_among}
-use Rattle.chains.proofs.united.put_all.Given as goal
-
-abbrev pub invariant-loop-id : goal.invariant-loop-id
-invariant-loop-id l = l.found.keys ≡ put_among l.fn.found.keys (take l.id-index l.ids)

@@ -1,3 +1,0 @@
-pub mod PlaceFacts
-pub mod StepFacts
-pub mod FoundFacts

@@ -1,0 +1,9 @@
+use Rattle.std.proofs.Common.{◌≡◌, Some, take}
+use Rattle.std.specs.List.{flat_map}
+use Rattle.std.specs.Prelude.{codes}
+use Rattle.columns.specs.Table.{table_with}
+use Rattle.plan_reports.specs.Tables.{heed_columns, heeds_of}
+use Rattle.plan_reports.proofs.member_tables.heed_table.Given as goal
+
+abbrev pub invariant-loop-member : goal.invariant-loop-member
+invariant-loop-member l = l.table ≡ table_with heed_columns (Some (codes "HOLDS TO HEED")) (flat_map heeds_of (take l.member-index l.members))

@@ -1,0 +1,12 @@
+use Rattle.std.proofs.Common.{◌≡◌, List, length}
+use Rattle.zone_lists.specs.declared.zones.ZoneRow.{ZoneRow}
+use Rattle.catalogue.specs.Content.{Content}
+use Rattle.zone_plans.specs.Findings.{AreFoundOf}
+use Rattle.plan_reports.specs.Found.{ArePlaces, is_needed_at, places_of}
+use Rattle.plan_reports.proofs.placing.put_members.Given as goal
+
+abbrev pub invariant-loop-place : goal.invariant-loop-place
+invariant-loop-place l = record {
+  placed : (content : Content) (zone : List ZoneRow) → AreFoundOf content zone l.findings l.ids → ArePlaces (is_needed_at content zone l.ids) l.ids l.place (places_of l.rows);
+  len : length l.rows ≡ length l.initial.rows;
+}

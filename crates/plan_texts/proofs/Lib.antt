@@ -1,2 +1,0 @@
-pub mod JsonFacts
-pub mod TableFacts

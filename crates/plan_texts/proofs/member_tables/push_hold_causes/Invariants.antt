@@ -1,7 +1,0 @@
-use Rattle.std.proofs.Common.{map, take}
-use Rattle.plan_texts.specs.Adding.{AddsRows}
-use Rattle.plan_texts.specs.Tables.{hold_cause}
-use Rattle.plan_texts.proofs.member_tables.push_hold_causes.Given as goal
-
-abbrev pub invariant-loop-hold : goal.invariant-loop-hold
-invariant-loop-hold l = AddsRows (map (hold_cause l.id) (take l.hold-index l.holds)) l.fn.table l.table

@@ -1,4 +1,0 @@
-pub mod OursFacts
-pub mod ReadFacts
-pub mod StopFacts
-pub mod TextFacts

@@ -1,0 +1,18 @@
+-- What a judge answers, and for which contents what it keeps stays right.
+use Rattle.verdicts.specs.Verdicts.{Judged, good, held, lack}
+use Rattle.verdicts.specs.declared.verdict.Status.{Status}
+use Rattle.verdicts.specs.declared.verdict.Verdict.{Verdict}
+use Rattle.verdicts.specs.declared.verdict.Verdict.TheVariants as verdict
+use Rattle.verdicts.specs.declared.verdict.Status.TheVariants as status
+
+-- a verdict as the list, the id, or neither, that it holds
+abbrev pub judged_by : Verdict → Judged
+judged_by (verdict.Good plan) = good plan.items
+judged_by (verdict.Held need) = held need
+judged_by verdict.Lack = lack
+
+-- which of the three verdicts it is
+abbrev pub status_of : Judged → Status
+status_of (good plan) = status.Good
+status_of (held need) = status.Held
+status_of lack = status.Lack

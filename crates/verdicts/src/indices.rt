@@ -1,0 +1,114 @@
+//! Ids by their indices in a list that ascends.
+ghost use Rattle.std.specs.Prelude.{◌≡◌, ◌<◌, ℕ, List, Contains, IfNone, IfOk, IfSome, OnOk, length, map, true};
+ghost use Rattle.catalogue.specs.Ids.{Ascend, in_order};
+ghost use Rattle.verdicts.specs.Indices as Indices;
+ghost use Rattle.verdicts.specs.Indices.{AreIndicesOf, IsAt};
+
+use catalogue::Ids;
+use mcs_reader::{Id, NoMemory};
+use std::alloc::Global;
+use supersede::index_among;
+
+/// Puts ids in ascending order, each once. Those that ascend already are not sorted again.
+///
+/// # Errors
+///
+/// `NoMemory` where memory ran out.
+pub fn sort_each_once(ids: &mut Vec<Id>) -> Result<(), NoMemory>
+    ensures in_order { OnOk result (ids.new.items ≡ in_order ids.old.items) }
+    ensures ascend { OnOk result (Ascend ids.new.items) }
+    ensures keeps { (id : List ℕ) → Contains ids.old.items id → Contains ids.new.items id }
+{
+    ids.sort()?;
+    ids.dedup();
+    Ok(())
+}
+
+/// Whether ids ascend, each once.
+pub fn do_ascend(ids: &[Id]) -> bool
+    ensures { result ≡ true → Ascend ids.now }
+{
+    ids.is_sorted_by(|id, next| id.cmp(next).is_lt())
+}
+
+/// Where an id stands, if it stands there.
+pub fn index_of(members: &[Id], id: &Id) -> Option<usize>
+    requires { Ascend members.now }
+    ensures some { IfSome result (λ index. IsAt members.now id.now index) }
+    ensures none { IfNone result (Contains members.now id.now → ⊥) }
+{
+    index_among(members, id)
+}
+
+/// The same, for one who knows where it may stand: there it is looked for first.
+pub fn index_near(members: &[Id], first: usize, id: &Id) -> Option<usize>
+    requires { Ascend members.now }
+    ensures some { IfSome result (λ index. IsAt members.now id.now index) }
+    ensures none { IfNone result (Contains members.now id.now → ⊥) }
+{
+    if first < members.len() && members[first] == *id {
+        return Some(first);
+    }
+    index_of(members, id)
+}
+
+/// Makes a list that of the indices of the ids that stand somewhere. The first is looked for at an index first, and
+/// each other one after the one before: what is listed together often stands together.
+///
+/// # Errors
+///
+/// `NoMemory` where memory ran out.
+pub fn put_indices(
+    indices: &mut Vec<usize>,
+    members: &[Id],
+    first: usize,
+    ids: &[Id],
+) -> Result<(), NoMemory>
+    requires { Ascend members.now }
+    ensures { OnOk result (AreIndicesOf members.now ids.now indices.new.items) }
+{
+    indices.clear();
+    let mut next = first;
+    for id in ids {
+        if let Some(index) = index_near(members, next, id) {
+            indices.push(index)?;
+            next = index + 1;
+        }
+    }
+    Ok(())
+}
+
+/// The ids that stand at indices.
+///
+/// # Errors
+///
+/// `NoMemory` where memory ran out.
+pub fn ids_at(alloc: Global, members: &[Id], indices: &[usize]) -> Result<Vec<Id>, NoMemory>
+    requires { (q : ℕ) → Contains indices.now q → q < length members.now }
+    ensures { IfOk result (λ ids. ids.items ≡ map (Indices.id_at members.now) indices.now) }
+{
+    let mut ids = Vec::with_capacity(alloc, indices.len())?;
+    for index in indices {
+        ids.push(id_at(members, *index))?;
+    }
+    Ok(ids)
+}
+
+/// The id that stands at an index.
+pub fn id_at(members: &[Id], index: usize) -> Id
+    requires { index < length members.now }
+    ensures { result ≡ Indices.id_at members.now index }
+{
+    members[index]
+}
+
+/// Ids that ascend, each once, as a list of such. It takes no memory.
+pub fn ascending(ids: Vec<Id>) -> Ids
+    requires { Ascend ids.items }
+    ensures { result ≡ ids.items }
+{
+    match Ids::from_ascending(ids) {
+        Some(ids) => ids,
+        None => unreachable!(),
+    }
+}
