@@ -265,7 +265,7 @@ fn listen<S: Surroundings>(
     alloc: Global,
     service: Service,
 ) -> Result<(), AnyFault>
-    ensures port { S.known_port surroundings.old service.port service.most_open service.log }
+    ensures port { OnOk result (S.known_port surroundings.old service.port service.most_open service.log) }
     ensures none { S.log surroundings.new ≡ S.log surroundings.old }
     ensures fault { IfErr result IsNotListening }
 {

@@ -1,6 +1,6 @@
 //! What surrounds a run: the words of its command line, files by their names, ports and the connections to them,
 //! and random keys.
-ghost use Rattle.std.specs.Prelude.{◌≡◌, ℕ, Bool, List, Option, None, map, string_bytes, IfOk, IfErr, IfSome};
+ghost use Rattle.std.specs.Prelude.{◌≡◌, ℕ, Bool, List, Option, None, map, string_bytes, IfOk, IfErr, IfSome, OnOk};
 ghost use Rattle.faults.specs.Refusal.{IsRefusal};
 
 use command_line::LineFault;
@@ -19,8 +19,8 @@ pub trait Surroundings: Stores + Rounds {
     /// The words after the program's name, where they are known.
     ghost known_words: { Self → Option (List (List ℕ)) };
 
-    /// That this port was asked for, for so many connections at once, with a log or without. A body gives it from
-    /// `listen` alone.
+    /// That this port is listened on, for so many connections at once, with a log or without. A body gives it from a
+    /// `listen` that succeeded, and from nothing else.
     ghost known_port: { Self → ℕ → ℕ → Bool → Type 0 };
 
     /// The words after the program's name.
@@ -41,7 +41,7 @@ pub trait Surroundings: Stores + Rounds {
     ///
     /// The port is in use, or may not be listened on; or memory ran out.
     fn listen(&mut self, alloc: Global, port: u16, most_open: u32, log: bool) -> io::Result<()>
-        ensures named { known_port self.old port most_open log }
+        ensures named { OnOk result (known_port self.old port most_open log) }
         ensures none { Self.log self.new ≡ Self.log self.old };
 
     /// Random keys for a hasher, which no client can know.
