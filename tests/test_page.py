@@ -16,6 +16,7 @@ from chromium import Browser
 from drawn_desk import DrawnDesk, Zone
 from front import Front
 from page import NORTH, PUBLISHER, SOUTH, ZONES, check, click, enter, filter_by, go, is_wide, lines, no_faults, picture, said, same, shows
+from page_looks import CUT
 from service import SAMPLE, TOP, Client, Desk, exchange, finish, folder, without_time, write
 from stand_in import StandIn, until
 
@@ -246,6 +247,12 @@ def fixes_by_name(browser, front, publisher):
     same("what can be ordered before what nothing is known of", sorted(rows), sorted(wanted))
     same("which is the last", rows[-1], wanted[-1])
     picture(browser, "fixes-by-name")
+    for width in (320, 390, 721, 768, 1000, 1201, 1300, 1400):
+        browser.size(width)
+        same("no sideways scrolling at %d pixels" % width, (is_wide(browser), browser.run("(s => s.scrollWidth - s.clientWidth)(document.querySelector('.scroll'))")), (False, 0))
+        same("nothing is cut at %d pixels" % width, sorted(set(browser.run(CUT))), [])
+        picture(browser, "fixes-by-name-%d" % width)
+    browser.size(1400)
     filter_by(browser, "uj92013")
     same("a word finds it", [row[2] for row in lines(browser)], ["AJ71"])
     filter_by(browser, "")
@@ -356,6 +363,64 @@ def accepted_holds(browser, north):
     go(browser, "#MVSPROD/errors")
     browser.until("document.querySelector('tbody tr.first')")
     same("forgotten", browser.run("document.querySelectorAll('tr.accepted').length"), 0)
+
+
+def all_zones(browser, publisher, south):
+    """The tiles lead to one list over all zones, and a slash to the filter. A hold has its date, and can be looked for by its age."""
+    place = folder()
+    for zone in ("ONE", "TWO"):
+        south.run("zone", zone, write(place + "/z", "SYSMOD,STATE\nHBB77E0,APPLIED\nUJ92001,APPLIED\nUJ92004,APPLIED\n"))
+    click(browser, "#leave")
+    enter(browser, SOUTH)
+    go(browser, "#")
+    shows(browser, "3 zones", ".tile.status-none")
+    browser.until("document.querySelectorAll('.figures').length === 3")
+    click(browser, ".tile.of-all")
+    browser.until("document.querySelector('.all tbody tr.first')")
+    same("its address", browser.run("location.hash"), "#*/errors")
+    wanted = [
+        ["PE", "UJ92001", "AJ64001", "UJ92002", "GOOD", "2", "ONE TWO"], ["HIPER", "UJ92002", "AJ64002", "UJ92004", "HELD", "1", "MVSTEST"],
+        ["PE", "UJ92004", "AJ64003", "", "none", "2", "ONE TWO"],
+    ]
+    same("each hold once, with its zones", sorted(lines(browser)), sorted(wanted))
+    picture(browser, "all-zones")
+    for width in (320, 390, 768):
+        browser.size(width)
+        check("nothing is wider than %d pixels" % width, not is_wide(browser))
+        picture(browser, "all-zones-%d" % width)
+    browser.size(1400)
+    go(browser, "#")
+    click(browser, ".tile.status-none")
+    browser.until("document.querySelector('.all tbody tr.first')")
+    same("a tile leads to what it counts", (browser.run("location.hash"), [row[1] for row in lines(browser)]), ("#*/errors?status=none", ["UJ92004"]))
+    browser.run("document.activeElement.blur()")
+    browser.key("/", 191, "/")
+    same("a slash leads to the filter", browser.run("document.activeElement.ariaLabel"), "Show rows with these words")
+    browser.write("two")
+    same("which knows zones", [row[1] for row in lines(browser)], ["UJ92004"])
+    click(browser, "tbody tr.first")
+    browser.until("document.querySelector('.zone-view .tabs')")
+    same("a line leads to its zone", browser.run("location.hash.split('?')[0]"), "#ONE/errors")
+    go(browser, "#*/fixes")
+    shows(browser, "1 fix", ".count")
+    go(browser, "#ONE/errors")
+    dates = "[...document.querySelectorAll('tbody tr.first')].map(row => row.querySelector('.of-date').innerText)"
+    check("dates come", browser.until(dates + ".every(Boolean)"))
+    same("that of each hold", sorted(browser.run(dates)), ["2025-06-25", "2025-08-19"])
+    same("none is new", browser.run("document.querySelector('select[aria-label=Age]').offsetParent"), None)
+    today = time.strftime("%y%j", time.localtime(time.time() - 9 * 86400))
+    same("published", publisher.run("publish", write(place + "/p", "++HOLD(UJ92001) ERROR REASON(AJ91) DATE(%s).\n" % today))[0], 0)
+    click(browser, "#again")
+    go(browser, "#ONE/errors?age=30")
+    browser.until("document.querySelector('tbody tr.first')")
+    same("one is nine days old", [row[2] for row in lines(browser)], ["AJ91"])
+    options = browser.run("[...document.querySelector('select[aria-label=Age]').options].map(option => option.text)")
+    same("which is not older than these", options, ["Any age", "not older than 30 days (1)", "not older than 90 days (1)", "not older than a year (1)"])
+    go(browser, "#ONE/errors?fmid=HBB77E0")
+    same("or by the FMID of the hold", sorted(row[2] for row in lines(browser)), ["AJ64001", "AJ64003"])
+    publisher.run("publish", write(place + "/q", "++RELEASE(UJ92001) ERROR REASON(AJ91).\n"))
+    click(browser, "#leave")
+    enter(browser, NORTH)
 
 
 def refusals(browser, front):
@@ -526,6 +591,7 @@ def main():
     fixes_by_name(browser, front, publisher)
     news(browser, front, publisher)
     accepted_holds(browser, north)
+    all_zones(browser, publisher, south)
     refusals(browser, front)
     publisher.run(
         "publish",

@@ -1,5 +1,6 @@
-// The address of what is shown: #ZONE/TAB/SYSMOD?FILTERS. It can be reloaded, kept and sent.
+// The address of what is shown: #ZONE/TAB/SYSMOD?FILTERS, where ZONE is * for all zones as one list. It can be reloaded, kept and sent.
 
+export const ALL = '*'; // no zone has this name
 const TABS = ['errors', 'fixes', 'plan', 'new'];
 export const REPORT_OF = { errors: 'errsysmods', fixes: 'missingfix' };
 

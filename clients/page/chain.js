@@ -201,7 +201,8 @@ export class ChainPanel {
     const symptoms = this.symptomsOf(hold);
     const names = hold.class || hold.categories.length === 0 ? [classBadge(hold.class)] : [];
     return [
-      make('p', '', ...names, ' ', make('strong', 'id', hold.sysmod), ' is held for ', make('strong', 'id', hold.reason)),
+      make('p', '', ...names, ' ', make('strong', 'id', hold.sysmod), ' is held for ', make('strong', 'id', hold.reason),
+        ...(hold.held === 'SYSMOD' && hold.fmid ? [' ', make('span', 'soft id', hold.fmid)] : [])),
       ...hold.categories.map((name) => make('p', 'soft category', name)),
       ...(symptoms ? [make('p', 'soft symptoms', symptoms)] : []),
       ...(hold.accepted ? [make('p', 'soft', acceptedWords(hold.accepted))] : []),

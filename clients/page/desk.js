@@ -1,7 +1,7 @@
 // Questions to the desk, and what is kept of its answers. The desk stands one folder above this page.
 import { Accepted } from './accepted.js';
 import { HoldReport, countsOf } from './holds.js';
-import { NoReport, chainOf, levelOf, zonesOf } from './report.js';
+import { NoReport, chainOf, datesOf, levelOf, zonesOf } from './report.js';
 import { Memory } from './memory.js';
 import { changesOf, sumsOf } from './news.js';
 import { planOf } from './plan.js';
@@ -194,6 +194,11 @@ export class Snapshot {
   report(zone, name, isUrgent) {
     return this.kept(name + ' ' + zone, async () =>
       new HoldReport(name, zone, await this.ask(this.pathOf(zone, name), isUrgent)).accept(this.acceptedOf(zone)));
+  }
+
+  // The dates of the holds of a report. They come as JSON, which is larger, and so after the rest.
+  dates(zone, name) {
+    return this.kept('dates ' + name + ' ' + zone, async () => datesOf(await this.ask(this.pathOf(zone, name + '.json'), false), zone, name));
   }
 
   // The counts of a zone. They stay, also where its reports are not kept.

@@ -2,10 +2,12 @@
 import { button, make } from './make.js';
 import { counted } from './words.js';
 
+const wordOf = (kind) => kind.word ?? kind.title.toLowerCase();
 const MOST_CHIPS = 6; // a kind with more values has a list to choose from
 
 export class Filters {
-  // KINDS are {name, title, of(group) to a list of texts, order, isList, label(text)}. UNITS are what one group is called, and what
+  // KINDS are {name, title, of(group) to a list of texts, order, isList, label(text), word, least}: WORD is the title inside of a
+  // text, and LEAST how many values it has where it is offered. UNITS are what one group is called, and what
   // several are. CHANGE is called when something was chosen.
   constructor(kinds, units, change) {
     this.units = units;
@@ -33,7 +35,7 @@ export class Filters {
       const values = [...counts].sort(([one], [other]) => rank(one) - rank(other) || (one < other ? -1 : 1));
       const isList = kind.isList || values.length > MOST_CHIPS;
       kind.place.replaceChildren(...(isList ? [this.list(kind, values)] : this.chips(kind, values)));
-      kind.place.hidden = values.length < 2 && kind.chosen.size === 0;
+      kind.place.hidden = values.length < (kind.least ?? 2) && kind.chosen.size === 0;
       kind.place.setAttribute('role', 'group');
       kind.place.setAttribute('aria-label', kind.title);
     }
@@ -41,7 +43,7 @@ export class Filters {
 
   chips(kind, values) {
     return values.map(([value, count]) => {
-      const chip = button(value || 'no ' + kind.title.toLowerCase(), 'chip is-' + (value || 'no').toLowerCase(), () => {
+      const chip = button(value || 'no ' + wordOf(kind), 'chip is-' + (value || 'no').toLowerCase(), () => {
         if (!kind.chosen.delete(value)) kind.chosen.add(value);
         chip.setAttribute('aria-pressed', String(kind.chosen.has(value)));
         this.change();
@@ -55,11 +57,11 @@ export class Filters {
   list(kind, values) {
     const options = values.map(([value, count]) => {
       const words = kind.label?.(value) ?? value;
-      const option = make('option', '', (words || 'no ' + kind.title.toLowerCase()) + ' (' + counted(count) + ')');
+      const option = make('option', '', (words || 'no ' + wordOf(kind)) + ' (' + counted(count) + ')');
       option.value = '=' + value;
       return option;
     });
-    const all = make('option', '', 'Any ' + kind.title.toLowerCase());
+    const all = make('option', '', 'Any ' + wordOf(kind));
     all.value = '';
     const select = make('select', '', all, ...options);
     select.setAttribute('aria-label', kind.title);
@@ -99,7 +101,7 @@ export class Filters {
 
   // What is chosen, in words for a reader.
   get shown() {
-    const chosen = this.kinds.flatMap((kind) => [...kind.chosen].map((value) => value || 'no ' + kind.title.toLowerCase()));
+    const chosen = this.kinds.flatMap((kind) => [...kind.chosen].map((value) => value || 'no ' + wordOf(kind)));
     const text = this.search.value.trim();
     return [...chosen, ...(text ? ['“' + text + '”'] : [])].join(', ');
   }

@@ -50,6 +50,7 @@ class Hold {
     this.order = order;
     this.class = report.field(row, 'CLASS');
     this.classRank = classRankOf(this.class);
+    this.date = ''; // YYYY-MM-DD, once it is known
     this.accepted = null; // {until, why}, where a site has accepted it
     this.rank = rankOf(report, row); // that of its best resolver
   }

@@ -55,10 +55,18 @@ const COLUMNS = {
 
 const STATUS = { name: 'status', title: 'Status', of: (hold) => [hold.status], order: ['GOOD', 'HELD', 'LACK', 'none'] };
 const RECEIVED = { name: 'received', title: 'Received', of: (hold) => [hold.received], order: ['received'] };
+const FMID = { name: 'fmid', title: 'FMID', word: 'FMID', of: (hold) => [hold.fmid], isList: true };
+const DATE = text('date', 'Date', (hold) => hold.date);
+// Of a hold that is four days old all of these are true.
+const AGES = [['7', '7 days'], ['30', '30 days'], ['90', '90 days'], ['365', 'a year']];
+const AGE = {
+  name: 'age', title: 'Age', isList: true, least: 1, order: AGES.map(([days]) => days), label: (days) => 'not older than ' + Object.fromEntries(AGES)[days],
+  of: (hold) => (hold.date ? AGES.filter(([days]) => Date.now() - Date.parse(hold.date) <= days * 86400000).map(([days]) => days) : []),
+};
 const ACCEPTED = { name: 'accepted', title: 'Accepted', of: (hold) => [hold.accepted ? 'accepted' : 'open'], order: ['open', 'accepted'] };
 const KINDS = {
-  errsysmods: [{ name: 'class', title: 'Class', of: (hold) => [hold.class], order: ['HIPER', 'PE'] }, STATUS, RECEIVED, ACCEPTED],
-  missingfix: [{ name: 'category', title: 'Category', of: (hold) => hold.categories, isList: true }, STATUS, RECEIVED, ACCEPTED],
+  errsysmods: [{ name: 'class', title: 'Class', of: (hold) => [hold.class], order: ['HIPER', 'PE'] }, STATUS, RECEIVED, FMID, AGE, ACCEPTED],
+  missingfix: [{ name: 'category', title: 'Category', of: (hold) => hold.categories, isList: true }, STATUS, RECEIVED, AGE, ACCEPTED],
 };
 
 // What symptoms add to the columns, and to the filters.
@@ -109,7 +117,7 @@ export class HoldsView {
     this.filters.words = words;
     this.filters.offer(report.holds);
     this.table = new Table({
-      caption: this.title, columns: [...COLUMNS[name](symptoms), ...more.columns], order: byUrgency(symptoms), choose: ways.choose,
+      caption: this.title, columns: [...COLUMNS[name](symptoms), ...more.columns, DATE], order: byUrgency(symptoms), choose: ways.choose,
     });
     this.nothing = make('p', 'nothing', 'No ' + UNITS[name][0] + ' has all that is chosen above.');
     this.table.element.append(this.nothing);
@@ -128,6 +136,15 @@ export class HoldsView {
     const bar = make('div', 'bar', this.filters.element, saves);
     this.element = make('div', 'report ' + name + (symptoms ? ' with-symptoms' : ''), bar, this.table.element);
     this.show();
+  }
+
+  // The dates of holds come after the report, since the text of a report has none.
+  date(dates) {
+    if (dates.size === 0) return;
+    for (const hold of this.report.holds) hold.date = dates.get(hold.sysmod + ' ' + hold.reason) ?? '';
+    this.filters.offer(this.report.holds);
+    if (this.filters.words.includes('age=')) this.show();
+    else this.table.draw();
   }
 
   json([columns, ...rows]) {

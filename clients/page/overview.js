@@ -2,14 +2,17 @@
 import { lineOver, link, make } from './make.js';
 import { counted, several } from './words.js';
 import { sinceWords } from './news.js';
-import { addressOf } from './address.js';
+import { ALL, addressOf } from './address.js';
 
 const BARS = [['hiper', 'HIPER'], ['pe', 'PE'], ['other', 'other']];
 
-function tile(title, className) {
+// ADDRESS leads to one list over all zones.
+function tile(title, className, address) {
   const number = make('strong', 'tile-number', '–');
   const words = make('span', 'soft', '');
-  return { element: make('div', 'tile ' + className, make('span', 'tile-title', title), number, words), number, words };
+  const element = address ? link('', 'tile ' + className, address) : make('div', 'tile ' + className);
+  element.append(make('span', 'tile-title', title), number, words);
+  return { element, number, words };
 }
 
 // A bar of the three kinds of holds, as long as its share of the largest zone.
@@ -62,8 +65,10 @@ export class Overview {
     this.since = tile('New', 'since');
     this.since.element.hidden = true;
     this.tiles = {
-      hiper: tile('HIPER holds', 'class-hiper'), unresolved: tile('No resolver', 'status-none'),
-      holds: tile('Held in error', 'of-all'), fixes: tile('Fixes missing', 'of-all'),
+      hiper: tile('HIPER holds', 'class-hiper', addressOf({ zone: ALL, tab: 'errors', words: 'class=HIPER' })),
+      unresolved: tile('No resolver', 'status-none', addressOf({ zone: ALL, tab: 'errors', words: 'status=none' })),
+      holds: tile('Held in error', 'of-all', addressOf({ zone: ALL, tab: 'errors' })),
+      fixes: tile('Fixes missing', 'of-all', addressOf({ zone: ALL, tab: 'fixes' })),
     };
     this.zones = snapshot.zones.map((each, order) => ({
       ...each, order, counts: snapshot.counts.get(each.zone), fault: '', element: make('li', 'zone'),

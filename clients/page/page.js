@@ -1,7 +1,8 @@
 // The page: the token, the address, and what is shown for it. The token is kept in this tab alone.
 import { at, link, make } from './make.js';
 import { several, timeOf } from './words.js';
-import { REPORT_OF, addressOf, whereIs } from './address.js';
+import { ALL, REPORT_OF, addressOf, whereIs } from './address.js';
+import { AllView } from './allview.js';
 import { Refusal, Snapshot, wordsOf } from './desk.js';
 import { Overview } from './overview.js';
 import { ZoneView } from './zone.js';
@@ -85,7 +86,7 @@ async function begin(token) {
   try {
     // what the address names is asked for together with the zones, and shown as soon as both are there
     const { zone, tab } = whereIs(location.hash);
-    if (zone && tab in REPORT_OF) mine.report(zone, REPORT_OF[tab]).catch(() => {});
+    if (zone && zone !== ALL && tab in REPORT_OF) mine.report(zone, REPORT_OF[tab]).catch(() => {});
     await mine.begin();
     if (mine !== snapshot) return;
     sessionStorage.setItem(TOKEN, token);
@@ -107,13 +108,14 @@ async function begin(token) {
 async function show() {
   if (!snapshot?.zones) return;
   const where = whereIs(location.hash);
-  if (where.zone && !snapshot.zones.some((each) => each.zone === where.zone)) {
+  if (where.zone && where.zone !== ALL && !snapshot.zones.some((each) => each.zone === where.zone)) {
     view = null;
     at('main').replaceChildren(make('p', 'nothing', link('All zones', '', '#')));
     say('You have no zone ' + where.zone + ' on this desk.', true);
     return;
   }
   if (!where.zone) await showOverview();
+  else if (where.zone === ALL) await showAll(where);
   else await showZone(where);
 }
 
@@ -132,6 +134,39 @@ async function showOverview() {
   if (view !== mine) return;
   const failed = mine.zones.find((each) => each.fault);
   say(failed ? failed.fault : '', Boolean(failed));
+}
+
+// The reports of all zones as one list. A zone whose report did not come is named.
+async function showAll(where) {
+  const mine = snapshot;
+  const waits = {};
+  const name = REPORT_OF[where.tab] ?? 'errsysmods';
+  document.title = 'All zones – bureau';
+  view = waits;
+  at('main').replaceChildren(make('p', 'soft wait', 'Asking ..'));
+  const reports = [];
+  const failed = [];
+  await Promise.all(mine.zones.map(async ({ zone }) => {
+    try {
+      reports.push([zone, await mine.report(zone, name)]);
+    } catch (fault) {
+      failed.push(zone + ': ' + faultOf(fault));
+    }
+  }));
+  if (view !== waits) return;
+  const order = (each) => mine.zones.findIndex(({ zone }) => zone === each[0]);
+  reports.sort((one, other) => order(one) - order(other));
+  view = new AllView(name, reports, where.words, name === 'errsysmods' ? mine.symptoms : null, {
+    choose: (hold) => WAYS.go({ zone: hold.zones[0], tab: where.tab, sysmod: hold.best.id || undefined, words: 'text=' + hold.reason }),
+    changed: (words) => WAYS.replace({ ...where, words }),
+    say,
+  });
+  const other = where.tab === 'fixes' ? 'errors' : 'fixes';
+  const head = make('div', 'zone-title', link('Zones', 'back', '#', 'All zones'), make('h1', '', where.tab === 'fixes' ? 'Fixes of all zones' : 'Errors of all zones'),
+    link(other === 'fixes' ? 'Fixes' : 'Errors', '', addressOf({ zone: ALL, tab: other })));
+  at('main').replaceChildren(make('div', 'zone-view', head, make('div', 'tab-body', view.element)));
+  view.table.draw(0);
+  say(failed.join(' '), failed.length > 0);
 }
 
 async function showZone(where) {
@@ -159,6 +194,14 @@ at('leave').addEventListener('click', () => {
   forget('The token is forgotten.');
 });
 at('again').addEventListener('click', () => begin(snapshot.token));
+// A slash leads to the filter of what is shown, unless something is being written.
+document.addEventListener('keydown', (event) => {
+  const field = document.querySelector('.filters input');
+  if (event.key !== '/' || event.ctrlKey || event.metaKey || event.altKey || !field || event.target.closest('input, select, textarea')) return;
+  event.preventDefault();
+  field.focus();
+  field.select();
+});
 window.addEventListener('hashchange', show);
 window.addEventListener('beforeprint', () => view?.whole?.(true));
 window.addEventListener('afterprint', () => view?.whole?.(false));

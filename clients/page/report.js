@@ -93,6 +93,13 @@ export function chainOf(text, zone, sysmod) {
   return chain;
 }
 
+// The dates of the holds of a report, from its JSON, by SYSMOD and reason.
+export function datesOf(text, zone, name) {
+  const report = json(text);
+  if (report?.zone !== zone || report.report !== name || !Array.isArray(report.rows)) throw new NoReport();
+  return new Map(report.rows.filter(({ date }) => typeof date === 'string').map(({ sysmod, reason, date }) => [sysmod + ' ' + reason, date]));
+}
+
 export function json(text) {
   try {
     return JSON.parse(text);

@@ -127,7 +127,6 @@ export class Table {
 
   space(height) {
     const cell = make('td');
-    cell.colSpan = this.columns.length;
     const row = make('tr', 'space', cell);
     row.style.height = height + 'px';
     row.hidden = height === 0;

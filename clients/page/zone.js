@@ -162,8 +162,15 @@ export class ZoneView {
         read: (text) => this.readSymptoms(text),
         accept: (text) => this.readAccepted(text),
       });
+      this.dating = this.date(this.view, name);
       return [this.view.element];
     });
+  }
+
+  async date(view, name) {
+    await painted();
+    const dates = await this.snapshot.dates(this.zone, name).catch(() => new Map());
+    if (this.view === view) view.date(dates);
   }
 
   // The symptoms of a file are there for all zones, until the token is forgotten.
