@@ -189,6 +189,30 @@ def jobs():
     same("nothing is to be done", (status, err), (0, "bureau-client: nothing is to be installed: the plan has no member\n"))
 
 
+def forms():
+    """A job with a card, an order, classes to bypass, RETRY, and without CHECK: each only where it is asked for."""
+    stand = of("errsysmods", "plan.json", NEEDS_TWO)
+    plain = without_time(stand.north.run("job", "TGT1")[1])
+    run = lambda *words: without_time(stand.north.run("job", "TGT1", *words)[1])
+    card = "//BUREAU   JOB (ACCT),'SMP/E',CLASS=A,MSGCLASS=H\n//SMPE     EXEC PGM=GIMSMP,\n//         PARM='CSI=SMPE.GLOBAL.CSI'\n//SMPCNTL  DD *\n"
+    same("a card and a step", run("--jcl", "SMPE.GLOBAL.CSI"), card + plain + "/*\n")
+    same("RETRY", run("--retry"), plain.replace("UA10005\n    )\n /*", "UA10005\n    )\n RETRY(YES)\n /*"))
+    same("without CHECK", run("--apply"), plain.replace("APPLY CHECK", "APPLY"))
+    job = run("--holdclass", "ERREL,HIPER")
+    check("classes", " BYPASS(HOLDCLASS(\n    ERREL,HIPER\n    ))\n /* OR, IN ITS PLACE: */\n" in job and job.count("HOLDCLASS(") == 2 and "ACTION,DOC" in job, job)
+    order = run("--order")
+    statements = [line for line in order.splitlines() if not line.startswith(" /*")]
+    wanted = [
+        " RECEIVE SYSMODS HOLDDATA ORDER(", "    CONTENT(PTFS(", "    UA10008,UA10009", "    ))", "    ORDERSERVER(ORDSRVR) CLIENT(CLIENT)", "    ).",
+    ]
+    check("an order", "\n".join(wanted) in "\n".join(statements), order)
+    whole = run("--order", "--retry", "--apply", "--holdclass", ",".join("ERREL%02d" % n for n in range(12)), "--jcl", "A" * 8 + ".B" * 18)
+    same("in columns 1 to 71", [line for line in whole.splitlines() if len(line) > 71], [])
+    for words in (("--jcl", "smpe.csi"), ("--jcl", "A" * 9), ("--jcl", "A'B"), ("--holdclass", "erel"), ("--holdclass", "A,,B"), ("--holdclass", "A)")):
+        status, out, _ = stand.north.run("job", "TGT1", *words)
+        same("no such words: %s" % (words,), (status, out), (2, ""))
+
+
 def jobs_that_are_none():
     """What is no plan makes no job."""
     whole = json.loads(NEEDS_TWO)
@@ -272,6 +296,6 @@ def jobs_of_many():
         same("as the page makes it", page_job(plan, title), out)
 
 
-for part in (words_that_are_wrong, plans, no_plans, why_empty, jobs, jobs_that_are_none, jobs_of_many):
+for part in (words_that_are_wrong, plans, no_plans, why_empty, jobs, forms, jobs_that_are_none, jobs_of_many):
     part()
 finish("client's plans" + (", " + PYTHON if PYTHON else ""))

@@ -45,11 +45,12 @@ def with_fixes(table, known):
     return [title, heading.ljust(18) + "FIX", *(row.ljust(18) + known.order(*row.split()[:2]) for row in rows)]
 
 
-def job(desk, zone, *sysmods, fixes=False):
+def job(desk, zone, *sysmods, fixes=False, **wanted):
+    form = Form(**wanted)
     if sysmods:
-        job_of_chains(desk, zone, list(dict.fromkeys(sysmods)))
+        job_of_chains(desk, zone, list(dict.fromkeys(sysmods)), form)
     else:
-        job_of_plan(desk, zone, report_for(fixes))
+        job_of_plan(desk, zone, report_for(fixes), form)
 
 
 def report_for(fixes):
@@ -102,13 +103,46 @@ def about(member):
     return lines
 
 
-def bypass(members):
+class Form:
+    """How a job is written. JCL is the data set of the CSI, for a job card and a step; ORDER asks IBM for what is not received; HOLDCLASS are
+    classes of holds to bypass; RETRY tries again out of space; and APPLY leaves CHECK out."""
+
+    def __init__(self, jcl="", order=False, holdclass="", retry=False, apply=False):
+        self.jcl, self.is_ordered, self.is_applied, self.retry = jcl, order, apply, [" RETRY(YES)"] if retry else []
+        self.classes = holdclass.split(",") if holdclass else []
+        if jcl and (len(jcl) > 44 or not re.fullmatch(r"[A-Z@#$][A-Z0-9@#$-]{0,7}(\.[A-Z@#$][A-Z0-9@#$-]{0,7})*", jcl)):
+            raise Stop(2, f"'{jcl}' is no name of a data set, as SMPE.GLOBAL.CSI")
+        if not all(map(ID.fullmatch, self.classes)):
+            raise Stop(2, f"--holdclass takes classes with commas between them, as ERREL,HIPER, and not '{holdclass}'")
+
+    def receive(self, ids):
+        if not self.is_ordered:
+            return [" RECEIVE SYSMODS SELECT(", *list_of(ids), "    )."]
+        note = comment("ORDSRVR and CLIENT are the names of two DD statements: those of the order server and of its client")
+        return [*note, " RECEIVE SYSMODS HOLDDATA ORDER(", "    CONTENT(PTFS(", *list_of(ids), "    ))", "    ORDERSERVER(ORDSRVR) CLIENT(CLIENT)", "    )."]
+
+    def bypass(self, members):
+        """The BYPASS of the classes, and commented out that of SYSTEM and USER holds, which has the classes too: there may be one alone."""
+        one = [" BYPASS(HOLDCLASS(", *list_of(self.classes), "    ))"] if self.classes else []
+        other = bypass(members, self.classes)
+        return [*one, *(comment("or, in its place:") if one and other else []), *other]
+
+    def whole(self, text):
+        """A job card and a step around the statements, where they are wanted. No statement begins in column 1, so none ends the data."""
+        if not self.jcl:
+            return text
+        card = ["//BUREAU   JOB (ACCT),'SMP/E',CLASS=A,MSGCLASS=H", "//SMPE     EXEC PGM=GIMSMP,", f"//         PARM='CSI={self.jcl}'", "//SMPCNTL  DD *"]
+        return "\n".join(card) + "\n" + text + "/*\n"
+
+
+def bypass(members, classes=()):
     """What SYSTEM and USER holds need, commented out: whoever has done what they ask takes the comment marks away. It is one
     operand with all reasons, as SMP/E's manuals write it."""
     reasons = {kind: sorted({reason for member in members for reason in member[kind]}) for kind in ("system", "user")}
     lists = [("HOLD" + kind.upper(), found) for kind, found in reasons.items() if found]
     if not lists:
         return []
+    lists = [*([("HOLDCLASS", list(classes))] if classes else []), *lists]
     lines = ["BYPASS(%s)" % ",".join(f"{name}({','.join(found)})" for name, found in lists)]
     if len(lines[0]) > COLUMNS - 7:
         parts = ["\n".join([name + "(", *(line.strip() for line in list_of(found)), ")"]) for name, found in lists]
@@ -116,18 +150,18 @@ def bypass(members):
     return [f" /* {line} */" for line in lines]
 
 
-def job_of(zone, members, left_over, title):
+def job_of(zone, members, left_over, title, form):
     """The job that installs the members. LEFT_OVER says what it can't install, a sentence each."""
     notes = [title, "made by bureau, and not tried on a real z/OS. Read it before you run it.", *left_over]
     notes += [] if members else ["nothing can be installed"]
     lines = [line for note in notes for line in comment(note)]
     if to_receive := [member["id"] for member in members if not member["received"]]:
-        lines += ["", " SET BOUNDARY(GLOBAL).", " RECEIVE SYSMODS SELECT(", *list_of(to_receive), "    )."]
+        lines += ["", " SET BOUNDARY(GLOBAL).", *form.receive(to_receive)]
     if members:
         lines += ["", *(line for member in members for line in about(member)), "", f" SET BOUNDARY({zone})."]
         ids = [member["id"] for member in members]
-        lines += [" APPLY CHECK SELECT(", *list_of(ids), "    )", *bypass(members), " ."]
-    return "\n".join(lines) + "\n"
+        lines += [" APPLY SELECT(" if form.is_applied else " APPLY CHECK SELECT(", *list_of(ids), "    )", *form.retry, *form.bypass(members), " ."]
+    return form.whole("\n".join(lines) + "\n")
 
 
 # --- What a desk answers ------------------------------------------------------------------------------------------------
@@ -211,7 +245,7 @@ def received_list(desk):
     return {record[0].strip(" \t") for record in records if record}
 
 
-def job_of_chains(desk, zone, sysmods):
+def job_of_chains(desk, zone, sysmods, form):
     """Which members of a chain were received, the rows of both reports tell of resolvers, and the list that was sent of all."""
     asked = now()
     reports = {kind: report_of(desk, kind, zone) for kind in KINDS}
@@ -222,7 +256,7 @@ def job_of_chains(desk, zone, sysmods):
     good = [chain for chain in chains if chain["status"] == "GOOD"]
     left_over = [why_not(chain, installed) for chain in chains if chain["status"] != "GOOD"]
     title = f"Chain{'s' if len(sysmods) > 1 else ''} of {', '.join(sysmods)} in zone {zone}, {age}"
-    run.out(job_of(zone, members_of(good, resolved, received | received_list(desk), installed), left_over, title))
+    run.out(job_of(zone, members_of(good, resolved, received | received_list(desk), installed), left_over, title, form))
     for sentence in left_over:
         run.refused(sentence)
 
@@ -234,7 +268,7 @@ def several(number, word):
     return f"{number} {word}{'' if number == 1 else 's'}"
 
 
-def job_of_plan(desk, zone, report):
+def job_of_plan(desk, zone, report, form):
     """A plan tells of each member whether it was received."""
     asked = now()
     data = ask_plan(desk, zone, report, "plan.json")
@@ -245,7 +279,7 @@ def job_of_plan(desk, zone, report):
     left_over = [f"nothing resolves {named(unresolved)}"] if unresolved else []
     left_over += [f"all resolvers are held of {named(held)}"] if held else []
     subject, option = ("exception SYSMODs", "") if report == "errsysmods" else ("missing fixes", "--fixes ")
-    run.out(job_of(zone, members, left_over, f"Plan for the {subject} of zone {zone}, {age}"))
+    run.out(job_of(zone, members, left_over, f"Plan for the {subject} of zone {zone}, {age}", form))
     if left_over:
         told = f"{several(len(unresolved), 'hold')} that nothing resolves, and {several(len(held), 'hold')}"
         say(f"left over: {told} of which all resolvers are held. 'bureau-client plan {option}{zone}' tells more")

@@ -22,7 +22,7 @@ QUESTIONS = {
     "history": ("ZONE, or nothing for all zones", "history", "csv"),
     "compare": ("ZONE ZONE", "across", "csv"),
     "installed": ("SYSMOD", "across", "csv"),
-    "job": ("ZONE, or ZONE SYSMOD..", "jobs", "fixes"),
+    "job": ("ZONE, or ZONE SYSMOD..", "jobs", "fixes jcl order holdclass retry apply"),
     "last-publication": ("", "reports", ""),
 }
 # A change is a method of a class, which is called while this run has the lock.
@@ -43,7 +43,8 @@ LOCAL = {
 }
 COMMANDS = {**QUESTIONS, **CHANGES, **LOCAL}
 # The options in the order in which they are refused, with whether a word comes after each.
-OPTIONS = {"csv": False, "all": False, "fixes": False, "alert": True, "since": True, "symptoms": True, "published": True, "to": True}
+OF_A_JOB = {"jcl": True, "order": False, "holdclass": True, "retry": False, "apply": False}
+OPTIONS = {**OF_A_JOB, "csv": False, "all": False, "fixes": False, "alert": True, "since": True, "symptoms": True, "published": True, "to": True}
 
 
 class Words:
