@@ -190,7 +190,10 @@ def full_zone():
     def ask():
         resolvers = [(place, name) for place in range(count) for name in (first[place], second[place])]
         status = ["HELD" if place in blocked else "GOOD" for place in range(count)]
-        is_received = lambda name: "YES" if name in received else "NO"
+
+        def is_received(name):
+            return "YES" if name in received else "NO"
+
         shape.err_report(ALPHA, "FULL", [
             ("HBB7790", installed[place], reasons[place], name, status[place], is_received(name), "PE") for place, name in resolvers])
         shape.missing_report(ALPHA, "FULL", [

@@ -63,8 +63,8 @@ def built():
 def timed(program, lines):
     """What it prints over these lines, of each of several runs: SYSMODs, holds, milliseconds."""
     source = ("\n".join(lines) + "\n").encode()
-    run = lambda: subprocess.run([program], input=source, stdout=subprocess.PIPE, check=True).stdout
-    return [[int(word) for word in run().split()] for _ in range(RUNS)], len(source)
+    runs = [subprocess.run([program], input=source, stdout=subprocess.PIPE, check=True).stdout for _ in range(RUNS)]
+    return [[int(word) for word in printed.split()] for printed in runs], len(source)
 
 
 def main():

@@ -4,8 +4,8 @@
     store.py [publication zone small start zones reports first same]
 
 Without names it times all of it. The program is crates/bureau_main/out/bureau_main, or the one that BUREAU_PROGRAM
-names. `same` publishes the file that BUREAU_PUBLICATION names, where it names one. nginx and wrk are needed for `zones` alone: a client in Python would measure itself. Each figure is the best of three runs
-in turns, in seconds or as it says.
+names. `same` publishes the file that BUREAU_PUBLICATION names, where it names one. nginx and wrk are needed for `zones` alone: a
+client in Python would measure itself. Each figure is the best of three runs in turns, in seconds or as it says.
 """
 import http.client
 import os

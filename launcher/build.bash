@@ -15,7 +15,7 @@ end_all() {
         kill -TERM -- "-$pid" 2>/dev/null
         wait "$pid" 2>/dev/null
     done
-    worker= waiting=
+    worker='' waiting=''
 }
 
 # Leaves nothing of the build but what rt keeps of proofs. To remove the rest takes a while, for which nobody waits. What was begun

@@ -7,7 +7,7 @@ crates=()
 read_crates() { # FOLDER
     local line name
     local -A seen=()
-    local -a left=(bureau_main)
+    local -a left=(bureau_main) more
     listed=() crates=()
     while IFS= read -r line; do
         [[ $line =~ ^([a-z0-9_]+):( |$) ]] && listed[${BASH_REMATCH[1]}]=$line
@@ -18,7 +18,8 @@ read_crates() { # FOLDER
         [ -n "${listed[$name]-}" ] && [ -z "${seen[$name]-}" ] || continue
         seen[$name]=1
         crates+=("$name")
-        left+=(${listed[$name]#*:})
+        read -ra more <<<"${listed[$name]#*:}"
+        left+=("${more[@]}")
     done
     [ ${#crates[@]} -gt 0 ]
 }

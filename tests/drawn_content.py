@@ -1,7 +1,8 @@
 """Rows that are drawn anew at each run, always the same ones: what is published, zones, and the verdicts there.
 
 What is wanted comes from a plain slow body, which tries every set of the eight SYSMODs: one that has all that its members need is a plan,
-and what stands in a plan is good. The rows are those of a desk (`tests/row_desk.py`), and the same of files (`tests/row_content.py`). `tests/rows.py` runs them.
+and what stands in a plan is good. The rows are those of a desk (`tests/row_desk.py`), and the same of files
+(`tests/row_content.py`). `tests/rows.py` runs them.
 
     tests/drawn_content.py PROGRAM RUNS [SEED]      draws other publications, and more of them: 12 of each run
 """

@@ -2,7 +2,6 @@
 of its own."""
 import atexit
 import os
-import re
 import shutil
 import socket
 import ssl

@@ -77,12 +77,14 @@ def looks(browser):
             check("nothing is wider than %d pixels: %s" % (width, address), not is_wide(browser), browser.run("document.documentElement.scrollWidth"))
             same("nothing in a line is cut at %d pixels: %s" % (width, address), sorted(set(browser.run(CUT))), [])
             picture(browser, "%s-%d" % (address.strip("#").replace("/", "-") or "zones", width))
-        beyond = "[...document.querySelectorAll('.tab')].filter(e => e.getBoundingClientRect().right > document.querySelector('.split').getBoundingClientRect().right + 1).length"
+        right = "document.querySelector('.split').getBoundingClientRect().right"
+        beyond = "[...document.querySelectorAll('.tab')].filter(e => e.getBoundingClientRect().right > %s + 1).length" % right
         same("nor is a tab at %d pixels" % width, browser.run(beyond), 0)
     browser.size(390, 844)
     go(browser, "#LARGE/errors?status=GOOD")
     browser.until("document.querySelector('tbody tr.first')")
-    same("lines are as high as they are said to be", browser.run("[...new Set([...document.querySelectorAll('tbody tr.first')].map(r => Math.round(r.getBoundingClientRect().height)))]"), [66])
+    heights = "[...document.querySelectorAll('tbody tr.first')].map(r => Math.round(r.getBoundingClientRect().height))"
+    same("lines are as high as they are said to be", browser.run("[...new Set(%s)]" % heights), [66])
     click(browser, "tbody tr.first")
     shows(browser, "can be installed", ".beside")
     check("the chain lies over the table on a phone", browser.run("getComputedStyle(document.querySelector('.beside')).position") == "fixed")
@@ -110,7 +112,8 @@ def looks(browser):
         picture(browser, "errors-" + scheme)
     check("dark is dark", colours[0] != colours[1] and colours[1][1] == "rgb(15, 20, 27)", colours)
     browser.call("Emulation.setEmulatedMedia", features=[])
-    heights = "(s => { s.scrollTop = 5000; return [s.querySelector('thead th').getBoundingClientRect().top - s.getBoundingClientRect().top, s.scrollTop]; })(document.querySelector('.scroll'))"
+    top = "s.querySelector('thead th').getBoundingClientRect().top - s.getBoundingClientRect().top"
+    heights = "(s => { s.scrollTop = 5000; return [%s, s.scrollTop]; })(document.querySelector('.scroll'))" % top
     same("headings stay", browser.run(heights), [0, 5000])
     places = (0, 20, 170, 400, 0, 5000, 5300, 4900, 10000000)
     same("wherever one scrolls, all that is seen is drawn", [place for place in places if not browser.run(FILLED % place)], [])
@@ -132,7 +135,8 @@ def paper(browser, want):
     seen = "(e => e.offsetParent !== null && e.getBoundingClientRect().left >= 0)(document.querySelector('%s'))"
     picture(browser, "paper-errors")
     same("title and level are there", [browser.run(seen % place) for place in ("caption", "#level")], [True, True])
-    same("buttons and fields are not", browser.run("[...document.querySelectorAll('button, input, select')].filter(e => e.offsetParent && !e.closest('th')).length"), 0)
+    shown = "[...document.querySelectorAll('button, input, select')].filter(e => e.offsetParent && !e.closest('th')).length"
+    same("buttons and fields are not", browser.run(shown), 0)
     go(browser, "#")
     tiles = browser.run("[...document.querySelectorAll('.tile')].filter(e => e.offsetParent).length")
     same("the sums are all on paper", tiles, 4)

@@ -8,7 +8,7 @@ import json
 from urllib.parse import unquote_to_bytes
 
 from limits import LIMITS
-from plain import Fault, changes, is_id, padded, patterns, received_ids, refusal, zone_rows
+from plain import Fault, changes, is_id, patterns, received_ids, refusal, zone_rows
 
 ROUTES = [
     (("publish",), {b"POST": "publish"}),
@@ -344,7 +344,9 @@ class PlainDesk:
         return min((r for r in self.needs(zone, y) if not self.there(zone, r) and not self.givers(r) & good), key=ordered)
 
     def member(self, y):
-        reasons = lambda kind: [r.decode() for r in sorted((k[2] for k in self.book if k[:2] == (y, kind)), key=ordered)]
+        def reasons(kind):
+            return [r.decode() for r in sorted((k[2] for k in self.book if k[:2] == (y, kind)), key=ordered)]
+
         return {"id": y.decode(), "system": reasons(SYSTEM), "user": reasons(USER)}
 
     # ---- resolution

@@ -6,7 +6,8 @@ import time
 
 class StandIn:
     """Keeps each request that comes, and answers it with `reply`: its bytes, or what it makes of the
-    request's first line, with a status in front where that is not 200. While `may_answer` is not set, answers wait. Without a reply it closes the connection."""
+    request's first line, with a status in front where that is not 200. While `may_answer` is not set, answers wait. Without a reply it
+    closes the connection."""
 
     def __init__(self):
         self.requests, self.connections = [], 0

@@ -285,7 +285,8 @@ def before_any_desk():
     check("of records too", (status, out) == (1, "") and "FAULT 13 2" in err and "records, line 2: ++HOLD(UJ2) ERROR." in err, err)
     lost = write(place + "/lost", "++HOLD(UJ1) ERROR REASON(A). ++HOLD(UJ2) ERROR REASON(A).\n")
     status, out, err = north.run("holds", lost, BUREAU_PROGRAM=PROGRAM)
-    check("what is lost is named", status == 1 and out.endswith("ROWS 1\n") and "line 1: left out, since its ++ is not in column 1: ++HOLD(UJ2)" in err, (status, out, err))
+    lost = "line 1: left out, since its ++ is not in column 1: ++HOLD(UJ2)"
+    check("what is lost is named", status == 1 and out.endswith("ROWS 1\n") and lost in err, (status, out, err))
     status, out, err = north.run("holds", CALLERS, BUREAU_PROGRAM=PROGRAM)
     check("a file without a statement has no hold book", (status, out) == (1, "") and "has no statement" in err, (status, out, err))
     for words in (("errsysmods", "A", "--csv"), ("errsysmods", "--csv", "A"), ("errsysmods", "--", "A")):
@@ -302,7 +303,11 @@ def before_any_desk():
 
 def pages():
     """The help, the page and the man page have the same commands and options."""
-    read = lambda path: open(os.path.join(TOP, path)).read()
+
+    def read(path):
+        with open(os.path.join(TOP, path)) as file:
+            return file.read()
+
     text = Client("http://127.0.0.1:9", NORTH, PYTHON).run("help")[1]
     table = read("docs/CLIENT.md").split("## Commands")[1].split("Options may stand")[0]
     man = read("package/man/bureau-client.1").replace("\\-", "-")
@@ -508,7 +513,10 @@ def told_to_end():
     for name, before, status in (("SIGTERM", "SIG_DFL", 3), ("SIGHUP", "SIG_DFL", 3), ("SIGHUP", "SIG_IGN", 0)):
         desk.requests.clear()
         desk.may_answer.clear()
-        begin = lambda: signal.signal(getattr(signal, name), getattr(signal, before))
+
+        def begin(name=name, before=before):
+            signal.signal(getattr(signal, name), getattr(signal, before))
+
         run = subprocess.Popen([*north.python, CLIENT, "zone", "B", path], env=north.environment, preexec_fn=begin, stdout=subprocess.DEVNULL)
         check("it asks", until(lambda: desk.requests))
         run.send_signal(getattr(signal, name))
@@ -531,7 +539,9 @@ def no_desk():
             self.wfile.write(page)
 
         do_DELETE = do_GET
-        log_message = lambda *_: None
+
+        def log_message(self, *_):
+            pass
 
     server = http.server.HTTPServer(("127.0.0.1", 0), Page)
     threading.Thread(target=server.serve_forever, daemon=True).start()
@@ -542,7 +552,10 @@ def no_desk():
     server.shutdown()
 
 
-PARTS = (sample, rows_without_resolver, refusals, before_any_desk, pages, hidden_token, waiting, lost_replies, together, onlooker, reader_that_goes, told_to_end, no_desk)
+PARTS = (
+    sample, rows_without_resolver, refusals, before_any_desk, pages, hidden_token, waiting, lost_replies, together, onlooker,
+    reader_that_goes, told_to_end, no_desk,
+)
 for part in PARTS:
     part()
 finish("client" + (", " + PYTHON if PYTHON else ""))

@@ -184,7 +184,8 @@ def jobs():
         status == 0 and " /* ALL RESOLVERS ARE HELD OF UA10001 (AA20002) */\n /* NOTHING CAN BE INSTALLED */\n" in out and "SET BOUNDARY" not in out,
         (status, out),
     )
-    same("and what is left over is said", err, "bureau-client: left over: 0 holds that nothing resolves, and 1 hold of which all resolvers are held. 'bureau-client plan TGT1' tells more\n")
+    left_over = "0 holds that nothing resolves, and 1 hold of which all resolvers are held. 'bureau-client plan TGT1' tells more"
+    same("and what is left over is said", err, f"bureau-client: left over: {left_over}\n")
     status, _, err = of("errsysmods", "plan.json", json.dumps(NOTHING)).north.run("job", "TGT1")
     same("nothing is to be done", (status, err), (0, "bureau-client: nothing is to be installed: the plan has no member\n"))
 
@@ -246,7 +247,10 @@ def drawn(dice, count):
     """A plan of so many members in steps, with what is left over."""
     ids = dice.sample(["U%s%05d" % (letter, at) for letter in "A@#$" for at in range(count)], count)
     reasons = ["R%06d" % at for at in range(40)]
-    hold = lambda at: {"reason": "AJ%05d" % at, "sysmod": "UZ%05d" % at}
+
+    def hold(at):
+        return {"reason": "AJ%05d" % at, "sysmod": "UZ%05d" % at}
+
     members = [
         {
             "fmids": ["HBB77E0"], "holds": [hold(at * 9 + n) for n in range(dice.choice((0, 1, 1, 2, 7)))], "id": name,

@@ -161,7 +161,8 @@ def drawn(dice, count):
         lines += [" PRE(%s)" % ",".join(pre)] * bool(pre) + [" SUP(%s)." % ",".join(sup)]
     for ptf in dice.sample(ptfs, count // 4):
         kind = dice.choice(("HIPER", "PE", "PE", "OTHER", ""))
-        lines.append("++HOLD(%s) ERROR FMID(%s)\n REASON(AJ%05d)%s." % (ptf, functions[0], dice.randrange(count + count // 8), " CLASS(%s)" % kind if kind else ""))
+        reason, of_class = dice.randrange(count + count // 8), " CLASS(%s)" % kind if kind else ""
+        lines.append("++HOLD(%s) ERROR FMID(%s)\n REASON(AJ%05d)%s." % (ptf, functions[0], reason, of_class))
     for ptf in dice.sample(ptfs, count // 20):
         lines.append("++HOLD(%s) FIXCAT REASON(AJ%05d)\n CATEGORY(IBM.A%d,IBM.B%d)." % (ptf, dice.randrange(count), dice.randrange(5), dice.randrange(5)))
     for ptf in dice.sample(ptfs, count // 20):
@@ -307,7 +308,8 @@ def across():
     same("zones apart", north.run("errsysmods", "--all", "--csv")[1], heading.replace("ZONES", "ZONES,ACCEPTED") + "".join(lines))
     other = client(bench.desk.url, "south-token")
     same("no zones", other.run("errsysmods", "--all", "--csv"), (0, heading, ""))
-    same("two zones", north.run("compare", "MVSPROD", "A"), (0, "SYSMOD   MVSPROD     A\nHBB77E0  ACCEPTED    APPLIED\nHDZ33E0  ACCEPTED\nUJ92004              APPLIED\nROWS 3\n", ""))
+    compared = "SYSMOD   MVSPROD     A\nHBB77E0  ACCEPTED    APPLIED\nHDZ33E0  ACCEPTED\nUJ92004              APPLIED\nROWS 3\n"
+    same("two zones", north.run("compare", "MVSPROD", "A"), (0, compared, ""))
     same("as CSV", north.run("compare", "--csv", "A", "A")[1], "SYSMOD,A,A\n")
     bench.send("zone", "B", text="SYSMOD,STATE\nUJ92004,ACCEPTED\n")
     same("another state", north.run("compare", "B", "A", "--csv")[1].splitlines()[-1], "UJ92004,ACCEPTED,APPLIED")
@@ -327,7 +329,11 @@ def accepted_holds():
     bench.publish("++HOLD(UJ92001) ERROR REASON(AJ9) CLASS(HIPER).\n")
     shutil.copytree(SITE + "/north", site + "/north")
     path = site + "/north/accepted.csv"
-    sync = lambda *records: (write(path, "\n".join(["ZONE,SYSMOD,REASON,UNTIL,WHY", *records]) + "\n"), north.run("sync", site + "/north"))[1]
+
+    def sync(*records):
+        write(path, "\n".join(["ZONE,SYSMOD,REASON,UNTIL,WHY", *records]) + "\n")
+        return north.run("sync", site + "/north")
+
     north.run("news")
     report, rows = north.run("errsysmods", "MVSPROD")[1], north.run("errsysmods", "--csv", "MVSPROD")[1]
     same("an alert", north.run("errsysmods", "--alert", "HIPER", "MVSPROD")[0], 4)
@@ -610,9 +616,16 @@ def symptoms():
     bench.publish(text)
     bench.zone("A", "HBB77E0", "@J1", "UJ2")
     table, path = bench.place + "/symptoms.csv", bench.place + "/publication"
-    make = lambda: subprocess.run([TOP + "/clients/publication", "--symptoms", table, path], env={**os.environ, "BUREAU_PROGRAM": PROGRAM}, capture_output=True)
+
+    def make():
+        words = [TOP + "/clients/publication", "--symptoms", table, path]
+        return subprocess.run(words, env={**os.environ, "BUREAU_PROGRAM": PROGRAM}, capture_output=True)
+
     same("the symptoms are written", make().returncode, 0)
-    joined = lambda **more: bench.north.run("errsysmods", "--csv", "A", "--symptoms", table, **more)
+
+    def joined(**more):
+        return bench.north.run("errsysmods", "--csv", "A", "--symptoms", table, **more)
+
     heading = "FMID,SYSMOD,REASON,RESOLVER,STATUS,RECEIVED,CLASS,DATE,CHGDT,SYMP,FIX\n"
     other = ",UJ2,AJ1,'@J2,GOOD,NO,,,,,\n"
     first = "HBB77E0,'@J1,AJ1,'@J2,GOOD,NO,HIPER,25001,250102,PRV DAL,'@J2 UJ3\n"
@@ -621,14 +634,18 @@ def symptoms():
     same("with an alert", bench.north.run("errsysmods", "--csv", "A", "--symptoms", table, "--alert", "HIPER")[0], 4)
     named = write(bench.place + "/named.csv", "SYSMOD,REASON,DATE,CHGDT,SYMP,FIX\n'@J1,AJ1,,,,'@J2\nUJ2,AJ9,,,IPL,UJ8 UJ9\n")
     bench.publish("++HOLD(UJ2) ERROR REASON(AJ9).\n++HOLD(UJ2) ERROR REASON(AJ8).\n")
-    north = lambda *words: bench.north.run(*words, "--symptoms", named)
+
+    def north(*words):
+        return bench.north.run(*words, "--symptoms", named)
+
     report = bench.north.run("errsysmods", "A")[1].splitlines()
     fixes = {("UJ2", "AJ1"): "", ("@J1", "AJ1"): "@J2", ("UJ2", "AJ8"): "nothing known", ("UJ2", "AJ9"): "order UJ8 UJ9"}
     lines = [(line.ljust(61) + fixes[line[9:16].strip(), line[18:26].strip()]).rstrip() for line in report[2:-1]]
     wanted = "\n".join([report[0], report[1].ljust(61) + "FIX", *lines, report[-1]]) + "\n"
     same("the text has a column more", north("errsysmods", "A"), (0, wanted, ""))
     same("its rows are told apart without it", bench.north.run("news", "A", "--since", write(bench.place + "/with", wanted)), (0, "", ""))
-    same("the overview counts those to order", north("overview", "--csv")[1].splitlines(), ["ZONE,SYSMODS,IN-ERROR,HOLDS,HIPER,PE,OTHER,NONE,HELD,GOOD,FIXES,ORDER,SENT", "A,3,2,4,1,0,3,2,0,2,0,1," + TODAY])
+    columns = "ZONE,SYSMODS,IN-ERROR,HOLDS,HIPER,PE,OTHER,NONE,HELD,GOOD,FIXES,ORDER,SENT"
+    same("the overview counts those to order", north("overview", "--csv")[1], f"{columns}\nA,3,2,4,1,0,3,2,0,2,0,1,{TODAY}\n")
     check("as text too", re.search(r"FIXES  ORDER  SENT\nA .* 0      1      \S+\nROWS 1\n", north("overview")[1]))
     plan = bench.north.run("plan", "A")[1]
     left = "SYSMOD   REASON\nUJ2      AJ8\nUJ2      AJ9\n"
@@ -655,7 +672,10 @@ def alone():
     made = subprocess.run([sys.executable, TOP + "/clients/make_client.py", "one-file", place], capture_output=True, text=True)
     same("one file is made", (made.returncode, os.listdir(place)), (0, [os.path.basename(made.stdout.split()[-1])]))
     one = made.stdout.split()[-1]
-    run = lambda path, *words: subprocess.run([path, *words], cwd=place, env=bench.north.environment, capture_output=True, text=True)
+
+    def run(path, *words):
+        return subprocess.run([path, *words], cwd=place, env=bench.north.environment, capture_output=True, text=True)
+
     for words in (("errsysmods", "MVSPROD", "--alert", "PE"), ("overview",), ("missingfix", "--csv", "MVSPROD"), ("fault", "13"), ("help",)):
         done = run(one, *words)
         same("by itself: %s" % (words,), (done.returncode, done.stdout, done.stderr), bench.north.run(*words))

@@ -115,17 +115,19 @@ class HoldData(unittest.TestCase):
     def test_holds(self):
         """A hold book is of the lines that `publication` reads. What is none, or is lost, is told, and the status says so."""
         whole = "".join(f"{line:<80}" for line in self.TEXT.splitlines())
+        lost = "++PTF(A). ++HOLD(A) ERROR REASON(B).\n"
         for name, given, status, wanted, said in (
             ("as it is", self.TEXT, 0, self.TEXT, ""),
             ("with a mark and CR LF", "\ufeff" + self.TEXT.replace("\n", "\r\n"), 0, self.TEXT, "begins with a UTF-8 mark"),
             ("records of 80 bytes", whole, 0, "\n".join(f"{line:<80}" for line in self.TEXT.splitlines()), "it is cut into records of 80 bytes"),
-            ("a lost statement", "++PTF(A). ++HOLD(A) ERROR REASON(B).\n", 1, "++PTF(A). ++HOLD(A) ERROR REASON(B).\n", "line 1: left out, since its ++ is not in column 1"),
+            ("a lost statement", lost, 1, lost, "line 1: left out, since its ++ is not in column 1"),
         ):
             with self.subTest(name):
                 result = self.run_client("holds", "given", given=given)
                 self.assertEqual(result[:2], (status, "holds -\n" + wanted))
                 self.assertIn(said, result[2])
-        for name, given, said in (("EBCDIC", self.TEXT.encode("cp037"), "seems to be EBCDIC"), ("CSV", "SYSMOD\n", "has no statement"), ("empty", "", "has no statement")):
+        nothing = "has no statement"
+        for name, given, said in (("EBCDIC", self.TEXT.encode("cp037"), "seems to be EBCDIC"), ("CSV", "SYSMOD\n", nothing), ("empty", "", nothing)):
             with self.subTest(name):
                 status, out, err = self.run_client("holds", "given", given=given)
                 self.assertEqual((status, out), (1, ""))

@@ -13,9 +13,7 @@ import http.client
 import os
 import random
 import socket
-import ssl
 import sys
-import threading
 import time
 
 from front import Front

@@ -7,7 +7,6 @@ A publication, a zone's list and a request are sent in every prefix, and with ea
 to come is told by a second reader in plain Python (plain.py). Then tables of what is refused, and clients that are gone in the
 middle of a request or before its reply. With --all `holds` gets each mangled publication; else every tenth.
 """
-import os
 import socket
 import struct
 import subprocess

@@ -87,7 +87,8 @@ def zone_lists():
 
 def fields_and_words():
     """A field is known by its beginning, and what is not known is named."""
-    listing = "T SYSMOD ENTRIES\n UJ1  TYPE = PTF\n      STATUS = REC APP%s\n      %s = UJ2\n UJ2  STATUS = APP\n      DATE/TIME APP = 25.1\n           ACC = 25.2\n"
+    listing = "T SYSMOD ENTRIES\n UJ1  TYPE = PTF\n      STATUS = REC APP%s\n      %s = UJ2\n"
+    listing += " UJ2  STATUS = APP\n      DATE/TIME APP = 25.1\n           ACC = 25.2\n"
     for word, field, row, named in (
         ("", "SUPBY  (IMM)", "UJ1,SUPERSEDED", None),
         ("", "LASTSUP (IMM)", "UJ1,SUPERSEDED", None),

@@ -12,7 +12,6 @@ import urllib.parse
 from service import PROGRAM, TOP, Desk, check, finish, folder, same, write
 
 
-
 def read(name):
     with open(os.path.join(TOP, "docs", name), encoding="utf-8") as file:
         return file.read()
@@ -171,7 +170,8 @@ def example_faults(document):
 def faults_of_order(document):
     """Examples that no exchange sends, exchanges that have none, and operations that none shows."""
     sent = [each["example"] for each in document["x-exchanges"]]
-    there = {example for _, _, operation in operations(document).values() for _, media in media_of(document, operation) for example in media.get("examples", {})}
+    all_media = (media for _, _, operation in operations(document).values() for _, media in media_of(document, operation))
+    there = {example for media in all_media for example in media.get("examples", {})}
     shown = {each["operation"] for each in document["x-exchanges"] if each["status"] == 200}
     again = {example for example in sent if sent.count(example) > 1}
     return sorted((set(sent) ^ there) | again | (set(operations(document)) ^ shown))
@@ -332,7 +332,10 @@ def see_lies(used):
     for name, change in (
         ("a refusal that is left out", lambda wrong: wrong["paths"]["/received"]["put"]["responses"].pop("411")),
         ("a refusal that never comes", lambda wrong: wrong["paths"]["/zones"]["get"]["responses"].update({"404": {"$ref": "#/components/responses/NotFound"}})),
-        ("another text of a refusal", lambda wrong: wrong["components"]["responses"]["TooLarge"]["content"]["text/plain"]["schema"].update(enum=["TOO LONG\n"])),
+        (
+            "another text of a refusal",
+            lambda wrong: wrong["components"]["responses"]["TooLarge"]["content"]["text/plain"]["schema"].update(enum=["TOO LONG\n"]),
+        ),
         ("a header that does not come", lambda wrong: wrong["components"]["responses"]["NotAllowed"].update(headers={"allow": {"schema": {"type": "string"}}})),
     ):
         check("%s is seen" % name, list(refusal_faults(lie(change), used)))
@@ -351,7 +354,8 @@ same("each example is sent, and each operation shown", faults_of_order(DOCUMENT)
 responses = DOCUMENT["components"]["responses"]
 for status, text in sorted(refusals_of_page()):
     named = {each["$ref"].split("/")[-1] for _, _, said in operations(DOCUMENT).values() for code, each in said["responses"].items() if code == status}
-    check("%s %r of the page is in it" % (status, text), any(not list(misfits(DOCUMENT, responses[each]["content"]["text/plain"]["schema"], text)) for each in named))
+    schemas = [responses[each]["content"]["text/plain"]["schema"] for each in named]
+    check("%s %r of the page is in it" % (status, text), any(not list(misfits(DOCUMENT, schema, text)) for schema in schemas))
 desk = desk_of(DOCUMENT)
 for exchange in DOCUMENT["x-exchanges"]:
     status, headers, body = desk.reply(*request_of(DOCUMENT, exchange))

@@ -81,7 +81,8 @@ def sample(browser, front, north):
     )
     rows = csv_rows(north, "errsysmods", "MVSPROD")
     same("as the report says", sorted(line[4:6] for line in lines(browser)), chosen_as(rows, "RESOLVER", "STATUS"))
-    same("each status with a colour of its own", browser.run("new Set([...document.querySelectorAll('footer .badge')].map(e => getComputedStyle(e).color)).size"), 5)
+    colours = "new Set([...document.querySelectorAll('footer .badge')].map(e => getComputedStyle(e).color)).size"
+    same("each status with a colour of its own", browser.run(colours), 5)
     picture(browser, "sample-errors")
     click(browser, "tbody tr.first")
     shows(browser, "UJ92005 can be installed by itself.", ".beside")
@@ -234,7 +235,8 @@ def fixes_by_name(browser, front, publisher):
     same("published", publisher.run("publish", write(place + "/p", both), BUREAU_PAGE=page)[0], 0)
     url = front.url + "/page/symptoms.csv"
     same("not for anyone", exchange(url, "GET", "", "nobodys-token", context=front.context)[0], 401)
-    same("but for callers", exchange(url, "GET", "", NORTH, context=front.context), (200, b"SYSMOD,REASON,DATE,CHGDT,SYMP,FIX\nUJ92001,AJ71,25204,250725,PRV DAL,UJ92013\n"))
+    table = b"SYSMOD,REASON,DATE,CHGDT,SYMP,FIX\nUJ92001,AJ71,25204,250725,PRV DAL,UJ92013\n"
+    same("but for callers", exchange(url, "GET", "", NORTH, context=front.context), (200, table))
     click(browser, "#again")
     go(browser, "#")
     shows(browser, " · HOLDDATA up to 2025-08-19 · publication 2 · asked ", "#level")
@@ -249,7 +251,8 @@ def fixes_by_name(browser, front, publisher):
     picture(browser, "fixes-by-name")
     for width in (320, 390, 721, 768, 1000, 1201, 1300, 1400):
         browser.size(width)
-        same("no sideways scrolling at %d pixels" % width, (is_wide(browser), browser.run("(s => s.scrollWidth - s.clientWidth)(document.querySelector('.scroll'))")), (False, 0))
+        beyond = browser.run("(s => s.scrollWidth - s.clientWidth)(document.querySelector('.scroll'))")
+        same("no sideways scrolling at %d pixels" % width, (is_wide(browser), beyond), (False, 0))
         same("nothing is cut at %d pixels" % width, sorted(set(browser.run(CUT))), [])
         picture(browser, "fixes-by-name-%d" % width)
     browser.size(1400)
@@ -262,7 +265,8 @@ def fixes_by_name(browser, front, publisher):
     shows(browser, "HOLDDATA names UJ92013 as its fix: order it.", ".beside")
     go(browser, "#MVSPROD/plan")
     browser.until("document.querySelector('.left')")
-    same("the plan says so too", browser.run("[...document.querySelectorAll('.left li')].map(e => e.textContent)"), ["UJ92001 held for AJ71: order UJ92013", "UJ92001 held for AJ72: nothing known"])
+    left = browser.run("[...document.querySelectorAll('.left li')].map(e => e.textContent)")
+    same("the plan says so too", left, ["UJ92001 held for AJ71: order UJ92013", "UJ92001 held for AJ72: nothing known"])
     by_front = Client(front.url, NORTH, BUREAU_CACERT=front.certificate)
     report = by_front.run("errsysmods", "MVSPROD")[1]
     same("the client joins it by itself", [line[61:] for line in report.splitlines()[1:-1]], ["FIX", "", "", "order UJ92013", "nothing known"])
@@ -281,7 +285,8 @@ def news(browser, front, publisher):
     place, hold = folder(), "++HOLD(UJ92001) ERROR FMID(HBB77E0)\n REASON(%s) CLASS(%s).\n"
     go(browser, "#")
     browser.until("document.querySelectorAll('.figures').length === 1")
-    same("nothing of the same day", browser.run("[document.querySelector('.tile.since').hidden, document.querySelectorAll('.zone-news, .trend').length]"), [True, 0])
+    news = "[document.querySelector('.tile.since').hidden, document.querySelectorAll('.zone-news, .trend').length]"
+    same("nothing of the same day", browser.run(news), [True, 0])
     browser.until("indexedDB.databases().then(all => all.length)")
     time.sleep(0.3)
     keys = browser.run(A_DAY_AGO)
@@ -311,7 +316,8 @@ def news(browser, front, publisher):
     browser.size(1400)
     browser.run("[...document.querySelectorAll('tr.first')].find(row => row.innerText.includes('AJ64001')).click()")
     shows(browser, "UJ92005 can be installed by itself.", ".beside")
-    same("published", publisher.run("publish", write(place + "/q", "".join("++RELEASE(UJ92001) ERROR REASON(%s).\n" % each for each in ("AJ81", "AJ82", "AJ64001"))))[0], 0)
+    releases = "".join("++RELEASE(UJ92001) ERROR REASON(%s).\n" % each for each in ("AJ81", "AJ82", "AJ64001"))
+    same("published", publisher.run("publish", write(place + "/q", releases))[0], 0)
     go(browser, "#MVSPROD/new")
     click(browser, "#again")
     shows(browser, "0 holds came, 1 went, 0 changed since yesterday.", ".count")
@@ -336,7 +342,8 @@ def accepted_holds(browser, north):
     browser.run(give % json.dumps(text))
     said(browser, "The file has 2 accepted holds.")
     browser.until("document.querySelector('tbody tr.accepted')")
-    same("grey", browser.run("[...new Set([...document.querySelectorAll('tr.accepted :is(td, .badge, .yes)')].map(e => getComputedStyle(e).color))]"), ["rgb(86, 96, 114)"])
+    colours = "[...document.querySelectorAll('tr.accepted :is(td, .badge, .yes)')].map(e => getComputedStyle(e).color)"
+    same("grey", browser.run("[...new Set(%s)]" % colours), ["rgb(86, 96, 114)"])
     click(browser, "tbody tr.first")
     shows(browser, 'Accepted until 2099-12-31: not used, says "ops".', ".beside")
     picture(browser, "accepted")
@@ -488,8 +495,9 @@ def marks(browser, front, client):
     check("on paper nothing is cut off", not is_wide(browser), browser.run("document.documentElement.scrollWidth"))
     same("and no id takes two lines", browser.run(TWO_LINES), [])
     same("each field stands below its heading", browser.run(BELOW), [])
-    check("the chain stands below the table", browser.run("document.querySelector('.beside').getBoundingClientRect().top > document.querySelector('table').getBoundingClientRect().bottom - 1") and
-          browser.run("getComputedStyle(document.querySelector('.beside')).position") == "static")
+    top, bottom = (browser.run("document.querySelector('%s').getBoundingClientRect().%s" % of) for of in ((".beside", "top"), ("table", "bottom")))
+    is_static = browser.run("getComputedStyle(document.querySelector('.beside')).position") == "static"
+    check("the chain stands below the table", top > bottom - 1 and is_static)
     picture(browser, "paper")
     browser.call("Emulation.setEmulatedMedia", media="")
     browser.size(1400)
@@ -536,7 +544,8 @@ def slow(browser):
     time.sleep(1)
     desk.may_answer.set()
     browser.until("document.querySelector('tbody tr.first')")
-    same("of the zone chosen last", browser.run("document.querySelector('h1').innerText + document.querySelector('caption').innerText"), "CException SYSMODs of C")
+    heads = "document.querySelector('h1').innerText + document.querySelector('caption').innerText"
+    same("of the zone chosen last", browser.run(heads), "CException SYSMODs of C")
     asked = browser.run("Date.parse(document.getElementById('level').innerText.split('asked ')[1].replace(' ', 'T'))")
     check("the time is that of asking", began - 60000 < asked <= began, asked - began)
     whole = made_up("GET /zones/A/errsysmods x")

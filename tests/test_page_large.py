@@ -158,8 +158,11 @@ def order(browser):
     got = browser.run("[...document.querySelectorAll('tbody tr.first')].map(r => [...r.cells].slice(1, 3).map(c => c.innerText))")
     browser.run("dispatchEvent(new Event('afterprint'))")
     classes, statuses = ["HIPER", "PE"], ["GOOD", "HELD", "none"]
-    by_class = lambda hold: classes.index(hold[2]) if hold[2] in classes else 2
-    ranks = lambda one: (not one[1], by_class(one[0]), statuses.index(state(one[1])))
+
+    def ranks(one):
+        hold, resolvers = one
+        return not resolvers, classes.index(hold[2]) if hold[2] in classes else 2, statuses.index(state(resolvers))
+
     same("all of them", got, [list(hold[:2]) for hold, _ in sorted(ZONES[3].holds, key=ranks)])
 
 
@@ -169,8 +172,8 @@ def groups(browser):
     hold, found = max(ZONES[3].holds, key=lambda one: len(one[1]))
     filter_by(browser, hold[0])
     same("one line", [row[1] for row in lines(browser)], [hold[0]])
-    ranks = lambda one: (BEST[one[1]], one[2] == "NO", one[0])
-    wanted = [[one[0], one[1], "received" if one[2] == "YES" else "no"] for one in sorted(found, key=ranks)]
+    found = sorted(found, key=lambda one: (BEST[one[1]], one[2] == "NO", one[0]))
+    wanted = [[one[0], one[1], "received" if one[2] == "YES" else "no"] for one in found]
     same("with the best resolver", [row[4:] for row in lines(browser)], wanted[:1])
     click(browser, ".opener")
     same("opened", [row[4:] for row in lines(browser)], wanted)
@@ -187,15 +190,16 @@ def beside(browser):
     shows(browser, "can’t be installed now", ".beside")
     row = lines(browser)[0]
     same("its address", browser.run("location.hash"), "#LARGE/errors/%s?status=HELD" % row[4])
+    shows(browser, "is needed, and would be given by UJ99998, which is held: it needs AJ99999", ".needs")
+    shows(browser, "is needed, and nothing that is published gives it", ".needs")
     same(
         "the row of needs, to the first that nothing gives",
         browser.run("[...document.querySelectorAll('.needs .id')].map(e => e.innerText)"),
         [row[4], "AJ99998", "AJ99999"],
     )
-    shows(browser, "is needed, and would be given by UJ99998, which is held: it needs AJ99999", ".needs")
-    shows(browser, "is needed, and nothing that is published gives it", ".needs")
     same("the line is marked", browser.run("document.querySelector('tr.chosen td:nth-child(2)').innerText"), row[1])
-    check("beside the table", browser.run("(t => t.right < document.querySelector('.beside').getBoundingClientRect().left + 1)(document.querySelector('.tab-body').getBoundingClientRect())"))
+    left = "document.querySelector('.beside').getBoundingClientRect().left"
+    check("beside the table", browser.run("document.querySelector('.tab-body').getBoundingClientRect().right < %s + 1" % left))
     check("and as high as it", browser.run("document.querySelector('.beside').getBoundingClientRect().top < 200"))
     browser.call("Page.reload")
     shows(browser, "can’t be installed now", ".beside")
@@ -224,7 +228,8 @@ def keyboard(browser):
     same("and the number of all", browser.run("document.querySelector('table').getAttribute('aria-rowcount')"), str(number(browser) + 1))
     browser.key("End", 35)
     same("the last line", browser.run(at + ".getAttribute('aria-rowindex')"), str(number(browser) + 1))
-    check("is in sight", browser.run("(r => r.bottom <= document.querySelector('.scroll').getBoundingClientRect().bottom + 1)(%s.getBoundingClientRect())" % at))
+    bottom = "document.querySelector('.scroll').getBoundingClientRect().bottom"
+    check("is in sight", browser.run("%s.getBoundingClientRect().bottom <= %s + 1" % (at, bottom)))
     browser.key("Home", 36)
     first = browser.run(at + ".innerText.split(/\\s+/)[1]")
     browser.key("Enter", 13, "\r")

@@ -121,8 +121,13 @@ def symptoms():
     publisher = Client(desk.url, PUBLISHER)
     hold = "++HOLD(%s) ERROR REASON(%s) DATE(25001)\n COMMENT(SMRTDATA(SYMP(%s) FIX(%s) CHGDT(250102))).\n"
     heading = "SYSMOD,REASON,DATE,CHGDT,SYMP,FIX\n"
-    read = lambda path: open(path).read() if os.path.exists(path) else None
-    publish = lambda text, **more: publisher.run("publish", write(site + "/p", text), **more)
+
+    def read(path):
+        return open(path).read() if os.path.exists(path) else None
+
+    def publish(text, **more):
+        return publisher.run("publish", write(site + "/p", text), **more)
+
     same("without a page", publish(hold % ("UJ1", "AJ1", "IPL", "UJ2") + hold % ("UJ1", "AJ2", "DAL", "UJ3"))[0], 0)
     kept = publisher.home + "/publications/symptoms.csv"
     first, second = "UJ1,AJ1,25001,250102,IPL,UJ2\n", "UJ1,AJ2,25001,250102,DAL,UJ3\n"

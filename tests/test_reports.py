@@ -14,7 +14,7 @@ import sys
 from service import PROGRAM, TOP, Desk, check, finish, folder, same, write
 
 sys.path.insert(0, os.path.join(TOP, "bench"))
-from fuzz_desks import APARS, BAD_LISTS, BAD_STATEMENTS, CATEGORIES, IDS, PATTERNS, STATES, Drawing, escaped
+from fuzz_desks import BAD_LISTS, BAD_STATEMENTS, IDS, PATTERNS, STATES, Drawing, escaped
 
 DRAWN = int(sys.argv[1]) if len(sys.argv) > 1 else 40
 SEED = int(sys.argv[2]) if len(sys.argv) > 2 else 20261127

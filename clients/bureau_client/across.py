@@ -44,7 +44,10 @@ def errsysmods_of_all(desk, csv=False, alert=(), symptoms=None):
     """One list over all zones: what is urgent comes first."""
     found = holds_of_all(desk)
     known = symptoms_of(desk, symptoms) if found or symptoms else None
-    urgency = lambda hold: (CLASSES.get(found[hold][0]["CLASS"], 2), RANKS.get(found[hold][0]["STATUS"], 2), hold)
+
+    def urgency(hold):
+        return CLASSES.get(found[hold][0]["CLASS"], 2), RANKS.get(found[hold][0]["STATUS"], 2), hold
+
     is_apart = any(apart for _, _, apart in found.values())
     rows = []
     for hold in sorted(found, key=urgency):
