@@ -194,13 +194,17 @@ def forms():
     """A job with a card, an order, classes to bypass, RETRY, and without CHECK: each only where it is asked for."""
     stand = of("errsysmods", "plan.json", NEEDS_TWO)
     plain = without_time(stand.north.run("job", "TGT1")[1])
-    run = lambda *words: without_time(stand.north.run("job", "TGT1", *words)[1])
+
+    def run(*words):
+        return without_time(stand.north.run("job", "TGT1", *words)[1])
+
     card = "//BUREAU   JOB (ACCT),'SMP/E',CLASS=A,MSGCLASS=H\n//SMPE     EXEC PGM=GIMSMP,\n//         PARM='CSI=SMPE.GLOBAL.CSI'\n//SMPCNTL  DD *\n"
     same("a card and a step", run("--jcl", "SMPE.GLOBAL.CSI"), card + plain + "/*\n")
     same("RETRY", run("--retry"), plain.replace("UA10005\n    )\n /*", "UA10005\n    )\n RETRY(YES)\n /*"))
     same("without CHECK", run("--apply"), plain.replace("APPLY CHECK", "APPLY"))
     job = run("--holdclass", "ERREL,HIPER")
-    check("classes", " BYPASS(HOLDCLASS(\n    ERREL,HIPER\n    ))\n /* OR, IN ITS PLACE: */\n" in job and job.count("HOLDCLASS(") == 2 and "ACTION,DOC" in job, job)
+    bypass = " BYPASS(HOLDCLASS(\n    ERREL,HIPER\n    ))\n /* OR, IN ITS PLACE: */\n"
+    check("classes", bypass in job and job.count("HOLDCLASS(") == 2 and "ACTION,DOC" in job, job)
     order = run("--order")
     statements = [line for line in order.splitlines() if not line.startswith(" /*")]
     wanted = [
