@@ -7,17 +7,9 @@
 # and where each gives as many as were asked for; each the least of several rounds.
 set -euo pipefail
 top=$(cd "$(dirname "$0")/.." && pwd)
+. "$top/bench/below.bash"
 work=$top/bench/out/bytewise
-below='lemmas questions faults transfer mcs_reader requests'
-mkdir -p "$work/crates/bytewise_bench/src"
-: > "$work/crates.txt"
-for crate in $below; do
-    rm -rf "$work/crates/$crate"
-    cp -R "$top/crates/$crate" "$work/crates/$crate"
-    grep "^$crate:" "$top/crates.txt" >> "$work/crates.txt"
-done
-echo 'bytewise_bench: anyhow transfer requests' >> "$work/crates.txt"
+lay_out "$work" bytewise_bench anyhow transfer requests
 cp "$top/bench/bytewise/main.rt.txt" "$work/crates/bytewise_bench/src/main.rt"
-cp "$top/HANDLES" "$work/"
 cd "$work/crates/bytewise_bench"
 rt run "$@" 2>&1 | grep '^[0-9]*,'

@@ -8,20 +8,10 @@
 # crates, under bench/out; what was proved of them before is copied too.
 set -euo pipefail
 top=$(cd "$(dirname "$0")/.." && pwd)
+. "$top/bench/below.bash"
 work=$top/bench/out/desks
-below='lemmas questions faults columns transfer mcs_reader holddata zone_lists catalogue supersede requisites verdicts listings chains chain_cache reports
-  install_order blocked_needs report_holds zone_plans plan_reports
-  requests bureau_store failure_count failing_store report_json bureau log_lines bureau_http'
-mkdir -p "$work/crates/desks/src"
-: > "$work/crates.txt"
-for crate in $below; do
-    rm -rf "$work/crates/$crate"
-    cp -a "$top/crates/$crate" "$work/crates/$crate"
-    grep "^$crate:" "$top/crates.txt" >> "$work/crates.txt"
-done
-echo 'desks: faults transfer chains chain_cache bureau_http' >> "$work/crates.txt"
+lay_out "$work" desks faults transfer chains chain_cache bureau_http
 cp "$top/bench/desks/main.rt.txt" "$work/crates/desks/src/main.rt"
-cp "$top/HANDLES" "$work/"
 cd "$work/crates/desks"
 # It is run without words, so it ends with 2: whether it was built is seen by its file.
 rm -f out/desks

@@ -7,20 +7,10 @@
 # them before is copied too.
 set -euo pipefail
 top=$(cd "$(dirname "$0")/.." && pwd)
+. "$top/bench/below.bash"
 work=$top/bench/out/file_reports
-below='lemmas questions faults columns mcs_reader holddata zone_lists catalogue flat_content supersede requisites verdicts listings chains reports
-  install_order blocked_needs report_holds zone_plans plan_reports
-  bureau_store report_json bureau file_reports'
-mkdir -p "$work/crates/from_files/src"
-: > "$work/crates.txt"
-for crate in $below; do
-    rm -rf "$work/crates/$crate"
-    cp -a "$top/crates/$crate" "$work/crates/$crate"
-    grep "^$crate:" "$top/crates.txt" >> "$work/crates.txt"
-done
-echo 'from_files: anyhow file_reports mcs_reader' >> "$work/crates.txt"
+lay_out "$work" from_files anyhow file_reports mcs_reader
 cp "$top/bench/file_reports/main.rt.txt" "$work/crates/from_files/src/main.rt"
-cp "$top/HANDLES" "$work/"
 cd "$work/crates/from_files"
 # It is run without words, so it ends with an error: whether it was built is seen by its file.
 rm -f out/from_files

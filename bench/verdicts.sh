@@ -6,17 +6,9 @@
 # record, the superseders and the holds of each once, microseconds for one verdict; each the least of several rounds.
 set -euo pipefail
 top=$(cd "$(dirname "$0")/.." && pwd)
+. "$top/bench/below.bash"
 work=$top/bench/out/verdicts
-below='lemmas faults columns mcs_reader holddata zone_lists catalogue supersede requisites verdicts listings chains'
-mkdir -p "$work/crates/verdict_bench/src"
-: > "$work/crates.txt"
-for crate in $below; do
-    rm -rf "$work/crates/$crate"
-    cp -R "$top/crates/$crate" "$work/crates/$crate"
-    grep "^$crate:" "$top/crates.txt" >> "$work/crates.txt"
-done
-echo 'verdict_bench: anyhow mcs_reader zone_lists catalogue supersede chains' >> "$work/crates.txt"
+lay_out "$work" verdict_bench anyhow mcs_reader zone_lists catalogue supersede chains
 cp "$top/bench/verdicts/main.rt.txt" "$work/crates/verdict_bench/src/main.rt"
-cp "$top/HANDLES" "$work/"
 cd "$work/crates/verdict_bench"
 rt run 2>&1 | grep ','
