@@ -25,7 +25,7 @@ has_one (id ∷ ids) = true
 abbrev pub is_published : Content → List ℕ → Bool
 is_published content need = has_one (givers_of content need)
 
--- what blocks a SYSMOD, by its verdict: its blocked need where it is HELD
+-- what blocks a SYSMOD, by its verdict: its blocked need if it is HELD
 abbrev pub blocked_by : Content → List ZoneRow → List ℕ → Judged → Option BlockedNeed
 blocked_by content rows id (held need) = Some (record { sysmod = id; need = need; giver = giver_of content rows need; published = is_published content need })
 blocked_by content rows id (good plan) = None
@@ -34,7 +34,7 @@ blocked_by content rows id lack = None
 abbrev pub blocked_at : Content → List ZoneRow → List ℕ → Option BlockedNeed
 blocked_at content rows id = blocked_by content rows id (verdict_of content rows id)
 
--- the SYSMOD that would give what blocks another, where one applies
+-- the SYSMOD that would give what blocks another, if one applies
 abbrev pub next_by : Option BlockedNeed → Option (List ℕ)
 next_by None = None
 next_by (Some blocked) = blocked.giver

@@ -76,7 +76,7 @@ fn has_one(ids: &[Id]) -> bool
     !ids.is_empty()
 }
 
-/// The SYSMOD that would give what blocks another, where one applies.
+/// The SYSMOD that would give what blocks another, if one applies.
 pub(crate) fn next_by(blocked: &Option<BlockedNeed>) -> Option<Id>
     ensures { result ≡ Spec.next_by blocked.now }
 {

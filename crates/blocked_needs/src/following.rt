@@ -26,7 +26,7 @@ type Seen = BTreeMap<Id, Option<BlockedNeed>>;
 ///
 /// # Errors
 ///
-/// `Memory` where memory ran out, `Device` where the source failed.
+/// `Memory` if memory ran out, `Device` if the source failed.
 pub fn blocked_needs<P: Published, J: Judge<P>>(
     alloc: Global,
     source: &mut P,

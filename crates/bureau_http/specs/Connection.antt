@@ -29,8 +29,8 @@ IsLastBy (whole parts body following) rows ordinal asked = (asked ≡ asked_whol
 abbrev pub IsLast : List CallerRow → ℕ → List ℕ → Asked → Type 0
 IsLast rows ordinal bytes asked = (next : Next) × IsNext bytes next × IsLastBy next rows ordinal asked
 
--- How a connection stops: its input ends where no request has begun, or inside one; a request ends it; or it is
--- cut off before, where a read or write fails or memory runs out.
+-- How a connection stops: its input ends if no request has begun, or inside one; a request ends it; or it is cut off before,
+-- if a read or write fails or memory runs out.
 pub data Stop : Type 0 where
   clean : Stop
   inside : Stop

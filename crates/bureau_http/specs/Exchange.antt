@@ -22,8 +22,8 @@ pub record Exchange : Type 0 where
 abbrev pub refusal_answer : Refusal → Answer
 refusal_answer refusal = plain (code_of (status_of refusal)) (text_of refusal)
 
--- What is answered to what makes no call: the refusal; or 503 where a token has to be looked up, since there may be
--- no room for that. What a call is answered, the run of the bureau decides.
+-- What is answered to what makes no call: the refusal; or 503 if a token has to be looked up, since there may be no room for
+-- that. What a call is answered, the run of the bureau decides.
 abbrev pub IsAnsweredBy : What → Bool → Answer → Type 0
 IsAnsweredBy (Ok call) has_token answer = Unit {0}
 IsAnsweredBy (Err refusal) has_token answer = (answer ≡ refusal_answer refusal) ⊎ ((has_token ≡ true) × (answer ≡ no_room))
@@ -65,7 +65,7 @@ status_numbered n =
 abbrev pub body_told : Answer → List ℕ
 body_told answer = if answer.status == 503 then codes "NO ROOM\n" else answer.body
 
--- what the path names, where it has other methods
+-- what the path names, if it has other methods
 abbrev pub allow_by : What → ℕ → Option Resource
 allow_by (Ok call) status = None
 allow_by (Err refusal) status = if status == 503 then None else allow_of_refusal refusal
@@ -79,7 +79,7 @@ head_of exchange = record {
   closes = exchange.asked.closes;
 }
 
--- the reply: its head, and its body where more than the head is asked for
+-- the reply: its head, and its body if more than the head is asked for
 unfoldable pub exchange_text : Exchange → List ℕ
 exchange_text exchange = reply_text (head_of exchange) exchange.asked.is_bare (body_told exchange.answer)
 

@@ -14,7 +14,7 @@ use Rattle.bureau_http.specs.Exchange.{Exchange, calls_of, exchange_text}
 abbrev pub joined : List (List Exchange) → List Exchange
 joined connections = flat_map (λ exchanges. exchanges) connections
 
--- a caller's request with the answer that it has where only the caller's own history came before
+-- a caller's request with the answer that it has if only the caller's own history came before
 abbrev pub own_exchange : Tables → Caller → Call → List Exchange → Exchange → Exchange
 own_exchange opening viewer call before exchange = record {
   asked = exchange.asked;
@@ -28,8 +28,8 @@ AreOwnBytes opening exchanges =
     exchanges ≡ before ++ exchange ∷ after → exchange.asked.what ≡ Ok (viewer, call) →
     (exchange.answer ≡ no_room) ⊎ (exchange_text exchange ≡ exchange_text (own_exchange opening viewer call before exchange))
 
--- Two runs: where a caller asks the same in both, after the same own history, the replies have the same bytes,
--- unless one is 503.
+-- Two runs: if a caller asks the same in both, after the same own history, the replies have the same bytes, unless one is
+-- 503.
 abbrev pub HaveSameBytes : Caller → List Exchange → List Exchange → Type 0
 HaveSameBytes viewer exchanges others =
     (call : Call) (before : List Exchange) (exchange : Exchange) (after : List Exchange) (before2 : List Exchange) (exchange2 : Exchange) (after2 : List Exchange) →

@@ -55,7 +55,7 @@ pub record AreServedInPart (Runs : Tables → List CallBy → Tables → Type 0)
 
 -- ---- private: what serving a list answers, and one connection of it
 
--- what was written to all connections, or where memory ran out, to the first of them
+-- what was written to all connections, or if memory ran out, to the first of them
 abbrev pub AreServedAs : {Fault : Type 0} → (Tables → List CallBy → Tables → Type 0) → Tables → List (List ℕ) → Result (Vec (Vec ℕ)) (Fault × Vec (Vec ℕ)) → Type 0
 AreServedAs Runs this connections (Ok written) = AreServed Runs this connections (map (λ text. text.items) written.items)
 AreServedAs Runs this connections (Err refused) = AreServedInPart Runs this connections (map (λ text. text.items) refused.1.items)

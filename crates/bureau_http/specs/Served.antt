@@ -34,7 +34,7 @@ pub record HasRun (Runs : Tables → List CallBy → Tables → Type 0) (this : 
   pub closing : Tables
   pub run : Runs this calls closing
 
--- the whole text was written, or a front part of it where a write failed
+-- the whole text was written, or a front part of it if a write failed
 abbrev pub IsWritten : {A : Type 0} → Result A ConnFault → Option (List ℕ) → Option (List ℕ) → List ℕ → Type 0
 IsWritten (Ok a) old new text = Appends old new text
 IsWritten (Err Read) old new text = Appends old new text
@@ -57,7 +57,7 @@ StopsBy (Err Memory) stop count = stop ≡ cut
 abbrev pub IsUnfinishedOf : List ℕ → Option (List ℕ) → List ℕ → Type 0
 IsUnfinishedOf held left bytes = (prepend_known held left ≡ Some bytes) × IsUnfinished held
 
--- Where a read failed or memory ran out, every request that had come whole was answered: no other whole request stands after
+-- If a read failed or memory ran out, every request that had come whole was answered: no other whole request stands after
 -- the last of them in what was read.
 abbrev pub StopsUnfinished : Result Served ConnFault → Option (List ℕ) → List ℕ → Type 0
 StopsUnfinished (Ok served) left following = Unit {0}
@@ -66,8 +66,8 @@ StopsUnfinished (Err Write) left following = Unit {0}
 StopsUnfinished (Err EndInside) left following = Unit {0}
 StopsUnfinished (Err Memory) left following = (held : List ℕ) × IsUnfinishedOf held left following
 
--- Where a write failed, the replies before the last one were written whole, and of that one a front part. No
--- request after it was served.
+-- If a write failed, the replies before the last one were written whole, and of that one a front part. No request after it
+-- was served.
 pub record IsCutOff (old new : Option (List ℕ)) (exchanges : List Exchange) : Type 0 where
   pub before : List Exchange
   pub last : Exchange
@@ -144,7 +144,7 @@ Stays step.CleanEnd = ⊥
 Stays (step.Stays note) = Unit {0}
 Stays (step.Ends note) = ⊥
 
--- what holds where the input ended before a request stood whole
+-- what holds if the input ended before a request stood whole
 abbrev pub IfEnded : Result Step ConnFault → Type 0 → Type 0
 IfEnded (Ok step.CleanEnd) Fact = Fact
 IfEnded (Ok (step.Stays note)) Fact = Unit {0}

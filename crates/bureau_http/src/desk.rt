@@ -13,17 +13,17 @@ use bureau_store::{Caller, StoreFault};
 
 /// What answers calls, over any store and any judge.
 ///
-/// What is told of its tables is told where they are this product's own as the call begins and what lies below has
+/// What is told of its tables is told if they are this product's own as the call begins and what lies below has
 /// returned what was written, up to the call's end.
 pub trait Desk {
     /// How the desk is looked at, with its tables.
     ghost tables_view: { View Self Tables };
 
-    /// The caller whose token this is, or `None` where no caller has it.
+    /// The caller whose token this is, or `None` if no caller has it.
     ///
     /// # Errors
     ///
-    /// `Memory` where memory ran out, `Device` where what lies below has failed, now or before.
+    /// `Memory` if memory ran out, `Device` if what lies below has failed, now or before.
     fn caller_of(&mut self, token: &[u8]) -> Result<Option<Caller>, StoreFault>
         ensures reads { Reads tables_view self.old self.new result }
         ensures caller { IfOk result (λ found. Tells tables_view self.old self.new

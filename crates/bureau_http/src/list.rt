@@ -19,8 +19,8 @@ use std::alloc::Global;
 ///
 /// # Errors
 ///
-/// [`RunFault::Memory`] where memory runs out, with what was written to the connections before the one in
-/// hand, of which perhaps a part was served.
+/// [`RunFault::Memory`] if memory runs out, with what was written to the connections before the one in hand,
+/// of which perhaps a part was served.
 pub fn serve_list<D: Desk>(
     alloc: Global,
     desk: &mut D,

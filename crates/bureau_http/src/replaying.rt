@@ -16,9 +16,9 @@ use faults::AnyFault;
 use std::alloc::Global;
 use verdicts::Judge;
 
-/// Serves connections one after the other over a store in memory that begins with the callers of a file and
-/// nothing else, and gives what was written to each. It is told what that is where the judge is right for every content, as
-/// a judge that keeps nothing is, and a new one.
+/// Serves connections one after the other over a store in memory that begins with the callers of a file and nothing
+/// else, and gives what was written to each. It is told what that is if the judge is right for every content, as a
+/// judge that keeps nothing is, and a new one.
 ///
 /// # Errors
 ///

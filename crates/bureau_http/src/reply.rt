@@ -71,7 +71,7 @@ impl Told {
         }
     }
 
-    // The body, which is left out where only the head is asked for.
+    // The body, which is left out if only the head is asked for.
     fn body_for(&self, is_bare: bool) -> &[u8]
         ensures { result.now ≡ (if is_bare then [] else body_told (answer_told self.now)) }
     {
@@ -96,7 +96,7 @@ impl Told {
     ///
     /// # Errors
     ///
-    /// [`ConnFault::Write`] where a write fails, takes no byte, or is interrupted when no retry is left. A
+    /// [`ConnFault::Write`] if a write fails, takes no byte, or is interrupted when no retry is left. A
     /// front part of the reply was written then.
     pub(crate) fn write<W: Write>(
         &self,
@@ -136,7 +136,7 @@ fn status_numbered(number: u16) -> Status
     }
 }
 
-// Writes a head and a body: in one write where both fit the room.
+// Writes a head and a body: in one write if both fit the room.
 fn write_both<W: Write>(
     writer: &mut W,
     head: &[u8],

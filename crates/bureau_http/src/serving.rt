@@ -58,11 +58,10 @@ pub struct Retries {
 ///
 /// # Errors
 ///
-/// [`ConnFault::Read`] and [`ConnFault::Write`] where a read or write fails, or is interrupted for the 65th
-/// time in this connection; [`ConnFault::EndInside`] where its input ends inside a request; and
-/// [`ConnFault::Memory`] where memory runs out before the request in hand stands whole. The replies to the
-/// requests before it were written whole, and no request after it was served. After `Read` and `Memory` no request that
-/// had come whole is left unanswered.
+/// [`ConnFault::Read`] and [`ConnFault::Write`] if a read or write fails, or is interrupted for the 65th time in this
+/// connection; [`ConnFault::EndInside`] if its input ends inside a request; and [`ConnFault::Memory`] if memory runs
+/// out before the request in hand stands whole. The replies to the requests before it were written whole, and no
+/// request after it was served. After `Read` and `Memory` no request that had come whole is left unanswered.
 pub fn serve_one<D: Desk, R: Read, W: Write>(
     alloc: Global,
     desk: &mut D,
@@ -128,15 +127,13 @@ pub(crate) fn serve_connection<D: Desk, R: Read, W: Write>(
 /// Serves what stands next in a connection: reads its request at this ordinal, counted from 1, answers it, and
 /// writes the reply. Bytes that came further stay in the intake, for the next one.
 ///
-/// It reads no byte where a whole request is at hand. Where the input ends before, the bytes that came stay in the
-/// intake. In any case the bytes that are left, in the intake and in the reader, are the last of those that were
-/// there.
+/// It reads no byte if a whole request is at hand. If the input ends before, the bytes that came stay in the intake. In
+/// any case the bytes that are left, in the intake and in the reader, are the last of those that were there.
 ///
 /// # Errors
 ///
-/// [`ConnFault::Read`], [`ConnFault::EndInside`] and [`ConnFault::Memory`] where no request stands whole; the desk
-/// is asked nothing then. [`ConnFault::Write`] where the request was answered, and a front part of the reply
-/// written.
+/// [`ConnFault::Read`], [`ConnFault::EndInside`] and [`ConnFault::Memory`] if no request stands whole; the desk is
+/// asked nothing then. [`ConnFault::Write`] if the request was answered, and a front part of the reply written.
 pub fn serve_next<D: Desk, R: Read, W: Write>(
     desk: &mut D,
     routes: &Routes,

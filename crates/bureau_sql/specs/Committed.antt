@@ -18,7 +18,7 @@ pub record HaveChange (database : Database) (change : Stored → Stored) (trees 
   pub version : trees 0 ≡ database.trees 0
   pub rows : stored_in trees ≡ change (held_by database)
 
--- the same of what was committed, where the connection was open and its database ours
+-- the same of what was committed, if the connection was open and its database ours
 abbrev pub AreChanged : State → (Stored → Stored) → Trees → Type 0
 AreChanged old change trees = IsTrue old.is_open → IsOurs old.committed → HaveChange old.committed change trees
 

@@ -38,6 +38,6 @@ FailsToChange g update old new fault =
 abbrev pub FailsToEnd : {Answer : Type 0} → Result Answer Error → State → State → Error → Type 0
 FailsToEnd written old new error = (written ≡ Err error) ⊎ (IsOk written × FailsToCommit old new error)
 
--- a refusal of a connection at rest has an excuse, where what was committed is such a database
+-- a refusal of a connection at rest has an excuse, if what was committed is such a database
 abbrev pub RefusesExcused : {Answer : Type 0} → State → State → Result Answer Error → (Database → Type 0) → Type 0
 RefusesExcused old new result From = IfErr result (λ error. HasCleanDisk new → From old.committed → Excuses old new error)

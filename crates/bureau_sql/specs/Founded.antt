@@ -10,7 +10,7 @@ use Rattle.sqlite_trees.specs.Tree.{Trees}
 use Rattle.sql_writes.specs.Making.{AreFit, IsEmpty, IsOpened}
 use Rattle.bureau_sql.specs.Failing.{CannotWrite}
 
--- the connection was open, and the trees are those of a database of the second kind where what was committed is of the first
+-- the connection was open, and the trees are those of a database of the second kind if what was committed is of the first
 abbrev pub AreLed : State → (Database → Type 0) → (Database → Type 0) → Trees → Type 0
 AreLed old From To trees = IsTrue old.is_open × (From old.committed → (database : Database) × To database × (database.trees ≡ trees))
 
@@ -25,7 +25,7 @@ abbrev pub AreFounded : State → List CallerRow → Trees → Type 0
 AreFounded old callers trees =
     IsTrue old.is_open × IsEmpty old.committed × ((database : Database) × IsOpened callers database × (database.trees ≡ trees))
 
--- Why a store isn't made: of an open connection the fault is `Shape` just where the database isn't empty.
+-- Why a store isn't made: of an open connection the fault is `Shape` just if the database isn't empty.
 pub record IsNotMade (at : State) (fault : StoreFault) : Type 0 where
   pub taken : IsTrue at.is_open → (fault ≡ Shape) ↔ (IsEmpty at.committed → ⊥)
   pub other : fault ≢ Shape → IsOfCall fault

@@ -34,7 +34,7 @@ pub record IsUntouched (old new : State) : Type 0 where
   pub keeps : HasCleanDisk new → KeepsCommit old new
   pub left : HasCleanDisk new → (trees : Trees) → new.may_leave trees → old.may_leave trees ⊎ (IsTrue old.is_open × (trees ≡ old.committed.trees))
 
--- So it is after a refusal for anything but the device. But where memory was too short to see whether the connection is open,
+-- So it is after a refusal for anything but the device. But if memory was too short to see whether the connection is open,
 -- the device may have failed besides.
 abbrev pub LeavesUntouched : State → State → StoreFault → Type 0
 LeavesUntouched old new fault =

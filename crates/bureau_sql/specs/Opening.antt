@@ -130,7 +130,7 @@ IsNoStore = IsNotOf 2 LacksConditions IsOurs IsOfVersion1 (λ old new. ⊥)
 abbrev pub IsOutOfReach : State → State → StoreFault → Type 0
 IsOutOfReach old new fault = (fault ≡ Memory) ⊎ ((fault ≡ Device) × HasFailed old new)
 
--- A change was begun of a database that was taken for one of version 1, and is refused. Where it is ours, the device failed.
+-- A change was begun of a database that was taken for one of version 1, and is refused. If it is ours, the device failed.
 abbrev pub IsNotMigrated : State → State → Type 0
 IsNotMigrated old new = IsTaken old.committed × (IsOfVersion1 old.committed → CannotWrite old new)
 
@@ -140,8 +140,8 @@ IsNotEarlier = IsNotOf 1 CannotMakeConditions IsOfVersion1 IsOurs IsNotMigrated
 
 -- ---- No part of what is promised: private contracts cite it.
 
--- What a look saw of the committed tables, where it is refused for their shape or for their version; or memory ran out; or
--- the device failed, or the tables of the version show nothing.
+-- What a look saw of the committed tables, if it is refused for their shape or for their version; or memory ran out; or the
+-- device failed, or the tables of the version show nothing.
 abbrev pub IsSeen : (Database → Type 0) → (Database → Type 0) → State → State → StoreFault → Type 0
 IsSeen Shaped Versioned old new Shape = IsTrue old.is_open × Shaped old.committed
 IsSeen Shaped Versioned old new Version = IsTrue old.is_open × Versioned old.committed

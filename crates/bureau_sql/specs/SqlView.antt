@@ -31,7 +31,7 @@ module _ {S : Type 0} (g : Ghosts S) where
       ((trees : Trees) → (shown store).may_leave trees → AreOurs trees)
       × (store.failures ≡ 0 → IsTrue (shown store).is_open × IsOurs (shown store).committed)
 
-  -- What a read leaves: nothing is committed, and the connection stays open where no failure is counted.
+  -- What a read leaves: nothing is committed, and the connection stays open if no failure is counted.
   pub record Stays (old new : SqlState S) : Type 0 where
     pub reads : OnlyReads (shown old) (shown new)
     pub failures_rise : old.failures ≤ new.failures

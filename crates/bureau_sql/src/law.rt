@@ -13,7 +13,7 @@ ghost use Rattle.sql_tables.specs.Stored.{tables_of};
 ghost use Rattle.sql_writes.specs.Making.{AreFit};
 ghost use Rattle.bureau_sql.specs.Files.{HoldsEarlier, HoldsStore};
 
-/// An opening that finds the database which the files hold finds the bureau's own where they hold it, with the tables
+/// An opening that finds the database which the files hold finds the bureau's own if they hold it, with the tables
 /// that they hold: of this version, or of version 1.
 pub fn found()
     ensures ours { (image : Image) (database : Database) (this : Tables) → IsDatabase database

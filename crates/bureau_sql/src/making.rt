@@ -47,9 +47,9 @@ fn found<S: Alter>(conn: &mut Connection<S>, callers: &[CallerRow]) -> Result<()
 ///
 /// # Errors
 ///
-/// [`StoreFault::Shape`] where a table, an index or a view is there already; `Memory`, `Size` or `Device` where memory
-/// or room ran out or the device failed. `Device` also where two callers have one name or one token. Nothing is
-/// committed then.
+/// [`StoreFault::Shape`] if a table, an index or a view is there already; `Memory`, `Size` or `Device` if memory or
+/// room ran out or the device failed. `Device` also if two callers have one name or one token. Nothing is committed
+/// then.
 pub fn init<S: Alter>(conn: &mut Connection<S>, callers: &[CallerRow]) -> Result<(), StoreFault>
     requires rest { conn.old.in_transaction ≡ false }
     ensures opened { OnOk result (HasCleanDisk (state S.Store conn.new)

@@ -37,7 +37,7 @@ fn migrated<S: Alter>(conn: &mut Connection<S>) -> Result<(), Error>
     end(tx, written)
 }
 
-// Why the transaction was refused. Only an open connection is told to be out of room. Where memory is too short to see
+// Why the transaction was refused. Only an open connection is told to be out of room. If memory is too short to see
 // whether it is open, that is told.
 fn refusal<S: Alter>(conn: &mut Connection<S>, error: Error) -> StoreFault
     requires rest { conn.old.in_transaction ≡ false }
@@ -69,11 +69,11 @@ fn refusal<S: Alter>(conn: &mut Connection<S>, error: Error) -> StoreFault
 ///
 /// # Errors
 ///
-/// [`StoreFault::Version`] where the tables are of another version than 1, [`StoreFault::Shape`] where one of them or of
-/// their columns is missing, or where there is a table of requisites under a condition already; `Memory` or `Size` where
+/// [`StoreFault::Version`] if the tables are of another version than 1, [`StoreFault::Shape`] if one of them or of
+/// their columns is missing, or if there is a table of requisites under a condition already; `Memory` or `Size` if
 /// memory or room ran out. Each of these leaves the file as it was, unless the device failed besides and memory was too
-/// short to see it. `Device` where the device failed, or where the tables are somebody else's and their own rules refuse
-/// the change: then a stop may have left either.
+/// short to see it. `Device` if the device failed, or if the tables are somebody else's and their own rules refuse the
+/// change: then a stop may have left either.
 #[tactic(auto, using(crate::proofs::OpenFacts::conditions_to_make))]
 pub fn migrate<S: Alter>(conn: &mut Connection<S>) -> Result<(), StoreFault>
     requires rest { conn.old.in_transaction ≡ false }

@@ -13,7 +13,7 @@ use sql_texts::write::rollback;
 use sqlite::{Connection, Error, ErrorCode};
 use sqlite_trees::store::Alter;
 
-/// Looks whether the connection is open: `Memory` where memory ran out, so that nothing is known, and `Device` where it
+/// Looks whether the connection is open: `Memory` if memory ran out, so that nothing is known, and `Device` if it
 /// isn't. Outside a transaction an open one refuses ROLLBACK as a query, and nothing changes.
 pub(crate) fn look<S: Alter>(conn: &mut Connection<S>) -> Result<(), StoreFault>
     requires { conn.old.in_transaction ≡ false }

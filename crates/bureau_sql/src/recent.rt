@@ -69,8 +69,8 @@ impl Model for RowsRead {
     ghost invariant = { λ read. RowsAscend read.rows.items };
 }
 
-/// Answers of reads since the last change, of each kind at most so many. Where there is no memory to keep or to copy
-/// one, it is read anew.
+/// Answers of reads since the last change, of each kind at most so many. If there is no memory to keep or to copy one,
+/// it is read anew.
 #[derive(Drop)]
 pub(crate) struct Recent {
     tokens: Vec<TokenRead>,
@@ -153,7 +153,7 @@ impl Recent {
 }
 
 impl Recent {
-    /// Keeps whose token this is, where that was found.
+    /// Keeps whose token this is, if that was found.
     pub(crate) fn keep_caller(
         &mut self,
         alloc: Global,
@@ -174,7 +174,7 @@ impl Recent {
         put(&mut self.tokens, TokenRead { token, caller });
     }
 
-    /// Keeps the zones of a client, where they were found.
+    /// Keeps the zones of a client, if they were found.
     pub(crate) fn keep_zones(
         &mut self,
         alloc: Global,
@@ -194,7 +194,7 @@ impl Recent {
         put(&mut self.zones, ZonesRead { client, zones });
     }
 
-    /// Keeps the rows of a client's zone, where they were found.
+    /// Keeps the rows of a client's zone, if they were found.
     pub(crate) fn keep_rows(
         &mut self,
         alloc: Global,
@@ -218,7 +218,7 @@ impl Recent {
     }
 }
 
-// Puts an answer to the others, if there is memory for it. Where there are as many as are kept, they go first.
+// Puts an answer to the others, if there is memory for it. If there are as many as are kept, they go first.
 fn put<A: Drop>(kept: &mut Vec<A>, answer: A)
     ensures { (one : A) → Contains kept.new.items one → Contains kept.old.items one ⊎ (one ≡ answer) }
 {

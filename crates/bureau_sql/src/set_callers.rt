@@ -38,7 +38,7 @@ impl<S: Alter> SqlStore<S> {
     ///
     /// # Errors
     ///
-    /// `Memory` where memory ran out, `Device` where the device failed, now or before.
+    /// `Memory` if memory ran out, `Device` if the device failed, now or before.
     pub fn callers(&mut self) -> Result<Vec<CallerRow>, StoreFault>
         ensures reads { Reads (sql_view S.Store) self.old self.new result }
         ensures callers { IfOk result (λ callers. Tells (sql_view S.Store) self.old self.new
@@ -78,8 +78,8 @@ impl<S: Alter> SqlStore<S> {
     ///
     /// # Errors
     ///
-    /// `Memory` or `Size` where memory or room ran out; `Device` where the device failed, now or before, and where
-    /// two of the callers have one name or one token. The tables are as they were.
+    /// `Memory` or `Size` if memory or room ran out; `Device` if the device failed, now or before, and if two of the
+    /// callers have one name or one token. The tables are as they were.
     pub fn set_callers(&mut self, callers: &[CallerRow]) -> Result<CallerCounts, StoreFault>
         ensures { SetsCallers (sql_view S.Store) callers.now self.old self.new result }
     {

@@ -53,8 +53,8 @@ impl<S: Alter> Model for SqlStore<S> {
 }
 
 impl<S: Alter> SqlStore<S> {
-    /// The store that a connection holds, where one was made, found or migrated there. Nothing is looked at, and no failure
-    /// is counted yet. The connection isn't in a transaction.
+    /// The store that a connection holds, if one was made, found or migrated there. Nothing is looked at, and no
+    /// failure is counted yet. The connection isn't in a transaction.
     pub fn over(alloc: Global, conn: Connection<S>) -> SqlStore<S>
         requires rest { conn.in_transaction ≡ false }
         ensures same { (result.conn ≡ conn) × (result.failures ≡ 0) }
@@ -113,7 +113,7 @@ impl<S: Alter> SqlStore<S> {
 }
 
 impl<S: Alter> SqlStore<S> {
-    // Refuses a call with this fault where a failure has closed the store: then this call fails too.
+    // Refuses a call with this fault if a failure has closed the store: then this call fails too.
     pub(crate) fn check_open<F: Copy>(&mut self, closed: F) -> Result<(), F>
         ensures closed { IfErr result (λ fault. (fault ≡ closed) × (self.new.conn ≡ self.old.conn)
             × (self.old.failures ≤ self.new.failures)
@@ -151,7 +151,7 @@ impl<S: Alter> SqlStore<S> {
         }
     }
 
-    // Tells that a read was refused. Where memory ran out, the connection may have been closed, so it is looked at.
+    // Tells that a read was refused. If memory ran out, the connection may have been closed, so it is looked at.
     fn refused(&mut self, fault: ReadFault) -> SourceFault
         ensures reads { OnlyReads (shown S.Store self.old) (shown S.Store self.new) }
         ensures rises { self.old.failures ≤ self.new.failures }

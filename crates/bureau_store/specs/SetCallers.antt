@@ -74,12 +74,12 @@ counts_of old new = record {
 -- ---- what a store keeps to
 
 module _ {Store : Type 0} (view : View Store Tables) where
-  -- What a change of the tables keeps to, where it is due: done, they are the next ones; refused, they are as they were.
+  -- What a change of the tables keeps to, if it is due: done, they are the next ones; refused, they are as they were.
   pub record ChangesTo {Done : Type 0} (IsDueIn : Tables → Type 0) (next : Tables → Tables) (old new : Store) (answer : Result Done StoreFault) : Type 0 where
     pub goes : Goes view old new
     pub done : OnOk answer (view.is_ours old → view.is_clean new → (this : Tables) → IsDueIn this → view.stands old this → view.stands new (next this))
     pub refused : OnErr answer (view.is_ours old → view.is_clean new → (this : Tables) → view.stands old this → view.stands new this)
-    -- why it is refused: for the device only where it failed
+    -- why it is refused: for the device only if it failed
     pub refusal : IfErr answer IsOfCall
     pub cause : IsErrOf answer Device → HasFailed view old new
     pub is_open : (IsErrOf answer Device → ⊥) → IsOpen view new

@@ -92,7 +92,7 @@ module _ {Store : Type 0} (view : View Store Tables) where
     pub goes : Goes view old new
     pub done : OnOk answer (view.is_ours old → view.is_clean new → (this : Tables) → IsDue update this → view.stands old this → view.stands new (updated update this))
     pub refused : OnErr answer (view.is_ours old → view.is_clean new → (this : Tables) → view.stands old this → view.stands new this)
-    -- why it is refused: for the device only where it failed, and for want of room only where the change has outgrown it
+    -- why it is refused: for the device only if it failed, and for want of room only if the change has outgrown it
     pub refusal : IfErr answer IsOfCall
     pub cause : IsErrOf answer Device → HasFailed view old new
     pub is_open : (IsErrOf answer Device → ⊥) → IsOpen view new

@@ -32,9 +32,9 @@ pub const CALLER_RECORDS: u32 = 10_000;
 ///
 /// # Errors
 ///
-/// The first fault of the file: `CallerHeader`; by record `BadCaller` where it has not two fields, where
-/// they are no name and no token, where the name or the token came before, and at record
-/// [`CALLER_RECORDS`] + 1; `NoPublisher`. `Memory` may come in place of any answer.
+/// The first fault of the file: `CallerHeader`; by record `BadCaller` if it has not two fields, if they are no name and
+/// no token, if the name or the token came before, and at record [`CALLER_RECORDS`] + 1; `NoPublisher`. `Memory` may
+/// come in place of any answer.
 pub fn callers(alloc: Global, text: &[u8]) -> Result<Vec<CallerRow>, CallerFault>
     ensures rows { IfOk result (λ rows. Callers.callers_of text.now ≡ Ok rows.items) }
     ensures fault { IfErr result (IsRefusal CallerFault.Memory

@@ -20,7 +20,7 @@ pub(crate) fn client_of<'a>(clients: &'a BTreeMap<Id, Client>, name: &Id) -> Opt
     clients.get(name)
 }
 
-/// Makes a change of one client's. Where memory runs out, all clients have what they had.
+/// Makes a change of one client's. If memory runs out, all clients have what they had.
 pub(crate) fn make_for(
     alloc: Global,
     clients: &mut BTreeMap<Id, Client>,

@@ -10,7 +10,7 @@ pub enum Effect<'a> {
     Publication {
         changes: &'a [Change],
     },
-    /// A client's zone gets these rows. It keeps its patterns where it was there before.
+    /// A client's zone gets these rows. It keeps its patterns if it was there before.
     ZonePut {
         client: &'a Id,
         zone: &'a Id,

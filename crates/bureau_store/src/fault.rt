@@ -19,7 +19,7 @@ pub enum StoreFault {
     /// The device has no room for more.
     #[error("the store is full")]
     Size,
-    /// The file has no tables of a store, or has some where there are to be none.
+    /// The file has no tables of a store, or has some if there are to be none.
     #[error("the file isn't a store as it is wanted")]
     Shape,
     /// The store was made by another version of this product.

@@ -169,7 +169,7 @@ impl Client {
         self.received.as_slice()
     }
 
-    /// Makes a change, which is the client's last from now on. Where memory runs out, all is as it was.
+    /// Makes a change, which is the client's last from now on. If memory runs out, all is as it was.
     pub(crate) fn make(&mut self, effect: &Effect<'_>, last: Last) -> Result<(), NoMemory>
         requires { IsAscending effect.now }
         ensures done { OnOk result (self.new ≡ client_after (effect_as effect.now) last self.old) }

@@ -180,7 +180,7 @@ impl ListStore {
         }
     }
 
-    // Makes a publication. Where memory runs out, the tables are as they were.
+    // Makes a publication. If memory runs out, the tables are as they were.
     fn make_publication(&mut self, changes: &[Change], last: Last) -> Result<(), NoMemory>
         ensures done { OnOk result (tables_of self.new
             ≡ tables_after OfPublisher (publication changes.now) last (tables_of self.old)) }
@@ -192,7 +192,7 @@ impl ListStore {
         Ok(())
     }
 
-    // Makes a client's change. Where memory runs out, the tables are as they were.
+    // Makes a client's change. If memory runs out, the tables are as they were.
     fn make_client(&mut self, client: &Id, effect: &Effect<'_>, last: Last) -> Result<(), NoMemory>
         requires client { maker_of effect.now ≡ OfClient client.now }
         requires ascending { IsAscending effect.now }

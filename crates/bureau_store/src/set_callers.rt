@@ -28,7 +28,7 @@ pub struct CallerCounts {
     pub tokens: u64,
 }
 
-/// The names of all callers that come or go where these are the callers before and after: those that come, and then
+/// The names of all callers that come or go if these are the callers before and after: those that come, and then
 /// those that are gone. And how many they are.
 ///
 /// # Errors

@@ -21,17 +21,16 @@ use zone_lists::{Pattern, ZoneRow};
 
 /// All that the bureau keeps, in lists or in a file.
 ///
-/// Reads leave the tables as they are, and a list of what isn't there is empty. Each change replaces
-/// what it names whole and sets the caller's last number and reply, at once; refused, the tables are
-/// unchanged. What a change does is said where it is due: one of the callers makes it, with that caller's next number,
-/// and the zone that it names is there. What is told of the tables is told where the file was this product's own as
-/// the call began and the disk has returned what was written, up to the call's end; of lists that is always true.
-/// Lists ascend in any case, each entry once.
+/// Reads leave the tables as they are, and a list of what isn't there is empty. Each change replaces what it names
+/// whole and sets the caller's last number and reply, at once; refused, the tables are unchanged. What a change does is
+/// said if it is due: one of the callers makes it, with that caller's next number, and the zone that it names is there.
+/// What is told of the tables is told if the file was this product's own as the call began and the disk has returned
+/// what was written, up to the call's end; of lists that is always true. Lists ascend in any case, each entry once.
 ///
 /// # Errors
 ///
-/// `Memory` where memory ran out; `Device` where the device failed, now or before; of a change alone, `Size` where
-/// there was no room for it on the device. A refused call changes nothing.
+/// `Memory` if memory ran out; `Device` if the device failed, now or before; of a change alone, `Size` if there was no
+/// room for it on the device. A refused call changes nothing.
 pub trait Store: Published {
     /// How the store is looked at, with all its tables.
     ghost tables_view: { View Self Tables };
@@ -48,7 +47,7 @@ pub trait Store: Published {
     fn device_failed(&self) -> bool
         ensures { result ≡ nat_lt 0 (tables_view.failures self.now) };
 
-    /// The caller whose token this is, or `None` where no caller has it.
+    /// The caller whose token this is, or `None` if no caller has it.
     fn caller_of(&mut self, token: &[u8]) -> Result<Option<Caller>, StoreFault>
         ensures reads { Reads tables_view self.old self.new result }
         ensures caller { IfOk result (λ found. Tells tables_view self.old self.new
@@ -92,7 +91,7 @@ pub trait Store: Published {
         ensures found { IfOk result (λ found. Tells tables_view self.old self.new
             (λ tables. found ≡ is_some (zone_named zone.now (tables.zones client.now)))) };
 
-    /// The rows of a zone, ascending, or `None` where the client has no such zone.
+    /// The rows of a zone, ascending, or `None` if the client has no such zone.
     fn zone(&mut self, client: &Id, zone: &Id) -> Result<Option<Vec<ZoneRow>>, StoreFault>
         requires { IsProper (Client client.now) }
         ensures reads { Reads tables_view self.old self.new result }
@@ -151,7 +150,7 @@ pub trait Store: Published {
         self.make(number, reply, &Effect::Publication { changes })
     }
 
-    /// Puts a client's zone, which keeps its patterns where it was there before.
+    /// Puts a client's zone, which keeps its patterns if it was there before.
     fn put_zone(
         &mut self,
         client: &Id,

@@ -7,7 +7,7 @@ use Rattle.holddata.specs.declared.fault.HoldFault.TheVariants as hold
 use Rattle.catalogue.specs.declared.fault.CatFault.{CatFault}
 use Rattle.catalogue.specs.declared.fault.CatFault.TheVariants.{VerOutside, IfOutside, IfFmid, BadId, Held, Memory}
 
--- The number that is printed, the line on which the statement begins, where it has one, and what is at fault. A hold's fault
+-- The number that is printed, the line on which the statement begins, if it has one, and what is at fault. A hold's fault
 -- has its own.
 abbrev pub told : CatFault → AnyFault
 told (VerOutside line) = at_place 21 line

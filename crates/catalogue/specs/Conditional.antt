@@ -1,4 +1,4 @@
--- Requisites under a condition (IBM z/OS SMP/E Reference, `++IF`): a function, and what has to be installed where it is.
+-- Requisites under a condition (IBM z/OS SMP/E Reference, `++IF`): a function, and what has to be installed if it is.
 use Rattle.std.specs.Prelude.{ℕ, List, map}
 use Rattle.std.specs.BTreeSet.{insert_key}
 use Rattle.std.specs.List.{fold}
@@ -20,6 +20,6 @@ CondsAscend conds = IsStrictlySortedBy cond_cmp conds
 abbrev pub put_conds : List CondNeed → List CondNeed → List CondNeed
 put_conds conds more = fold (insert_key cond_cmp) conds more
 
--- each of some SYSMODs, required where a function is installed
+-- each of some SYSMODs, required if a function is installed
 abbrev pub required_under : List ℕ → List (List ℕ) → List CondNeed
 required_under fmid needs = map (λ need. record { fmid = fmid; need = need }) needs

@@ -29,7 +29,7 @@ pub data Part : Type 0 where
   Header : SysmodKind → Part
   -- it says more of the SYSMOD that was begun
   More : Part
-  -- it says what that SYSMOD needs where a function is installed
+  -- it says what that SYSMOD needs if a function is installed
   OnCondition : Part
   -- it puts or releases a hold
   OnHold : Part
@@ -77,7 +77,7 @@ ifs_in_front (statement ∷ statements) = ifs_in (part_of statement) statement (
 abbrev pub ids_joined : List ℕ → List Statement → List (List ℕ)
 ids_joined name vers = in_order (flat_map (ids_given name) vers)
 
--- what an `++IF` requires: each id that its REQ gives, where the one function that its FMID gives is installed
+-- what an `++IF` requires: each id that its REQ gives, if the one function that its FMID gives is installed
 abbrev pub conds_under : Option (List ℕ) → List (List ℕ) → List CondNeed
 conds_under None needs = []
 conds_under (Some fmid) needs = required_under fmid needs
@@ -108,7 +108,7 @@ changes_by More statement vers ifs = []
 changes_by OnCondition statement vers ifs = []
 changes_by OnHold statement vers ifs = option_to_list (option_map OfHold (holddata.change_of statement))
 
--- what statements publish, in order, where none has a fault
+-- what statements publish, in order, if none has a fault
 abbrev pub changes_of : List Statement → List Change
 changes_of [] = []
 changes_of (statement ∷ statements) =
@@ -209,7 +209,7 @@ with_part OnHold statement begun = record begun { after = begun.after ++ option_
 abbrev pub with_statement : Begun → Statement → Begun
 with_statement begun statement = with_part (part_of statement) statement begun
 
--- of statements without faults a record is open exactly where a header is among them
+-- of statements without faults a record is open exactly if a header is among them
 abbrev pub HeadersOpen : Type 0
 HeadersOpen = (statements : List Statement) → first_fault false statements ≡ None
     → is_some (fold with_statement nothing_begun statements).open_record ≡ list_any (λ statement. is_header (part_of statement)) statements

@@ -51,7 +51,7 @@ module _ {Source Held : Type 0} (view : View Source Held) where
     pub stays : view.is_ours old → view.is_clean new → (this : Held) → view.stands old this → view.stands new this
     pub leaves : view.is_ours old → view.is_clean new → (this : Held) → view.may_leave new this → view.may_leave old this
 
-  -- What a call tells: a fact of what the source holds, where the file was ours and the disk has proved clean.
+  -- What a call tells: a fact of what the source holds, if the file was ours and the disk has proved clean.
   pub record Tells (old new : Source) (Fact : Held → Type 0) : Type 0 where
     pub told : view.is_ours old → view.is_clean new → (this : Held) → view.stands old this → Fact this
 
@@ -59,8 +59,8 @@ module _ {Source Held : Type 0} (view : View Source Held) where
   abbrev pub HasFailed : Source → Source → Type 0
   HasFailed old new = (view.failures old < view.failures new) ⊎ (view.failures new ≡ most_failures)
 
-  -- What may ask the source leaves what it holds. It answers a fault of the device only where one came, and nothing else
-  -- closes the source.
+  -- What may ask the source leaves what it holds. It answers a fault of the device only if one came, and nothing else closes
+  -- the source.
   pub record MayAsk {Answer Fault : Type 0} (device : Fault) (old new : Source) (answer : Result Answer Fault) : Type 0 where
     pub keeps : view.keeps old new
     pub cause : IsErrOf answer device → HasFailed old new
@@ -72,8 +72,8 @@ module _ {Source Held : Type 0} (view : View Source Held) where
     pub cause : IsErrOf answer device → HasFailed old new
     pub is_open : (IsErrOf answer device → ⊥) → IsOpen new
 
-  -- What a view means by keeping: to leave what is held. Nothing changes where nothing is called, and what one call
-  -- keeps and then another, both together keep. A source that is open holds one thing.
+  -- What a view means by keeping: to leave what is held. Nothing changes if nothing is called, and what one call keeps and
+  -- then another, both together keep. A source that is open holds one thing.
   pub record IsLawful : Type 0 where
     pub keeps : (old new : Source) → view.keeps old new → Keeps old new
     pub itself : (source : Source) → view.keeps source source

@@ -27,7 +27,7 @@ const NAMES: [&[u8]; 15] = [
 ];
 
 /// The names of the operands that say something of what is published: those of [`holddata::hold_operands`], of a
-/// `++VER` FMID, PRE, REQ and SUP, and of an `++IF` FMID and REQ. Where statements are read with these, and maybe with
+/// `++VER` FMID, PRE, REQ and SUP, and of an `++IF` FMID and REQ. If statements are read with these, and maybe with
 /// more, they publish what they publish with all of their operands, and have the same faults.
 pub fn publication_operands() -> &'static [&'static [u8]]
     ensures names { bytes_of_each result.now ≡ publication_operands }

@@ -14,7 +14,7 @@ use std::marker::Model;
 pub struct CondNeed {
     /// The function on which it depends (operand FMID).
     pub fmid: Id,
-    /// What has to be installed where the function is (operand REQ).
+    /// What has to be installed if the function is (operand REQ).
     pub need: Id,
 }
 
@@ -46,7 +46,7 @@ impl CondNeeds {
         }
     }
 
-    /// Those of a list, or `None` where they don't ascend or one comes twice. It takes no memory.
+    /// Those of a list, or `None` if they don't ascend or one comes twice. It takes no memory.
     pub fn from_ascending(conds: Vec<CondNeed>) -> Option<Self>
         ensures conds { IfSome result (λ list. list ≡ conds.items) }
         ensures ascending { (is_some result ≡ true) ↔ CondsAscend conds.items }

@@ -127,7 +127,7 @@ fn ids_named(
     Ok(listed(alloc, ids)?)
 }
 
-// Puts what is required where a function is installed among the others.
+// Puts what is required if a function is installed among the others.
 fn put_conds(conds: &mut BTreeSet<CondNeed>, fmid: Id, needs: &[Id]) -> Result<(), NoMemory>
     ensures { OnOk result (conds.new.keys ≡ spec.put_conds conds.old.keys (required_under fmid needs.now)) }
 {

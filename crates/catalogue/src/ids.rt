@@ -35,7 +35,7 @@ impl Ids {
         }
     }
 
-    /// The ids of a list, or `None` where they don't ascend or one comes twice. It takes no memory.
+    /// The ids of a list, or `None` if they don't ascend or one comes twice. It takes no memory.
     pub fn from_ascending(ids: Vec<Id>) -> Option<Self>
         ensures ids { IfSome result (λ list. list ≡ ids.items) }
         ensures ascending { (is_some result ≡ true) ↔ Ascend ids.items }

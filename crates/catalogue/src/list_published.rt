@@ -88,7 +88,7 @@ impl ListPublished {
     ///
     /// # Errors
     ///
-    /// `NoMemory` where memory ran out: the content is as it was.
+    /// `NoMemory` if memory ran out: the content is as it was.
     pub fn publish(&mut self, changes: &[Change]) -> Result<(), NoMemory>
         ensures after { OnOk result (self.new ≡ after self.old changes.now) }
         ensures is_after { OnOk result (IsAfter self.old changes.now self.new) }

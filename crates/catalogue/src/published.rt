@@ -14,9 +14,9 @@ use std::alloc::Global;
 
 /// A source of the published content: lists, or a file.
 ///
-/// What is told of the content is told where the file was this product's own as the call began and the
-/// disk has returned what was written, up to the call's end; of lists that is always true. Lists ascend
-/// in any case, each entry once: rows that don't are a fault of the device.
+/// What is told of the content is told if the file was this product's own as the call began and the disk has
+/// returned what was written, up to the call's end; of lists that is always true. Lists ascend in any case, each
+/// entry once: rows that don't are a fault of the device.
 pub trait Published {
     /// How the source is looked at, and what is published.
     ghost content_view: { View Self Content };
@@ -25,7 +25,7 @@ pub trait Published {
     ///
     /// # Errors
     ///
-    /// `Memory` where memory ran out; `Device` where what lies below has failed, now or before, or tells rows out of
+    /// `Memory` if memory ran out; `Device` if what lies below has failed, now or before, or tells rows out of
     /// order.
     fn ids(&mut self) -> Result<Vec<Id>, SourceFault>
         ensures asks { Asks content_view Device self.old self.new result }
@@ -33,7 +33,7 @@ pub trait Published {
             (λ content. ids.items ≡ ids_of content)) }
         ensures ascend { IfOk result (λ ids. Ascend ids.items) };
 
-    /// The record of a SYSMOD, or `None` where it isn't catalogued.
+    /// The record of a SYSMOD, or `None` if it isn't catalogued.
     ///
     /// # Errors
     ///

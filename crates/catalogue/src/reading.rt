@@ -20,10 +20,10 @@ use std::marker::Model;
 ///
 /// # Errors
 ///
-/// The first statement with a fault decides, and in it the fault that stands first here: `VerOutside` where no
-/// header stands before a `++VER`, `IfOutside` where none stands before an `++IF`, `IfFmid` where an `++IF` has not
-/// just one value of FMID, `BadId` where FMID, PRE, REQ or SUP has a value that is no id, `Held` for a fault of a hold
-/// or a release. `Memory` may come in place of any answer.
+/// The first statement with a fault decides, and in it the fault that stands first here: `VerOutside` if no header
+/// stands before a `++VER`, `IfOutside` if none stands before an `++IF`, `IfFmid` if an `++IF` has not just one value
+/// of FMID, `BadId` if FMID, PRE, REQ or SUP has a value that is no id, `Held` for a fault of a hold or a release.
+/// `Memory` may come in place of any answer.
 pub fn read_changes(alloc: Global, statements: &[Statement]) -> Result<Vec<Change>, CatFault>
     ensures changes { IfOk result (λ changes. changes.items ≡ changes_of statements.now) }
     ensures no_fault { OnOk result (first_fault false statements.now ≡ None) }
@@ -72,11 +72,11 @@ impl ChangeReader {
         }
     }
 
-    /// Takes one more statement (see [`read_changes`]). Where it is refused, nothing of what was read is left.
+    /// Takes one more statement (see [`read_changes`]). If it is refused, nothing of what was read is left.
     ///
     /// # Errors
     ///
-    /// The fault of this statement, as [`read_changes`] tells it; `Memory` where memory ran out.
+    /// The fault of this statement, as [`read_changes`] tells it; `Memory` if memory ran out.
     pub fn take(self, statement: &Statement) -> Result<Self, CatFault>
         ensures read { IfOk result (λ now. now ≡ with_statement self statement.now) }
         ensures no_fault { OnOk result (faults_of (is_some self.open_record) statement.now ≡ []) }
@@ -98,7 +98,7 @@ impl ChangeReader {
     ///
     /// # Errors
     ///
-    /// `NoMemory` where memory ran out.
+    /// `NoMemory` if memory ran out.
     pub fn finish(self) -> Result<Vec<Change>, NoMemory>
         ensures changes { IfOk result (λ changes. changes.items ≡ changes_in self) }
 

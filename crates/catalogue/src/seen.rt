@@ -7,7 +7,7 @@ use std::marker::Model;
 /// What is published of one SYSMOD. A contract sees it with its lists.
 #[derive(Debug, Drop)]
 pub struct Seen {
-    /// Its record, or `None` where it isn't catalogued.
+    /// Its record, or `None` if it isn't catalogued.
     pub sysmod: Option<Sysmod>,
     /// The holds on it, in the order of their keys.
     pub holds: Vec<Hold>,

@@ -33,7 +33,7 @@ pub struct Sysmod {
     pub pre: Ids,
     /// What has to be installed with it (operand REQ).
     pub req: Ids,
-    /// What else has to be installed with it, where a function is (its `++IF` statements).
+    /// What else has to be installed with it, if a function is (its `++IF` statements).
     pub conds: CondNeeds,
     /// What it supersedes: the SYSMODs that it stands for, APARs among them (operand SUP).
     pub sup: Ids,

@@ -95,8 +95,8 @@ pub record KeepsFrames (old new : CacheLists) : Type 0 where
   pub capacity : new.capacity ≡ old.capacity
   pub built : new.built ≡ old.built
 
--- What a verdict leaves of the frames. One that is kept is used and stands first afterwards. Else one may be built and put, or
--- all stays: where a survey answers.
+-- What a verdict leaves of the frames. One that is kept is used and stands first afterwards. Else one may be built and put,
+-- or all stays: if a survey answers.
 pub record IsAsked (id : List ℕ) (old new : CacheLists) : Type 0 where
   pub hit : has old.entries id ≡ true → new ≡ after_hit id old
   pub filled : MayBeFilled id old new ⊎ KeepsFrames old new

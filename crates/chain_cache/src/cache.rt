@@ -37,11 +37,11 @@ pub(crate) const NODES_MOST: usize = 256;
 /// Judges from frames, of which it keeps those that were used last. All callers share them: a frame names no
 /// zone and no client.
 ///
-/// A SYSMOD that reaches far has a large frame. So where a chain has more than 256 nodes, or a report many
-/// SYSMODs, the zone is looked over whole. What is catalogued is read once for that, whatever the zone. It is kept
-/// over publications: what these touch is marked, and read anew before the next survey. Candidates are found in it,
-/// and the source is asked for what is marked; where they are asked for of many SYSMODs, it is read first. The surveys of
-/// up to 16 zones are kept until the next publication.
+/// A SYSMOD that reaches far has a large frame. So if a chain has more than 256 nodes, or a report many SYSMODs, the
+/// zone is looked over whole. What is catalogued is read once for that, whatever the zone. It is kept over
+/// publications: what these touch is marked, and read anew before the next survey. Candidates are found in it, and the
+/// source is asked for what is marked; if they are asked for of many SYSMODs, it is read first. The surveys of up to 16
+/// zones are kept until the next publication.
 #[derive(Debug, Drop)]
 pub struct ChainCache {
     frames: Frames,
@@ -70,7 +70,7 @@ impl ChainCache {
     ///
     /// # Errors
     ///
-    /// `NoMemory` where memory ran out.
+    /// `NoMemory` if memory ran out.
     pub fn new(alloc: Global, capacity: u32, hasher: RandomState) -> Result<Self, NoMemory>
         requires least { 1 ≤ capacity }
         requires most { capacity ≤ 65536 }
@@ -111,7 +111,7 @@ impl ChainCache {
     ///
     /// # Errors
     ///
-    /// `Memory` where memory ran out, `Device` where the source failed. What is kept is as it was.
+    /// `Memory` if memory ran out, `Device` if the source failed. What is kept is as it was.
     pub fn frame_for<P: Published>(
         &mut self,
         alloc: Global,
@@ -150,8 +150,8 @@ impl ChainCache {
         Ok(self.put(id, built)?)
     }
 
-    /// The same, where the frame is kept or has at most so many nodes. Whether it stands first then; else all is as
-    /// it was.
+    /// The same, if the frame is kept or has at most so many nodes. Whether it stands first then; else all is as it
+    /// was.
     pub(crate) fn fill_small<P: Published>(
         &mut self,
         alloc: Global,
@@ -180,7 +180,7 @@ impl ChainCache {
         }
     }
 
-    // Sees to it that the frame of an id stands first, where it is kept. Whether it is.
+    // Sees to it that the frame of an id stands first, if it is kept. Whether it is.
     fn use_kept(&mut self, id: &Id) -> bool
         ensures kept { result ≡ has self.old.entries id.now }
         ensures hit { result ≡ true → self.new ≡ after_hit id.now self.old }
@@ -263,7 +263,7 @@ impl<P: Published> Judge<P> for ChainCache {
 
     ghost is_right = { IsRightFor };
 
-    // From the frame, where it is kept or small; else from a survey of the zone.
+    // From the frame, if it is kept or small; else from a survey of the zone.
     fn verdict(
         &mut self,
         alloc: Global,
@@ -293,7 +293,7 @@ impl<P: Published> Judge<P> for ChainCache {
         self.verdict_by_survey(alloc, source, zone, id)
     }
 
-    // From a survey of the zone where one is kept, else from frames, while these are small. Where they are large, the
+    // From a survey of the zone if one is kept, else from frames, while these are small. If they are large, the
     // candidates of a report mostly share them, and one pass over the catalogue costs less than a frame for each.
     fn statuses(
         &mut self,
@@ -374,8 +374,8 @@ impl<P: Published> Judge<P> for ChainCache {
         }
     }
 
-    // From what is kept of the catalogue. Where many are asked for, it is read first: the statuses that follow mostly
-    // need it.
+    // From what is kept of the catalogue. If many are asked for, it is read first: the statuses that follow mostly need
+    // it.
     fn candidates(
         &mut self,
         alloc: Global,

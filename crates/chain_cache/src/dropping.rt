@@ -22,7 +22,7 @@ pub(crate) fn drop_among(frames: &mut Frames, ids: &[Id])
     }
 }
 
-// Takes out the last frame where it has one of these ids, and puts it first where it has none.
+// Takes out the last frame if it has one of these ids, and puts it first if it has none.
 fn turn(frames: &mut Frames, ids: &[Id], ascending: bool)
     requires { ascending ≡ true → Ascend ids.now }
     ensures cap { frames.new.cap ≡ frames.old.cap }

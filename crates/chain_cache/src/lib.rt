@@ -1,5 +1,5 @@
-//! Frames that are kept, so that a chain needs no walk over the catalogue. All callers share one bounded cache
-//! of them: a frame names no zone and no client. Where frames are large, surveys of zones are kept in their place.
+//! Frames that are kept, so that a chain needs no walk over the catalogue. All callers share one bounded cache of
+//! them: a frame names no zone and no client. If frames are large, surveys of zones are kept in their place.
 //!
 //! - [`ChainCache`]: judges from the frames that it keeps, of which the one used last stands first, and from surveys
 //!

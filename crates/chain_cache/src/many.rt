@@ -36,7 +36,7 @@ impl ChainCache {
         self.surveys.put_wide(count);
     }
 
-    /// Reads what is catalogued, where it isn't kept as it is, if many SYSMODs are asked for.
+    /// Reads what is catalogued, if it isn't kept as it is, if many SYSMODs are asked for.
     pub(crate) fn read_for_many<P: Published>(
         &mut self,
         alloc: Global,
@@ -77,7 +77,7 @@ impl ChainCache {
         Ok(statuses)
     }
 
-    /// The same from frames, where all of them together are small.
+    /// The same from frames, if all of them together are small.
     pub(crate) fn statuses_by_frames<P: Published>(
         &mut self,
         alloc: Global,
@@ -133,7 +133,7 @@ impl ChainCache {
         Ok(found)
     }
 
-    /// The same from frames, where all of them together are small.
+    /// The same from frames, if all of them together are small.
     pub(crate) fn united_by_frames<P: Published>(
         &mut self,
         alloc: Global,

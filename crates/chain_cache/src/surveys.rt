@@ -122,7 +122,7 @@ impl Surveys {
     }
 
     /// For each of some SYSMODs the candidates that give it, as [`candidates_for`] finds them: in what is kept of the
-    /// catalogue. The source is asked for what was touched since it was read, and for all where nothing is kept.
+    /// catalogue. The source is asked for what was touched since it was read, and for all if nothing is kept.
     pub(crate) fn candidates<P: Published>(
         &self,
         alloc: Global,
@@ -148,7 +148,7 @@ impl Surveys {
         self.listing.as_ref()
     }
 
-    /// Reads what is catalogued, where it isn't kept, and what is marked, where it is; and keeps it.
+    /// Reads what is catalogued, if it isn't kept, and what is marked, if it is; and keeps it.
     pub(crate) fn read_listing<P: Published>(
         &mut self,
         alloc: Global,
@@ -225,7 +225,7 @@ impl Surveys {
         Ok(marks)
     }
 
-    // Puts in what was read of all that is marked. Where memory runs out, what is catalogued isn't kept any more.
+    // Puts in what was read of all that is marked. If memory runs out, what is catalogued isn't kept any more.
     fn put_read(&mut self, alloc: Global, marks: &[Id], read: Vec<Seen>) -> Result<(), NoMemory>
         requires ascend { Ascend marks.now }
         requires listed { IsSome self.now.listing }
@@ -255,7 +255,7 @@ impl Surveys {
         }
     }
 
-    /// Keeps the survey of a zone. Where there are as many as are kept, they go first.
+    /// Keeps the survey of a zone. If there are as many as are kept, they go first.
     pub(crate) fn keep(&mut self, zone: &Zone, survey: Survey) -> Result<(), NoMemory>
         ensures right { (content : Content) → IsSurvey content zone.now survey
             → AreSurveys content self.old → AreSurveys content self.new }
@@ -278,7 +278,7 @@ impl Surveys {
         }
     }
 
-    /// Marks what a publication touches in what is catalogued, and keeps no survey. Where there is no room for that many
+    /// Marks what a publication touches in what is catalogued, and keeps no survey. If there is no room for that many
     /// marks, it keeps nothing. It takes no memory.
     pub(crate) fn mark(&mut self, ids: &[Id])
         ensures { MayBeMarked ids.now self.old self.new }
@@ -291,7 +291,7 @@ impl Surveys {
         self.wide_from = None;
     }
 
-    // Adds marks, where there is room. Whether it did.
+    // Adds marks, if there is room. Whether it did.
     fn has_marked(&mut self, ids: &[Id]) -> bool
         ensures marked { result ≡ true → self.new ≡ (record {
           listing = self.old.listing;

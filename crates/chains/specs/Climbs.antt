@@ -33,7 +33,7 @@ AreFrom ids above marks None (Some found) = ⊥
 AreFrom ids above marks (Some index) None = ⊥
 AreFrom ids above marks (Some index) (Some found) = Ascend found × ((giver : List ℕ) → Contains found giver ↔ IsMarkedAbove ids above marks index giver)
 
--- what is answered where an id stands and isn't there: the marked ids above it
+-- what is answered if an id stands and isn't there: the marked ids above it
 pub record AreAbsent (ids : List (List ℕ)) (above : List (List ℕ)) (there candidates : List Bool) (id : List ℕ) (found : List (List ℕ)) : Type 0 where
   pub index : ℕ
   pub at : IsAt ids id index
@@ -41,7 +41,7 @@ pub record AreAbsent (ids : List (List ℕ)) (above : List (List ℕ)) (there ca
   pub ascend : Ascend found
   pub each : (giver : List ℕ) → Contains found giver ↔ IsMarkedAbove ids above candidates index giver
 
--- what is answered for an id: nothing where it is there, and else the marked ids above it
+-- what is answered for an id: nothing if it is there, and else the marked ids above it
 pub record IsAnswer (ids : List (List ℕ)) (above : List (List ℕ)) (there candidates : List Bool) (id : List ℕ) (found : Option (List (List ℕ))) : Type 0 where
   pub none : IfNone found ((p : ℕ) → IsAt ids id p → mark_of there p ≡ true)
   pub some : IfSome found (AreAbsent ids above there candidates id)

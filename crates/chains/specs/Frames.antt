@@ -55,7 +55,7 @@ shares ids frame = list_any (λ node. list_any (same_id node.id) ids) frame.node
 abbrev pub AreApart : List (List ℕ) → List (List ℕ) → Type 0
 AreApart ids others = (id : List ℕ) → Contains ids id → Contains others id → ⊥
 
--- where two contents say the same outside some ids, a frame that has none of these is the same in both
+-- if two contents say the same outside some ids, a frame that has none of these is the same in both
 abbrev pub FramesStay : Type 0
 FramesStay = (ids : List (List ℕ)) (old new : Content) (start : List ℕ) (frame : FrameLists) → IsInOrder old → IsInOrder new
     → AgreeOutside ids old new → AreApart (ids_in frame.nodes) ids → IsFrame old start frame → IsFrame new start frame

@@ -25,8 +25,8 @@ use std::alloc::Global;
 use supersede::Zone;
 use verdicts::{do_ascend, ids_at, index_of, sort_each_once};
 
-/// For each of some SYSMODs the candidates that give it, ascending, or `None` where it is there: the zone lists it, or
-/// an installed SYSMOD gives it (IBM z/OS SMP/E Reference, `++VER`, operands SUP and FMID).
+/// For each of some SYSMODs the candidates that give it, ascending, or `None` if it is there: the zone lists it, or an
+/// installed SYSMOD gives it (IBM z/OS SMP/E Reference, `++VER`, operands SUP and FMID).
 ///
 /// A listing that is at hand answers in the source's place. It may be that of all that the source has but for some ids,
 /// which are marked: these the source is asked for. Without one, what supersedes a SYSMOD is asked for once, and so is the
@@ -34,7 +34,7 @@ use verdicts::{do_ascend, ids_at, index_of, sort_each_once};
 ///
 /// # Errors
 ///
-/// `Memory` where memory ran out, `Device` where the source failed.
+/// `Memory` if memory ran out, `Device` if the source failed.
 pub fn candidates_for<P: Published>(
     alloc: Global,
     source: &mut P,

@@ -27,7 +27,7 @@ pub(crate) struct Climb {
     pub(crate) below: Rows,
 }
 
-/// What supersedes these SYSMODs, directly or through others: by a listing, where one is at hand, and else by the
+/// What supersedes these SYSMODs, directly or through others: by a listing, if one is at hand, and else by the
 /// source, which is asked for each SYSMOD once. It is asked for what is marked in the listing too.
 pub(crate) fn climb_from<P: Published>(
     alloc: Global,

@@ -29,7 +29,7 @@ pub struct FrameNode {
     pub fmids: Ids,
     /// What it needs in every zone: its PRE, its REQ and the reasons of the ERROR holds on it.
     pub needs: Ids,
-    /// What it needs where a function is installed: its requisites under a condition.
+    /// What it needs if a function is installed: its requisites under a condition.
     pub conds: CondNeeds,
     /// The catalogued SYSMODs that give it: itself, and those that supersede it, themselves or through others.
     pub givers: Ids,
@@ -38,13 +38,13 @@ pub struct FrameNode {
 /// All that one SYSMOD reaches in a catalogue, by what each may need and by what gives it, itself among them. It
 /// speaks of no zone.
 ///
-/// The nodes ascend by id. Each need and each giver of a node is a node, and so is what it needs only where a
+/// The nodes ascend by id. Each need and each giver of a node is a node, and so is what it needs only if a
 /// function is installed.
 #[derive(Debug, Drop)]
 pub struct Frame {
     nodes: Vec<FrameNode>,
     // The ids of the nodes, and by their indices what each always needs and what it supersedes directly. A plan
-    // doesn't ask for the givers, which are many where superseding is long.
+    // doesn't ask for the givers, which are many if superseding is long.
     ids: Vec<Id>,
     needs: Rows,
     supersedes: Rows,

@@ -15,7 +15,7 @@ use std::alloc::Global;
 ///
 /// # Errors
 ///
-/// `Memory` where memory ran out, `Device` where the source failed.
+/// `Memory` if memory ran out, `Device` if the source failed.
 pub fn frame<P: Published>(alloc: Global, source: &mut P, id: &Id) -> Result<Frame, SourceFault>
     ensures asks { MayAsk P.content_view Device source.old source.new result }
     ensures frame { IfOk result (λ frame. Tells P.content_view source.old source.new
@@ -27,11 +27,11 @@ pub fn frame<P: Published>(alloc: Global, source: &mut P, id: &Id) -> Result<Fra
     }
 }
 
-/// The same, where it has at most so many nodes. Of a larger one no more than these are read.
+/// The same, if it has at most so many nodes. Of a larger one no more than these are read.
 ///
 /// # Errors
 ///
-/// `Memory` where memory ran out, `Device` where the source failed.
+/// `Memory` if memory ran out, `Device` if the source failed.
 pub fn frame_within<P: Published>(
     alloc: Global,
     source: &mut P,

@@ -24,7 +24,7 @@ use verdicts::{Verdict, index_of};
 ///
 /// # Errors
 ///
-/// `NoMemory` where memory ran out.
+/// `NoMemory` if memory ran out.
 pub fn plan(alloc: Global, frame: &Frame, zone: &Zone, id: &Id) -> Result<Verdict, NoMemory>
     ensures verdict { IfOk result (λ verdict. (content : Content) (start : List ℕ)
         → IsFrame content start frame.now
@@ -101,7 +101,7 @@ fn candidate_marks(alloc: Global, nodes: &[FrameNode], zone: &Zone) -> Result<Ve
 ///
 /// # Errors
 ///
-/// `NoMemory` where memory ran out.
+/// `NoMemory` if memory ran out.
 pub fn good(alloc: Global, frame: &Frame, zone: &Zone) -> Result<Vec<Id>, NoMemory>
     ensures good { IfOk result (λ ids. (content : Content) (start : List ℕ) → IsFrame content start frame.now
         → ids.items ≡ filter (is_good content zone.now) (ids_in frame.now.nodes)) }

@@ -46,7 +46,7 @@ impl Survey {
     ///
     /// # Errors
     ///
-    /// `NoMemory` where memory ran out.
+    /// `NoMemory` if memory ran out.
     pub fn of(alloc: Global, zone: &Zone, listing: &Listing) -> Result<Survey, NoMemory>
         ensures { IfOk result (λ survey. (content : Content) → IsListing content listing.now
             → IsSurvey content zone.now survey) }
@@ -72,7 +72,7 @@ impl Survey {
     ///
     /// # Errors
     ///
-    /// `NoMemory` where memory ran out.
+    /// `NoMemory` if memory ran out.
     pub fn verdict(&self, alloc: Global, id: &Id) -> Result<Verdict, NoMemory>
         ensures { IfOk result (λ verdict. (content : Content) (rows : List ZoneRow)
             → IsSurvey content rows self.now
@@ -89,7 +89,7 @@ impl Survey {
     ///
     /// # Errors
     ///
-    /// `NoMemory` where memory ran out.
+    /// `NoMemory` if memory ran out.
     pub fn statuses(&self, alloc: Global, ids: &[Id]) -> Result<Vec<Status>, NoMemory>
         ensures { IfOk result (λ statuses. (content : Content) (rows : List ZoneRow)
             → IsSurvey content rows self.now
@@ -119,7 +119,7 @@ impl Survey {
     ///
     /// # Errors
     ///
-    /// `NoMemory` where memory ran out.
+    /// `NoMemory` if memory ran out.
     pub fn united(&self, alloc: Global, ids: &[Id]) -> Result<Vec<Id>, NoMemory>
         ensures united { IfOk result (λ found. (content : Content) (rows : List ZoneRow)
             → IsSurvey content rows self.now → found.items ≡ united content rows ids.now) }
@@ -149,7 +149,7 @@ fn status_by(good: bool, candidate: bool) -> Status
 ///
 /// # Errors
 ///
-/// `Memory` where memory ran out, `Device` where the source failed.
+/// `Memory` if memory ran out, `Device` if the source failed.
 pub fn survey_of<P: Published>(
     alloc: Global,
     source: &mut P,

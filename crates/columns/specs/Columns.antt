@@ -36,7 +36,7 @@ row_of columns fields = fields_in columns fields ++ 10 ∷ []
 abbrev pub heading_of : List (ℕ × List ℕ) → List ℕ
 heading_of columns = row_of columns (map (λ column. column.1) columns)
 
--- the line above the heading, where there is one
+-- the line above the heading, if there is one
 abbrev pub title_line : Option (List ℕ) → List ℕ
 title_line None = []
 title_line (Some title) = title ++ 10 ∷ []
@@ -45,7 +45,7 @@ title_line (Some title) = title ++ 10 ∷ []
 abbrev pub count_line : ℕ → List ℕ
 count_line rows = codes "ROWS " ++ decimal rows ++ 10 ∷ []
 
--- the whole text: a title where there is one, the heading, the rows and their count
+-- the whole text: a title if there is one, the heading, the rows and their count
 abbrev pub text_of : List (ℕ × List ℕ) → Option (List ℕ) → List (List (List ℕ)) → List ℕ
 text_of columns title rows =
     title_line title ++ heading_of columns ++ flat_map (row_of columns) rows ++ count_line (length rows)

@@ -6,7 +6,7 @@ ghost use Rattle.columns.specs.Columns.{columns_of, texts_of, in_width, width_of
 use crate::{Column, NoMemory};
 use itoa::Buffer;
 
-/// Puts the title's line after a text, where there is a title.
+/// Puts the title's line after a text, if there is a title.
 pub(crate) fn push_title(text: &mut Vec<u8>, title: Option<&[u8]>) -> Result<(), NoMemory>
     ensures { OnOk result (text.new.items ≡ text.old.items ++ title_line (option_copied title.entry)) }
 {
@@ -30,8 +30,8 @@ pub(crate) fn push_heading(text: &mut Vec<u8>, columns: &[Column]) -> Result<(),
     Ok(())
 }
 
-/// Puts a row after a text: each field with blanks up to where the next column begins, and a line end.
-/// Where memory runs out, a part of the line may stand there.
+/// Puts a row after a text: each field with blanks up to where the next column begins, and a line end. If memory runs
+/// out, a part of the line may stand there.
 pub(crate) fn push_row(
     text: &mut Vec<u8>,
     columns: &[Column],

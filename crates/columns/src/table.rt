@@ -31,7 +31,7 @@ impl<'a> Model for Table<'a> {
 }
 
 impl<'a> Table<'a> {
-    /// A table without rows: the title's line, where there is a title, and the line with the columns' names.
+    /// A table without rows: the title's line, if there is a title, and the line with the columns' names.
     ///
     /// # Errors
     ///

@@ -26,7 +26,7 @@ several_rule id = record (new_rule id) {
   value_names = 1;
 }
 
--- `--NAME N`, a number from one to another, and this text where it isn't given
+-- `--NAME N`, a number from one to another, and this text if it isn't given
 abbrev pub number_rule : Text → ℕ → ℕ → Text → Rule
 number_rule name least most default = record (new_rule name) {
   long = Some name;

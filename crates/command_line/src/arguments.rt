@@ -28,7 +28,7 @@ pub enum Kind {
     Text(&'static str),
     /// `--NAME VALUE`: a text, which may be left out.
     MaybeText(&'static str),
-    /// `--NAME VALUE`: a number from 1 to this one; where it isn't given, the one in the text.
+    /// `--NAME VALUE`: a number from 1 to this one; if it isn't given, the one in the text.
     Number(&'static str, u32, &'static str),
     /// `--NAME`: a flag.
     Flag,

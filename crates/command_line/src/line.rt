@@ -18,7 +18,7 @@ use std::alloc::Global;
 /// What a command line asks for.
 #[derive(Debug, Drop)]
 pub enum Line {
-    /// `holds FILE`: the hold book of a file, or of standard input where FILE is `-`.
+    /// `holds FILE`: the hold book of a file, or of standard input if FILE is `-`.
     Holds {
         file: String,
     },
@@ -29,7 +29,7 @@ pub enum Line {
     },
     /// `serve --port P --cache N --connections K --open M --log STORE`: K connections to a port of 127.0.0.1, 1 to
     /// 65,535, are served side by side over the store in a file. N frames at most are kept, 1 to 65,536, K is 1 to
-    /// 1,000,000, and M of them at most are open at once, 1 to 8,192. A log is kept where `--log` is given.
+    /// 1,000,000, and M of them at most are open at once, 1 to 8,192. A log is kept if `--log` is given.
     Serve {
         port: u16,
         cache: u32,
@@ -83,7 +83,7 @@ pub enum LineFault {
 }
 
 impl LineFault {
-    // What these words tell, where there is memory for them.
+    // What these words tell, if there is memory for them.
     pub(crate) fn in_words(text: Result<String, NoMemory>) -> LineFault {
         match text {
             Ok(text) => LineFault::Words(text),
@@ -236,7 +236,7 @@ fn check_with(alloc: Global, matches: &ArgMatches) -> Result<Line, LineFault>
     })
 }
 
-// What is told where no command is named. clap lets no such words through.
+// What is told if no command is named. clap lets no such words through.
 fn unnamed(alloc: Global) -> LineFault {
     LineFault::in_words(String::from_str(alloc, "no command is named\n"))
 }

@@ -91,12 +91,12 @@ pub fn port(alloc: Global, matches: &ArgMatches) -> Result<u16, LineFault>
     }
 }
 
-// What is told where a command lacks an argument. clap lets no such words through.
+// What is told if a command lacks an argument. clap lets no such words through.
 fn lacking(alloc: Global, command: &str, name: &str) -> LineFault {
     LineFault::in_words(format!(in alloc; "{command} lacks {name}\n"))
 }
 
-// The text of an argument, where it is given.
+// The text of an argument, if it is given.
 fn text_with(alloc: Global, matches: &ArgMatches, name: &str) -> Result<Option<String>, NoMemory>
     ensures { IfOk result (λ text. first_of name.now (rows_in matches.now) ≡ option_map string_bytes text) }
 {

@@ -134,7 +134,7 @@ IsStarved old = IsReady old × IsUnfinished old.held
 
 -- ---- items
 
--- An event does what it says, and where bytes were written, these are known; or it is told of a slot where it can't be, and
+-- An event does what it says, and if bytes were written, these are known; or it is told of a slot where it can't be, and
 -- changes nothing; or there was no memory for the bytes that came, and the connection ends. The next request of a connection
 -- is answered, and its reply has to go out; or there was no memory for the reply, and the connection ends; or there was none
 -- to look at what came, and it ends. Or a connection ends well.

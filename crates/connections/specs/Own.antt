@@ -94,7 +94,7 @@ Stays slot (finished other) = Unit {0}
 -- ---- what is promised of it
 
 -- The bytes that came over a connection are requests and a stop. These requests were answered, in their order. What was
--- written to it is a front of the replies; and all of them where it ended well, with a stop of its own.
+-- written to it is a front of the replies; and all of them if it ended well, with a stop of its own.
 pub record IsServedAlone (rows : List CallerRow) (text : List ℕ) (exchanges : List Exchange) (written : List ℕ) (well : Bool) : Type 0 where
   pub stop : Stop
   pub connection : IsConnection rows text (map (λ exchange. exchange.asked) exchanges) stop

@@ -131,8 +131,8 @@ pub record AreAskedIn (rows : List CallerRow) (rounds : List Entry) (calls : Lis
   pub own : EachIsServed rows items
   pub calls_are : calls ≡ calls_of (exchanges_of items)
 
--- The log grew by these rounds. Or, where the device failed, the last round told more, which was not looked at; then came the last
--- showing.
+-- The log grew by these rounds. Or, if the device failed, the last round told more, which was not looked at; then came the
+-- last showing.
 abbrev pub AreLogged : Log → Log → Type 0 → List Entry → Type 0
 AreLogged log log_after Failed rounds = Logs log log_after rounds
     ⊎ (Failed × ((earlier : List Entry) × (shown : Slots) × (left : ℕ) × (told : List Event) × (rest : List Event) × (last : Slots)
@@ -183,7 +183,7 @@ module _ {Desk : Type 0} (view : View Desk Tables) where
     pub onward : GoesInRounds old new rounds before after
     pub still : IsStill old new (told_in rounds)
 
-  -- after so many rounds, where so many are to come
+  -- after so many rounds, if so many are to come
   pub record HasServedBut (old new : Desk) (log log_after : Log) (before after : Connections) (left count turns : ℕ) : Type 0 where
     pub so_far : HasServed old new log log_after before after count
     pub come : left + comers (told_in so_far.rounds) ≡ count

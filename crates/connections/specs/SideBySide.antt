@@ -25,7 +25,7 @@ NoneWaits rows old (event ∷ events) items new =
 
 -- These events were told, and no others. The requests of all connections, in the order in which they were answered, are one
 -- run of the bureau, in which a change acts once, over whichever of them it is sent, and each caller is answered, to the
--- byte, as if alone. Each connection was answered its own requests, in their order, and was sent their replies. Where no whole
+-- byte, as if alone. Each connection was answered its own requests, in their order, and was sent their replies. If no whole
 -- request was left waiting before, none is at any event, but behind a reply that has still to go out.
 pub record AreServedSideBySide (Runs : Tables → List CallBy → Tables → Type 0) (this : Tables) (events : List Event) (before after : Slots) : Type 0 where
   pub items : List Item
@@ -50,13 +50,13 @@ pub record AreDone (Runs : Tables → List CallBy → Tables → Type 0) (this :
   pub so_far : AreSoFar Runs this events before after
   pub own : AllByRecursion (λ item. slot_in item ≡ slot) so_far.items
 
--- the same, where no whole request is left waiting at any event
+-- the same, if no whole request is left waiting at any event
 pub record AreInTurn (Runs : Tables → List CallBy → Tables → Type 0) (this : Tables) (events : List Event) (before after : Slots) : Type 0 where
   pub so_far : AreSoFar Runs this events before after
   pub waits : AreSettled before → NoneWaits this.callers before events so_far.items after
 
--- These events were told, the desk goes on, and what is held stays within the limit. Where no whole request was left waiting before,
--- none is at any event.
+-- These events were told, the desk goes on, and what is held stays within the limit. If no whole request was left waiting
+-- before, none is at any event.
 pub record IsOnward {Desk : Type 0} (view : View Desk Tables) (old new : Desk) (events : List Event) (before after : Connections) : Type 0 where
   pub goes : Goes view old new
   pub in_turn : Tells view old new (λ this. AreInTurn (IsKeptRun view old new) this events before.slots.items after.slots.items)

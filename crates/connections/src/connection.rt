@@ -85,7 +85,7 @@ impl Connection {
         }
     }
 
-    // These bytes came. It is of no use any more where there is no memory for them.
+    // These bytes came. It is of no use any more if there is no memory for them.
     pub(crate) fn take_in(&mut self, text: &[u8]) -> Result<(), NoMemory>
         requires { self.old.phase ≡ Phase.Open }
         ensures { OnOk result (Grows text.now self.old self.new) }

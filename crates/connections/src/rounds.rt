@@ -59,8 +59,8 @@ pub trait Rounds {
     /// That this fault ended the rounds. A body gives it from `round` alone.
     ghost is_over: { Self → RoundFault → Type 0 };
 
-    /// Waits until something happens to connections that stand like this, reads and writes what can be, and tells
-    /// of it. So many more may come. What is told counts also where there is an error.
+    /// Waits until something happens to connections that stand like this, reads and writes what can be, and tells of
+    /// it. So many more may come. What is told counts also if there is an error.
     ///
     /// # Errors
     ///
@@ -83,10 +83,9 @@ pub trait Rounds {
     /// Of the connections whose body waits for room, the slot of the one with this index, counted from 0.
     fn short_at(&self, index: usize) -> Option<usize>;
 
-    /// The device has failed, and connections stood like this after the event at which it did. What the last round
-    /// told behind that event was not looked at: what it wrote still stands here, and where it tells that a
-    /// connection left or came, here stands the one before. Of all others what has to go out may be written, as far
-    /// as that takes no wait.
+    /// The device has failed, and connections stood like this after the event at which it did. What the last round told
+    /// behind that event was not looked at: what it wrote still stands here, and if it tells that a connection left or
+    /// came, here stands the one before. Of all others what has to go out may be written, as far as that takes no wait.
     fn show_last(&mut self, connections: &Connections)
         ensures { Logs (log self.old) (log self.new) (last_showing connections.now.slots.items ∷ []) };
 }
@@ -98,8 +97,8 @@ pub trait Rounds {
 /// # Errors
 ///
 /// [`Halt::Device`] once the device has failed: then nothing more is looked at, whatever connection it is of.
-/// [`Halt::Rounds`] where there are no more rounds, or more connections came than were to: what was told until then
-/// was served.
+/// [`Halt::Rounds`] if there are no more rounds, or more connections came than were to: what was told until then was
+/// served.
 pub fn serve_rounds<S: Store, J: Judge<S>, R: Rounds>(
     alloc: Global,
     bureau: &mut Bureau<S, J>,
@@ -189,7 +188,7 @@ fn go_round<S: Store, J: Judge<S>, R: Rounds>(
     Ok((rest, round))
 }
 
-// How many of so many are to come after these events, where no more than these came.
+// How many of so many are to come after these events, if no more than these came.
 fn left_after(left: u32, events: &[Event]) -> Option<u32>
     ensures some { IfSome result (λ rest. rest + comers (map event_of events.now) ≡ left) }
     ensures none { IfNone result (left < comers (map event_of events.now)) }

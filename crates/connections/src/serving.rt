@@ -15,8 +15,8 @@ use bureau_http::Desk;
 use requests::{Routes, later_bytes};
 use std::alloc::Global;
 
-/// Goes through events in order. After each, the next request of its connection is answered, where that stands
-/// whole and the last reply went out.
+/// Goes through events in order. After each, the next request of its connection is answered, if that stands whole and
+/// the last reply went out.
 ///
 /// Want of memory ends the connection that it befalls, or is answered 503, and no other. What all of them hold
 /// together is at most the limit and a head's room of each.
@@ -59,7 +59,7 @@ fn go_through<D: Desk>(
     }
 }
 
-/// One event. Then the next request of its connection is answered, where that stands whole and the last reply went out.
+/// One event. Then the next request of its connection is answered, if that stands whole and the last reply went out.
 pub fn serve_event<D: Desk>(
     alloc: Global,
     desk: &mut D,
@@ -92,7 +92,7 @@ fn tell<D: Desk>(
     }
 }
 
-// Answers the next request of the connection in a slot, where that stands whole and the last reply went out.
+// Answers the next request of the connection in a slot, if that stands whole and the last reply went out.
 fn go_on<D: Desk>(
     alloc: Global,
     desk: &mut D,

@@ -124,7 +124,7 @@ impl Connections {
         Told::Done
     }
 
-    // Bytes came to a slot. Where they don't fit it, that is want of memory.
+    // Bytes came to a slot. If they don't fit it, that is want of memory.
     fn take_in(&mut self, slot: usize, text: &[u8]) -> Told
         ensures told { IsToldOf result self.old.slots.items (bytes slot text.now) self.new.slots.items }
         ensures within { StaysWithin self.old self.new }
@@ -208,9 +208,9 @@ impl Connections {
 
     /// How many bytes may be read next over the connection in a slot.
     ///
-    /// None where a reply has to go out first, or its peer ended its side. A request that has more bytes than a
-    /// head may have is read on only where all of it fits what is left of the limit, and gets its share of that
-    /// then. Until it fits there is no room for more of it.
+    /// None if a reply has to go out first, or its peer ended its side. A request that has more bytes than a head may
+    /// have is read on only if all of it fits what is left of the limit, and gets its share of that then. Until it fits
+    /// there is no room for more of it.
     pub fn room(&mut self, slot: usize) -> usize
         ensures slots { self.new.slots.items ≡ self.old.slots.items }
         ensures within { StaysWithin self.old self.new }
@@ -245,8 +245,8 @@ impl Connections {
         self.shares.give(slot, share)
     }
 
-    // Gives back what a slot doesn't need of its share any more: all of it where no connection stands there, and
-    // what its connection doesn't hold where that was answered.
+    // Gives back what a slot doesn't need of its share any more: all of it if no connection stands there, and what its
+    // connection doesn't hold if that was answered.
     pub(crate) fn give_back(&mut self, slot: usize)
         ensures slots { self.new.slots.items ≡ self.old.slots.items }
         ensures within { StaysWithin self.old self.new }
@@ -256,7 +256,7 @@ impl Connections {
         }
     }
 
-    // How much of its share a slot needs, where that is no more than its connection holds.
+    // How much of its share a slot needs, if that is no more than its connection holds.
     fn needed(&self, slot: usize) -> Option<usize>
         ensures { IfSome result (λ needed. Needs needed (slice_get self.now.slots.items slot)) }
     {

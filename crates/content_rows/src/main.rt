@@ -29,7 +29,7 @@
 //! | `built` | how many frames were built |
 //! | `same` | whether what is kept has the statuses, the plans together and the candidates that all that is catalogued has |
 //! | `reads WORD ID..` | how many reads one question takes |
-//! | `fails WORD ID..` | the same, where each of its reads in turn fails: it reads no more then, and tells the failure |
+//! | `fails WORD ID..` | the same, if each of its reads in turn fails: it reads no more then, and tells the failure |
 //!
 //! `NO ANSWER` is told if a read fails. The questions of `reads` and `fails` are `givers`, `touched`, `verdict`, `statuses`, `chain`,
 //! `errors` and `missing`, over all that is catalogued.

@@ -169,7 +169,7 @@ pub(crate) fn reads(
     Ok(Some(number(alloc, u64::MAX - content.source.left)?))
 }
 
-/// The same, where each of its reads in turn fails, and is passed on at once.
+/// The same, if each of its reads in turn fails, and is passed on at once.
 pub(crate) fn fails(
     alloc: Global,
     content: &mut Content,

@@ -3,7 +3,7 @@ use bureau::Call;
 use mcs_reader::Id;
 use questions::{Form, Wanted};
 
-/// The call of a request such as `PUT /zones/TGT1 1`, with the lines before it as its body. `None` where it is none.
+/// The call of a request such as `PUT /zones/TGT1 1`, with the lines before it as its body. `None` if it is none.
 pub(crate) fn call_of<'a>(request: &str, body: &'a [u8]) -> Option<Call<'a>> {
     let (method, rest) = request.split_once(' ')?;
     let (path, number) = rest.split_once(' ').unwrap_or((rest, ""));

@@ -22,9 +22,9 @@ GAMMA,gamma-token
 /// A desk, and the last question that was asked of it.
 pub(crate) struct Desk<J> {
     keys: RandomState,
-    // How many frames it has room for where no row says so.
+    // How many frames it has room for if no row says so.
     room: u32,
-    // Who the callers are, also where the desk's own store fails.
+    // Who the callers are, also if the desk's own store fails.
     known: ListStore,
     // It is there but for the moment in which another one is made of its parts.
     bureau: Option<Bureau<FailingStore, J>>,
@@ -130,7 +130,7 @@ impl<J: Judged> Desk<J> {
         }
     }
 
-    /// What a caller is told, or `None` where nobody has this name or it is no request.
+    /// What a caller is told, or `None` if nobody has this name or it is no request.
     pub(crate) fn told(
         &mut self,
         alloc: Global,

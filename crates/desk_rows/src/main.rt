@@ -1,4 +1,5 @@
-//! Runs the rows of `data/` at a desk over lists: by each judge, with room for one frame and for many, and where the device fails.
+//! Runs the rows of `data/` at a desk over lists: by each judge, with room for one frame and for many, and if the
+//! device fails.
 //!
 //! `rows.rt` says which words a row has beside requests. `tests/row_desk.py` runs the same files through the program.
 #![tactic(auto)]

@@ -8,8 +8,8 @@
 //! | `built` | how many frames were built since the case began |
 //! | `kept` | how many frames were kept when the store last failed |
 //!
-//! Where the store fails the caller is told 503, and the desk is closed. Then the store is opened again, and the last question
-//! before that request is answered as it was.
+//! If the store fails the caller is told 503, and the desk is closed. Then the store is opened again, and the last
+//! question before that request is answered as it was.
 use crate::desk::Desk;
 use crate::judged::Judged;
 use std::alloc::Global;
@@ -87,7 +87,7 @@ fn failing<J: Judged>(
     said(alloc, MOST_CALLS, "there is no answer yet")
 }
 
-// What is told where no call has failed. The store was to fail at one at least.
+// What is told if no call has failed. The store was to fail at one at least.
 fn answered<J: Judged>(
     alloc: Global,
     desk: &mut Desk<J>,

@@ -21,7 +21,7 @@ pub(crate) fn lines_of(alloc: Global, reply: &Reply) -> Result<String, Fail> {
     Ok(text)
 }
 
-// Whether a body is told to be JSON where it is, and ends as its kind does.
+// Whether a body is told to be JSON if it is, and ends as its kind does.
 fn is_right(is_json: bool, body: &str) -> bool {
     is_json == body.starts_with('{') && (body.is_empty() || is_json != body.ends_with('\n'))
 }

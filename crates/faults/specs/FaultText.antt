@@ -2,7 +2,7 @@
 use Rattle.std.specs.Prelude.{ℕ, List, [], ◌++◌, codes, decimal, Option, Some, None}
 use Rattle.faults.specs.declared.any.AnyFault.{AnyFault}
 
--- a blank and the place, where there is one
+-- a blank and the place, if there is one
 abbrev pub place_text : Option ℕ → List ℕ
 place_text (Some place) = codes " " ++ decimal place
 place_text None = []

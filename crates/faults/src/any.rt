@@ -61,8 +61,8 @@ impl AnyFault {
         }
     }
 
-    /// The line that tells the fault: `FAULT`, the number and the place, where there is one, with blanks between and
-    /// a line feed at the end. It takes no memory.
+    /// The line that tells the fault: `FAULT`, the number and the place, if there is one, with blanks between and a
+    /// line feed at the end. It takes no memory.
     pub fn text(self) -> ArrayString<32>
         ensures { result.bytes ≡ text_of self }
     {

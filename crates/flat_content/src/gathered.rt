@@ -48,7 +48,7 @@ impl Gathered {
     ///
     /// # Errors
     ///
-    /// `NoMemory` where memory ran out, or all lists of the records would have over 4,294,967,295 ids.
+    /// `NoMemory` if memory ran out, or all lists of the records would have over 4,294,967,295 ids.
     pub fn with(self, changes: Vec<Change>) -> Result<Self, NoMemory>
         ensures { IfOk result (λ now. (earlier : List Change) →
             self ≡ content_of earlier → now ≡ content_of (earlier ++ changes.items)) }
@@ -82,7 +82,7 @@ impl Gathered {
     ///
     /// # Errors
     ///
-    /// `NoMemory` where memory ran out.
+    /// `NoMemory` if memory ran out.
     pub fn content(self) -> Result<FlatContent, NoMemory>
         ensures value { IfOk result (λ content. content ≡ self) }
         ensures in_order { IfOk result IsInOrder }

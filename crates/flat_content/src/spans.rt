@@ -26,7 +26,7 @@ impl Span {
 ///
 /// # Errors
 ///
-/// `NoMemory` where memory ran out, or there would be over 4,294,967,295 ids.
+/// `NoMemory` if memory ran out, or there would be over 4,294,967,295 ids.
 pub(crate) fn put(names: &mut Vec<Id>, ids: &Ids) -> Result<Span, NoMemory>
     ensures keeps { OnOk result (Keeps names.old.items names.new.items) }
     ensures ids { IfOk result (λ span. part_at names.new.items span ≡ ids.now) }
@@ -64,7 +64,7 @@ pub(crate) fn copied(alloc: Global, names: &[Id], span: Span) -> Result<Ids, NoM
 ///
 /// # Errors
 ///
-/// `NoMemory` where memory ran out, or there would be over 4,294,967,295 of them.
+/// `NoMemory` if memory ran out, or there would be over 4,294,967,295 of them.
 pub(crate) fn put_conds(all: &mut Vec<CondNeed>, conds: &CondNeeds) -> Result<Span, NoMemory>
     ensures keeps { OnOk result (Keeps all.old.items all.new.items) }
     ensures conds { IfOk result (λ span. part_at all.new.items span ≡ conds.now) }

@@ -14,7 +14,7 @@ hold_columns =
     (1, codes "SYSMOD") ∷ (10, codes "KIND") ∷ (18, codes "REASON") ∷ (27, codes "FMID") ∷ (36, codes "CLASS")
     ∷ (45, codes "DATE") ∷ (52, codes "RESOLVER") ∷ (61, codes "CATEGORY") ∷ []
 
--- an id, or a dash where there is none
+-- an id, or a dash if there is none
 abbrev pub id_field : Option (List ℕ) → List ℕ
 id_field id = option_map_or text_of id (codes "-")
 

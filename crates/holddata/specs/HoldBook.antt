@@ -24,15 +24,15 @@ hold_under book key = find (λ hold. is_same_key key hold.key) book
 abbrev pub holds_on : List Hold → List ℕ → List Hold
 holds_on book sysmod = filter (λ hold. bytes_eq sysmod hold.key.sysmod) book
 
--- the book that one change makes of another: under the key that it names stands what it puts, or nothing where
--- it is a release, and under every other key what stood there
+-- the book that one change makes of another: under the key that it names stands what it puts, or nothing if it
+-- is a release, and under every other key what stood there
 pub record IsChanged (change : HoldChange) (old new : List Hold) : Type 0 where
   pub in_key_order : IsInKeyOrder new
   pub named : hold_under new (key_of change) ≡ hold_put change
   pub others : (key : HoldKey) → key ≢ key_of change → hold_under new key ≡ hold_under old key
 
--- the book that a list of changes leaves: under each key what the last change that names the key puts,
--- and nothing where that is a release or where no change names it
+-- the book that a list of changes leaves: under each key what the last change that names the key puts, and
+-- nothing if that is a release or if no change names it
 pub record IsLeft (changes : List HoldChange) (book : List Hold) : Type 0 where
   pub in_key_order : IsInKeyOrder book
   pub holds : (key : HoldKey) → hold_under book key ≡ hold_left changes key

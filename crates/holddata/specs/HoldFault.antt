@@ -4,7 +4,7 @@ use Rattle.faults.specs.declared.any.AnyFault.{AnyFault}
 use Rattle.holddata.specs.declared.fault.HoldFault.{HoldFault}
 use Rattle.holddata.specs.declared.fault.HoldFault.TheVariants.{NoKind, TwoKinds, NoReason, BadId, BadDate, BadCategory, Memory}
 
--- the number that is printed, the line on which the statement begins, where it has one, and what is at fault
+-- the number that is printed, the line on which the statement begins, if it has one, and what is at fault
 abbrev pub told : HoldFault → AnyFault
 told (NoKind line) = at_place 11 line
 told (TwoKinds line) = at_place 12 line

@@ -21,7 +21,7 @@ use Rattle.holddata.specs.Operands.{kinds_of, the_kind, values_of, is_nothing, t
 abbrev pub given : Statement → List ℕ → List (List ℕ)
 given statement name = values_of name statement.operands
 
--- the key that a statement names, where it has its three parts
+-- the key that a statement names, if it has its three parts
 abbrev pub key_named : Statement → Option HoldKey
 key_named statement =
     option_and_then (λ sysmod.
@@ -110,6 +110,6 @@ first_of (x ∷ xs) = Some x
 abbrev pub first_fault : List Statement → Option HoldFault
 first_fault statements = first_of (flat_map faults_of statements)
 
--- what statements do to the holds, where none has a fault
+-- what statements do to the holds, if none has a fault
 abbrev pub changes_of : List Statement → List HoldChange
 changes_of statements = filter_map change_of statements

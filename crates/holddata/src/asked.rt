@@ -22,7 +22,7 @@ const NAMES: [&[u8]; 12] = [
     b"FIXCAT",
 ];
 
-/// The names of the operands of `++HOLD` and `++RELEASE` that say something of a hold. Where a statement is read with
+/// The names of the operands of `++HOLD` and `++RELEASE` that say something of a hold. If a statement is read with
 /// these, and maybe with more, it does to the holds what it does with all of its operands, and has the same faults.
 pub fn hold_operands() -> &'static [&'static [u8]]
     ensures names { bytes_of_each result.now ≡ hold_operands }

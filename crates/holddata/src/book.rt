@@ -117,8 +117,8 @@ impl HoldBook {
         })
     }
 
-    /// Makes one change. A put replaces the hold of its key whole; a release takes its key away,
-    /// whatever the FMID, and does nothing where there is no such hold.
+    /// Makes one change. A put replaces the hold of its key whole; a release takes its key away, whatever the FMID, and
+    /// does nothing if there is no such hold.
     ///
     /// # Errors
     ///
@@ -199,8 +199,8 @@ impl HoldBook {
     }
 }
 
-/// The book that the changes leave: under each key what the last change that names the key puts, and
-/// nothing where that is a release or where none names it.
+/// The book that the changes leave: under each key what the last change that names the key puts, and nothing if that is
+/// a release or if none names it.
 ///
 /// # Errors
 ///

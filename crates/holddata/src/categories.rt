@@ -44,7 +44,7 @@ impl Categories {
         }
     }
 
-    /// These categories, or `None` where one is none or they don't ascend.
+    /// These categories, or `None` if one is none or they don't ascend.
     ///
     /// # Errors
     ///

@@ -28,7 +28,7 @@ impl Model for Date {
 }
 
 impl Date {
-    /// The date with this number, as 12045, or `None` where no date has it.
+    /// The date with this number, as 12045, or `None` if no date has it.
     pub fn new(number: u32) -> Option<Self>
         ensures { result ≡ date_with number }
     {

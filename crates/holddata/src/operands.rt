@@ -53,7 +53,7 @@ pub(crate) fn given_by_operands<'a>(operands: &[Operand<'a>]) -> Gathered<'a>
     given
 }
 
-/// The one value that the operands of this name give together, or `None` where they give none or several. It takes no
+/// The one value that the operands of this name give together, or `None` if they give none or several. It takes no
 /// memory.
 #[tactic(auto, using(crate::proofs::OperandFacts::shown_more))]
 pub fn sole_value<'a>(operands: &[Operand<'a>], name: &[u8]) -> Option<&'a [u8]>

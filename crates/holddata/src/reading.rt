@@ -46,7 +46,7 @@ pub fn changes(alloc: Global, statements: &[Statement]) -> Result<Vec<HoldChange
     Ok(changes)
 }
 
-/// What one statement does to the holds, or `None` where it does nothing to them.
+/// What one statement does to the holds, or `None` if it does nothing to them.
 ///
 /// # Errors
 ///
@@ -92,8 +92,8 @@ fn hold_by(alloc: Global, statement: &Statement) -> Result<Hold, HoldFault>
     })
 }
 
-// The key of the hold that a `++RELEASE` statement takes away. The FMID plays no role in that, but has to be
-// an id where it is given.
+// The key of the hold that a `++RELEASE` statement takes away. The FMID plays no role in that, but has to be an id if
+// it is given.
 #[tactic(auto, using(crate::proofs::StatementFacts::first_of_longer))]
 fn key_of_release(statement: &Statement) -> Result<HoldKey, HoldFault>
     requires { statement.now.verb ≡ verb.Release }

@@ -11,7 +11,7 @@ use std::test::Fail;
 use testing::{Failures, Pieces, Slow};
 use transfer::{Intake, RETRIES, read_source, write_whole};
 
-/// What comes of a transfer, or nothing where the word is none of these.
+/// What comes of a transfer, or nothing if the word is none of these.
 pub(crate) fn transfer_told(alloc: Global, word: &str, rest: &str) -> Result<Option<String>, Fail> {
     let (numbers, kind) = numbers_in(alloc, rest)?;
     let text = long_text(alloc, numbers.first().copied().unwrap_or(0))?;

@@ -5,7 +5,7 @@ use Rattle.std.specs.List.{list_any, range_with_len}
 use Rattle.requisites.specs.Leads.{Leads}
 use Rattle.requisites.specs.Nodes.{IsMarked, Links, mark_of, row}
 
--- Whether a node q that gives p outdoes it, by the rows of what gives each: it is another one. Where p gives it too, the
+-- Whether a node q that gives p outdoes it, by the rows of what gives each: it is another one. If p gives it too, the
 -- greater of them outdoes the other.
 abbrev pub outdoes : List (List ℕ) → ℕ → ℕ → Bool
 outdoes givers p q = not (q == p) && (nat_lt p q || not (list_any (λ r. r == p) (row givers q)))

@@ -5,7 +5,7 @@ use Rattle.std.specs.List.{range_with_len}
 use Rattle.requisites.specs.Leads.{Leads}
 use Rattle.requisites.specs.Nodes.{Links, row}
 
--- the level of a node, where it has one: how many steps come before it
+-- the level of a node, if it has one: how many steps come before it
 abbrev pub level_of : List (Option ℕ) → ℕ → Option ℕ
 level_of levels p = slice_index_or levels p None
 
@@ -35,7 +35,7 @@ pub record AreLevels (needs : List (List ℕ)) (n : ℕ) (IsPut : ℕ → Type 0
 
 -- ---- one ring
 
--- a level, or that just above another one where this is greater
+-- a level, or that just above another one if this is greater
 abbrev pub raise : ℕ → Option ℕ → ℕ
 raise level None = level
 raise level (Some below) = max level (below + 1)
@@ -110,7 +110,7 @@ lists_in lists = map (λ list. list.items) lists
 abbrev pub AreNodesWith : List (Option ℕ) → ℕ → List (List ℕ) → Type 0
 AreNodesWith levels i lists = (level : ℕ) → level < length lists → row lists level ≡ nodes_with levels i level
 
--- a node is put to the list of a level, where there is one
+-- a node is put to the list of a level, if there is one
 pub record IsPutAt (level node : ℕ) (old new : List (List ℕ)) : Type 0 where
   pub put : level < length old → row new level ≡ row old level ++ node ∷ []
   pub others : (other : ℕ) → ¬ (other ≡ level) → row new other ≡ row old other

@@ -8,14 +8,14 @@ use requisites::{NoMemory, Rows};
 use std::alloc::Global;
 
 /// Which of `len` nodes are left: those that no other one outdoes. `givers` has for each node all those that give it. A
-/// node outdoes another that it gives; where each gives the other, the greater one does.
+/// node outdoes another that it gives; if each gives the other, the greater one does.
 ///
 /// It takes time in proportion to what the rows have, and once more for a row that is walked for each node in it that it
 /// may give back.
 ///
 /// # Errors
 ///
-/// `NoMemory` where memory ran out.
+/// `NoMemory` if memory ran out.
 pub fn left_marks(alloc: Global, givers: &Rows, len: usize) -> Result<Vec<bool>, NoMemory>
     ensures marks { IfOk result (λ left. left.items ≡ left_in givers.now len) }
     ensures left { IfOk result (λ left. AreGivers givers.now len → AreLeft givers.now len left.items) }

@@ -71,7 +71,7 @@ fn level_above(row: &[usize], levels: &[Option<usize>], most: usize) -> usize
     level
 }
 
-// The level, or that just above another one where this is greater.
+// The level, or that just above another one if this is greater.
 fn raised(level: usize, below: Option<usize>, most: usize) -> usize
     requires { IfSome below (λ below. below < most) }
     ensures level { result ≡ raise level below }

@@ -15,7 +15,7 @@ use std::alloc::Global;
 ///
 /// # Errors
 ///
-/// `NoMemory` where memory ran out.
+/// `NoMemory` if memory ran out.
 pub fn steps(alloc: Global, needs: &Rows, members: &[bool]) -> Result<Rows, NoMemory>
     requires { IsClosed needs.now members.now }
     ensures steps { IfOk result (λ steps. AreSteps needs.now members.now steps) }

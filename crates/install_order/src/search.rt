@@ -140,14 +140,14 @@ fn number_of(numbers: &[usize], node: usize) -> usize {
     numbers.get(node).copied().unwrap_or(0)
 }
 
-/// Notes a number of a node, where there is room for it.
+/// Notes a number of a node, if there is room for it.
 pub(crate) fn set_number(numbers: &mut [usize], node: usize, number: usize) {
     if node < numbers.len() {
         numbers[node] = number;
     }
 }
 
-/// Marks a node, or takes its mark, where there is room for it.
+/// Marks a node, or takes its mark, if there is room for it.
 pub(crate) fn set_mark(marks: &mut [bool], node: usize, mark: bool)
     ensures { length marks.new ≡ length marks.old }
 {

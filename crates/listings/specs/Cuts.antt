@@ -1,5 +1,5 @@
--- No part of what is promised: private contracts cite it. A part of the content by index: what is found of plans,
--- picks and verdicts over the indices of a part holds over the whole content, where the part is closed.
+-- No part of what is promised: private contracts cite it. A part of the content by index: what is found of plans, picks and
+-- verdicts over the indices of a part holds over the whole content, if the part is closed.
 use Rattle.std.specs.Prelude.{◌<◌, ◌↔◌, ℕ, List, length}
 use Rattle.requisites.specs.World.{World}
 use Rattle.verdicts.specs.Indices.{IndexOf, id_at}

@@ -10,7 +10,7 @@ use Rattle.listings.specs.declared.gathered.Gathered.{Gathered}
 abbrev pub gathered_of : Content → List ℕ → Gathered
 gathered_of content id = record { entry = sight_of content id; above = superseders content id }
 
--- the ids to which one step leads: what is needed, what is needed where a function is, and what supersedes directly
+-- the ids to which one step leads: what is needed, what is needed if a function is, and what supersedes directly
 abbrev pub named_by : Gathered → List (List ℕ)
 named_by gathered = all_needs gathered.entry ++ gathered.above
 

@@ -63,7 +63,7 @@ pub record IsBare (sight : Sight) : Type 0 where
   pub fmids : sight.fmids ≡ []
   pub superseded : sight.superseded ≡ []
 
--- what is seen of an id in a list: what f says, or nothing that counts where the list doesn't have it
+-- what is seen of an id in a list: what f says, or nothing that counts if the list doesn't have it
 pub record IsSeen (f : List ℕ → Sight) (ids : List (List ℕ)) (id : List ℕ) (sight : Sight) : Type 0 where
   pub listed : Contains ids id → sight ≡ f id
   pub unlisted : (Contains ids id → ⊥) → IsBare sight

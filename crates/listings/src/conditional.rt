@@ -40,7 +40,7 @@ pub(crate) fn push_indices_where(
 ///
 /// # Errors
 ///
-/// `NoMemory` where memory ran out.
+/// `NoMemory` if memory ran out.
 pub fn put_needs_where(
     indices: &mut Vec<usize>,
     always: &[usize],

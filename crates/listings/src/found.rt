@@ -12,7 +12,7 @@ use std::collections::BTreeMap;
 ///
 /// # Errors
 ///
-/// `NoMemory` where memory ran out.
+/// `NoMemory` if memory ran out.
 pub fn ids_found<T>(alloc: Global, found: &BTreeMap<Id, T>) -> Result<Vec<Id>, NoMemory>
     ensures ids { IfOk result (λ ids. ids.items ≡ keys found.now) }
     ensures ascend { IfOk result (λ ids. Ascend ids.items) }

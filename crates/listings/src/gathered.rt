@@ -26,11 +26,11 @@ pub struct Gathered {
 }
 
 /// What the source says of a SYSMOD, of all that it may need and all that supersedes it, of all that these may
-/// need, and so on. Each is read once. With a limit it gives up where there are more than so many.
+/// need, and so on. Each is read once. With a limit it gives up if there are more than so many.
 ///
 /// # Errors
 ///
-/// `Memory` where memory ran out, `Device` where the source failed.
+/// `Memory` if memory ran out, `Device` if the source failed.
 pub fn gather<P: Published>(
     alloc: Global,
     source: &mut P,

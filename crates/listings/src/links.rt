@@ -31,7 +31,7 @@ impl Links {
     ///
     /// # Errors
     ///
-    /// `NoMemory` where memory ran out.
+    /// `NoMemory` if memory ran out.
     pub fn of(alloc: Global, ids: &[Id], all: &[Gathered]) -> Result<Links, NoMemory>
         requires ascend { Ascend ids.now }
         requires len { length all.now ≡ length ids.now }
@@ -65,7 +65,7 @@ impl Links {
 ///
 /// # Errors
 ///
-/// `NoMemory` where memory ran out.
+/// `NoMemory` if memory ran out.
 pub fn givers_at(
     alloc: Global,
     ids: &[Id],

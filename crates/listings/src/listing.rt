@@ -93,7 +93,7 @@ impl Entry {
     ///
     /// # Errors
     ///
-    /// `NoMemory` where memory ran out.
+    /// `NoMemory` if memory ran out.
     pub fn needs_in_order(&self, alloc: Global) -> Result<Ids, NoMemory>
         ensures { IfOk result (λ needs. needs ≡ in_order self.now.needs) }
     {
@@ -102,7 +102,7 @@ impl Entry {
         Ok(ascending(needs))
     }
 
-    /// What it needs where a function is installed.
+    /// What it needs if a function is installed.
     pub fn conds(&self) -> &CondNeeds
         ensures { result.now ≡ self.now.conds }
     {
@@ -167,7 +167,7 @@ impl Listing {
     ///
     /// # Errors
     ///
-    /// `NoMemory` where memory ran out.
+    /// `NoMemory` if memory ran out.
     pub fn superseders(&self, alloc: Global, id: &Id) -> Result<Ids, NoMemory>
         ensures superseders { IfOk result (λ found. (content : Content) → SaysOf content id.now self.now
             → found ≡ superseders content id.now) }
@@ -178,12 +178,12 @@ impl Listing {
         Ok(ascending(found))
     }
 
-    /// That of a later content, where this one is of it but for some marked ids, of which it is read anew. Only what is
+    /// That of a later content, if this one is of it but for some marked ids, of which it is read anew. Only what is
     /// marked is looked at; all else is taken over.
     ///
     /// # Errors
     ///
-    /// `NoMemory` where memory ran out.
+    /// `NoMemory` if memory ran out.
     pub fn renewed(self, alloc: Global, marks: &[Id], read: Vec<Seen>) -> Result<Listing, NoMemory>
         requires { Ascend marks.now }
         ensures listing { IfOk result (λ renewed. (content : Content)
@@ -241,7 +241,7 @@ fn run_len(count: usize) -> usize
 ///
 /// # Errors
 ///
-/// `Memory` where memory ran out, `Device` where the source failed.
+/// `Memory` if memory ran out, `Device` if the source failed.
 pub fn listing_of<P: Published>(alloc: Global, source: &mut P) -> Result<Listing, SourceFault>
     ensures asks { MayAsk P.content_view Device source.old source.new result }
     ensures listing { IfOk result (λ listing. Tells P.content_view source.old source.new
@@ -350,7 +350,7 @@ pub(crate) fn entry_from(
     })
 }
 
-// The ids of two lists, one after the other. It takes no memory where the first is empty.
+// The ids of two lists, one after the other. It takes no memory if the first is empty.
 fn append(mut first: Vec<Id>, second: Vec<Id>) -> Result<Vec<Id>, NoMemory>
     ensures { IfOk result (λ both. both.items ≡ first.items ++ second.items) }
 {

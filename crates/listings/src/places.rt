@@ -51,7 +51,7 @@ fn place_here(ids: &[Id], index: usize, id: &Id) -> Option<usize>
     None
 }
 
-/// Makes a list that of the places of indices, where they have one.
+/// Makes a list that of the places of indices, if they have one.
 pub(crate) fn put_moved(
     indices: &mut Vec<usize>,
     places: &[Option<usize>],

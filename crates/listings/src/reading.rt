@@ -28,7 +28,7 @@ const RUN: usize = 512;
 ///
 /// # Errors
 ///
-/// `Memory` where memory ran out, `Device` where the source failed.
+/// `Memory` if memory ran out, `Device` if the source failed.
 pub fn zone_nodes_of<P: Published>(
     alloc: Global,
     source: &mut P,

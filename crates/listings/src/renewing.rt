@@ -141,7 +141,7 @@ pub(crate) fn woven(
     Ok(entries)
 }
 
-// The next entry. Where none is left it takes no memory either.
+// The next entry. If none is left it takes no memory either.
 fn next_of(alloc: Global, entries: &mut IntoIter<Entry>) -> Entry
     ensures { (first : Sight) (rest : List Sight) → into_iter_items entries.old ≡ first ∷ rest
         → (result ≡ first) × (into_iter_items entries.new ≡ rest) }

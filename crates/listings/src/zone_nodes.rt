@@ -39,7 +39,7 @@ impl ZoneNodes {
     ///
     /// # Errors
     ///
-    /// `NoMemory` where memory ran out.
+    /// `NoMemory` if memory ran out.
     pub fn of_listing(alloc: Global, zone: &Zone, listing: &Listing) -> Result<ZoneNodes, NoMemory>
         ensures ascend { IfOk result (λ cut. Ascend cut.members.items) }
         ensures cut { IfOk result (λ cut. (content : Content) → IsListing content listing.now
@@ -141,7 +141,7 @@ fn marks_and_needs(
 ///
 /// # Errors
 ///
-/// `NoMemory` where memory ran out.
+/// `NoMemory` if memory ran out.
 pub fn there_marks(
     alloc: Global,
     zone: &Zone,

@@ -17,7 +17,7 @@ IsWord text = (1 ≤ length text) × (length text ≤ 64) × AreShown text
 abbrev pub shown : ℕ → ℕ
 shown b = if nat_le 33 b && nat_le b 126 then b else 63
 
--- what stands where there is no text
+-- what stands if there is no text
 abbrev pub none : List ℕ
 none = 45 ∷ []
 

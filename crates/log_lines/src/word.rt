@@ -29,7 +29,7 @@ impl Model for Word {
 }
 
 impl Word {
-    /// The word that stands where there is no text: `-`.
+    /// The word that stands if there is no text: `-`.
     pub fn none() -> Word
         ensures { result ≡ none }
     {
@@ -39,7 +39,7 @@ impl Word {
     }
 
     /// What a line shows of a text: its first 64 bytes, with a question mark for each that is no printed character
-    /// of ASCII, or is a blank; and `-` where the text has none.
+    /// of ASCII, or is a blank; and `-` if the text has none.
     pub fn of(text: &[u8]) -> Word
         ensures { result ≡ word_of text.now }
     {

@@ -16,7 +16,7 @@ pub record OpensList (line : ℕ) (text after : List ℕ) : Type 0 where
   pub of_name : scan line 0 a_name false text ≡ scan line 1 no_name false after
   pub of_comment : scan line 0 name_comment false text ≡ after_raw_list line (after_raw 0 after)
 
--- the value stands in front of what is found after it, where at least one parenthesis is open
+-- the value stands in front of what is found after it, if at least one parenthesis is open
 pub record GivesValue (line depth : ℕ) (text value : List ℕ) (depth_after : ℕ) (after : List ℕ) : Type 0 where
   pub found : scan line depth no_name false text ≡ on_found (with_values (value ∷ [])) (scan line depth_after no_name false after)
   pub still_open : 0 < depth_after

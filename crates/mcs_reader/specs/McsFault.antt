@@ -4,7 +4,7 @@ use Rattle.faults.specs.declared.any.AnyFault.{AnyFault}
 use Rattle.mcs_reader.specs.declared.fault.McsFault.{McsFault}
 use Rattle.mcs_reader.specs.declared.fault.McsFault.TheVariants.{NoPeriod, BadVerbSubject, Unbalanced, BadByte, TooLong, Memory}
 
--- the number that is printed, the line on which the statement begins, where it has one, and what is at fault
+-- the number that is printed, the line on which the statement begins, if it has one, and what is at fault
 abbrev pub told : McsFault → AnyFault
 told (NoPeriod line) = at_place 1 line
 told (BadVerbSubject line) = at_place 2 line

@@ -42,7 +42,7 @@ abbrev pub ends_or_begins_statement : List ℕ → Bool
 ends_or_begins_statement [] = true
 ends_or_begins_statement (b ∷ text) = begins_statement (b ∷ text)
 
--- what makes it a segment, where the text `after` follows it
+-- what makes it a segment, if the text `after` follows it
 abbrev pub IsSegment : Segment → List ℕ → Type 0
 IsSegment (passed line) after = IsPassed line
 IsSegment (skipped head rest lines) after =
@@ -53,7 +53,7 @@ IsSegment (stated text subject ignored) after =
 abbrev pub spell_row : List Segment → List ℕ
 spell_row row = flat_map spell_segment row
 
--- each of a row is a segment, where the text `after` follows the row
+-- each of a row is a segment, if the text `after` follows the row
 abbrev pub IsRow : List Segment → List ℕ → Type 0
 IsRow [] after = Unit {0}
 IsRow (segment ∷ row) after = IsSegment segment (spell_row row ++ after) × IsRow row after

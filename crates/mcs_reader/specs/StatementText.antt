@@ -31,8 +31,8 @@ sole (value ∷ other ∷ more) = None
 abbrev pub the_id : List (List ℕ) → Option (Option (List ℕ))
 the_id values = option_map Some (option_and_then id_of (sole values))
 
--- The subject that the values of a verb's list give, where they are as the verb wants them: just one, an
--- id. VER takes any, and none of them is its subject. IF wants no list.
+-- The subject that the values of a verb's list give, if they are as the verb wants them: just one, an id. VER takes
+-- any, and none of them is its subject. IF wants no list.
 abbrev pub subject_by : Verb → List (List ℕ) → Option (Option (List ℕ))
 subject_by Hold values = the_id values
 subject_by Release values = the_id values

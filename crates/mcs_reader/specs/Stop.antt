@@ -9,12 +9,11 @@ use Rattle.mcs_reader.specs.StatementText.{StatementText, IsStatementText, subje
 use Rattle.mcs_reader.specs.declared.fault.McsFault.{McsFault}
 use Rattle.mcs_reader.specs.declared.fault.McsFault.TheVariants.{NoPeriod, BadVerbSubject, Unbalanced, BadByte}
 
--- What stands after the pieces of a statement, outside lists, where it goes no further:
--- the end of the text; the ++ of the next statement, at a line's beginning; a closing parenthesis that
--- nothing opened; a byte that can't stand outside lists; an opening parenthesis before which, gaps and
--- comments aside, no name stands; a comment in which the text ends; a list in which the text ends, or a
--- comment in it, each of whose opening parentheses has pieces after it; a list of COMMENT in which the
--- text ends; or the period, where the verb's list isn't as the verb wants it.
+-- What stands after the pieces of a statement, outside lists, where it goes no further: the end of the text; the ++ of
+-- the next statement, at a line's beginning; a closing parenthesis that nothing opened; a byte that can't stand outside
+-- lists; an opening parenthesis before which, gaps and comments aside, no name stands; a comment in which the text ends;
+-- a list in which the text ends, or a comment in it, each of whose opening parentheses has pieces after it; a list of
+-- COMMENT in which the text ends; or the period, if the verb's list isn't as the verb wants it.
 pub data Stop : Type 0 where
   text_ends : Stop
   statement_begins : List ℕ → Stop

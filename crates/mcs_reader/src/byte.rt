@@ -22,7 +22,7 @@ pub(crate) enum ByteRole {
     Other,
 }
 
-/// What a byte does where no comment begins.
+/// What a byte does if no comment begins.
 #[inline]
 #[tactic(auto, unfolding(crate::specs::Byte::role_of))]
 pub(crate) fn role_of(b: u8) -> ByteRole

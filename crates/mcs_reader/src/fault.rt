@@ -15,8 +15,8 @@ pub enum McsFault {
     /// `++`.
     #[error("line {0}: no period ends the statement")]
     NoPeriod(u32),
-    /// The list after the verb is missing, or holds anything but one value, an [`Id`](crate::Id), where
-    /// the verb isn't VER. Or the verb is IF, and a list follows it.
+    /// The list after the verb is missing, or holds anything but one value, an [`Id`](crate::Id), if the verb isn't
+    /// VER. Or the verb is IF, and a list follows it.
     #[error("line {0}: the list after the verb is not one id")]
     BadVerbSubject(u32),
     /// The text ends inside parentheses or a comment, or `)` stands outside them.

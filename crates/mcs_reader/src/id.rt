@@ -33,7 +33,7 @@ impl Model for Id {
 }
 
 impl Id {
-    /// The id with this text, or `None` where the bytes are no id's text.
+    /// The id with this text, or `None` if the bytes are no id's text.
     pub fn new(bytes: &[u8]) -> Option<Self>
         ensures value { result ≡ id_of bytes.now }
         ensures allowed { IsSome result ↔ IsTrue (is_id_text bytes.now) }

@@ -81,7 +81,7 @@ pub(crate) fn gather_values<'a>(
     Ok(ListValues::take_gathered(scratch)?)
 }
 
-/// The value of the list whose opening parenthesis was passed, where it has just one.
+/// The value of the list whose opening parenthesis was passed, if it has just one.
 pub(crate) fn take_sole_value<'a>(
     cursor: &mut Cursor<'a>,
     line: u32,

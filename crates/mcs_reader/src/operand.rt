@@ -147,7 +147,7 @@ fn subject_by(verb: Verb, value: Option<&[u8]>) -> Option<Option<Id>>
     }
 }
 
-/// The values of the list that follows a name, none where no list does.
+/// The values of the list that follows a name, none if no list does.
 fn take_values<'a>(
     cursor: &mut Cursor<'a>,
     scratch: &mut Vec<&'a [u8]>,

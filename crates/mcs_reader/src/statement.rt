@@ -23,7 +23,7 @@ pub enum Verb {
     Usermod,
     /// `++VER` says of the SYSMOD before it where it applies and what it needs.
     Ver,
-    /// `++IF` says of the SYSMOD before it what it needs where a function is installed.
+    /// `++IF` says of the SYSMOD before it what it needs if a function is installed.
     Cond,
 }
 
@@ -118,7 +118,7 @@ impl<'a> ListValues<'a> {
 pub struct Operand<'a> {
     /// The operand's name as it was written; names are compared without regard to ASCII case.
     pub name: &'a [u8],
-    /// The values of the operand's list, none where it has no list.
+    /// The values of the operand's list, none if it has no list.
     pub values: ListValues<'a>,
 }
 

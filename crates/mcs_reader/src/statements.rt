@@ -24,9 +24,9 @@ use std::marker::Model;
 
 /// The statements of a source, one after the other, of which none is kept.
 ///
-/// A contract sees what the part that is left is read as, and of how many bytes it is. So a source is
-/// read as [`read`](crate::read) reads it just if its end is reached: where a statement has a fault,
-/// those before it were no reading of the source.
+/// A contract sees what the part that is left is read as, and of how many bytes it is. So a source is read as
+/// [`read`](crate::read) reads it just if its end is reached: if a statement has a fault, those before it were no
+/// reading of the source.
 #[derive(Drop)]
 pub struct Statements<'a> {
     cursor: Cursor<'a>,
@@ -50,7 +50,7 @@ impl<'a> Statements<'a> {
     ///
     /// # Errors
     ///
-    /// [`McsFault::TooLong`] where the source has more than [`MOST_BYTES`](crate::MOST_BYTES) bytes.
+    /// [`McsFault::TooLong`] if the source has more than [`MOST_BYTES`](crate::MOST_BYTES) bytes.
     pub fn new(alloc: Global, source: &'a [u8]) -> Result<Self, McsFault>
         ensures reading { IfOk result (λ statements. IsRead source.now statements.reading) }
         ensures fault { IfErr result (λ fault. IsFirstFault source.now fault) }
@@ -67,7 +67,7 @@ impl<'a> Statements<'a> {
     ///
     /// # Errors
     ///
-    /// [`McsFault::TooLong`] where the source has more than [`MOST_BYTES`](crate::MOST_BYTES) bytes.
+    /// [`McsFault::TooLong`] if the source has more than [`MOST_BYTES`](crate::MOST_BYTES) bytes.
     pub fn asking(alloc: Global, source: &'a [u8], names: &'a [&'a [u8]]) -> Result<Self, McsFault>
         ensures fault { IfErr result (λ fault. IsFirstFault source.now fault) }
         ensures one_outcome { HasOneOutcome source.now }
@@ -102,7 +102,7 @@ impl<'a> Statements<'a> {
     /// # Errors
     ///
     /// The statement's fault, or [`McsFault::Memory`]. What is left stays as it was, so the next call answers the same
-    /// where memory doesn't run out.
+    /// if memory doesn't run out.
     pub fn next(&mut self) -> Result<Option<Statement<'a>>, McsFault>
         ensures next { IfOk result (λ next. MatchOption next
             (self.old.reading ≡ Ok [])

@@ -5,7 +5,7 @@ ghost use Rattle.sqlite_disk.specs.Disk.{Cut, Holds, Torn};
 
 use std::alloc::AllocError;
 
-/// Fills a buffer with the bytes from an offset on, where there are as many. Says whether there are; else the buffer
+/// Fills a buffer with the bytes from an offset on, if there are as many. Says whether there are; else the buffer
 /// stays as it was.
 pub fn read(bytes: &[u8], at: usize, buf: &mut [u8]) -> bool
     ensures read { OnTrue result (Holds bytes.now at buf.new) }

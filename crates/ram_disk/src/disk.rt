@@ -10,7 +10,7 @@ use std::io;
 
 /// A file in memory. Each write is kept at once: a stop of the database at any moment leaves exactly what was written.
 ///
-/// A call fails only where memory runs out or where a read goes past the end.
+/// A call fails only if memory runs out or if a read goes past the end.
 #[derive(Drop)]
 pub struct RamDisk {
     bytes: Vec<u8>,

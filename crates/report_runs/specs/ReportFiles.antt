@@ -26,8 +26,8 @@ IsFrontOf Unknown bytes = Unit {0}
 IsFrontOf Missing bytes = ⊥
 IsFrontOf (Holds known) bytes = bytes ≡ take most_read known
 
--- One file is read: standard input, where its name is `-`, and else the file of that name. Of both no more is read than an input
--- may have, and one byte.
+-- One file is read: standard input, if its name is `-`, and else the file of that name. Of both no more is read than an
+-- input may have, and one byte.
 abbrev pub IsRead : (List ℕ → KnownFile) → List ℕ → List ℕ → Option (List ℕ) → Option (List ℕ) → Type 0
 IsRead files name bytes input rest =
     ((name ≡ codes "-") × IfSome input (λ all. bytes ≡ take most_read all) × ConsumesUpTo most_read input rest)
@@ -48,7 +48,7 @@ AreRead files (name ∷ names) [] input rest = ⊥
 AreRead files (name ∷ names) (bytes ∷ more) input rest =
     (between : Option (List ℕ)) × IsRead files name bytes input between × AreRead files names more between rest
 
--- All files of a report are read: that of the zone, of the categories and of what is received, where these are given, and the
+-- All files of a report are read: that of the zone, of the categories and of what is received, if these are given, and the
 -- publications in their order.
 pub record AreInputs (files : List ℕ → KnownFile) (names : ReportFiles) (inputs : Inputs) (input rest : Option (List ℕ)) : Type 0 where
   pub after_zone : Option (List ℕ)
@@ -110,7 +110,7 @@ IsReport files question names input rest outputs status =
     ⊎ (((zone_of names ≡ None) ⊎ (1 < times_standard_input names)) × IsNotAsked input rest outputs status)
     ⊎ (IsEndedBy NotRead outputs status ⊎ IsEndedBy Memory outputs status)
 
--- `chain`: the verdict on the SYSMOD of this name, where that is an id
+-- `chain`: the verdict on the SYSMOD of this name, if that is an id
 abbrev pub IsChainOf : (List ℕ → KnownFile) → Option (List ℕ) → ReportFiles → Option (List ℕ) → Option (List ℕ) → Outputs → ℕ → Type 0
 IsChainOf files None names input rest outputs status = IsNotAsked input rest outputs status
 IsChainOf files (Some sysmod) names input rest outputs status = IsReport files (Chain sysmod) names input rest outputs status

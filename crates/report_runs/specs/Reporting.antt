@@ -50,13 +50,13 @@ name_of files (Publication index) = slice_get (map string_bytes files.publicatio
 abbrev pub AreNamed : ReportFiles → Inputs → Type 0
 AreNamed files inputs = (input : Input) → IsGiven inputs input → IsSome (name_of files input)
 
--- what standard error gets of a fault: its line with the name of the file that it is in, or without one, where it is in none
+-- what standard error gets of a fault: its line with the name of the file that it is in, or without one, if it is in none
 abbrev pub IsToldOf : ReportFiles → AnyFault → Option Input → Option (List ℕ) → Option (List ℕ) → Type 0
 IsToldOf files fault None old new = AppendsFront old new (text_of fault)
 IsToldOf files fault (Some input) old new =
     (name : List ℕ) × (name_of files input ≡ Some name) × AppendsFront old new (line_in fault name)
 
--- Serves private contracts alone: the input has a file's name, where there is one.
+-- Serves private contracts alone: the input has a file's name, if there is one.
 abbrev pub HasName : ReportFiles → Option Input → Type 0
 HasName files None = Unit {0}
 HasName files (Some input) = IsSome (name_of files input)
@@ -66,8 +66,8 @@ abbrev pub IsReportCutShort : InputFault → Result (List ℕ) Refused → Optio
 IsReportCutShort told made old new =
     (told ≡ record { input = None; fault = of_program NotWritten }) × ((text : List ℕ) × (made ≡ Ok text) × AppendsFront old new text)
 
--- What standard output gets: the whole report; a front of it, where a write failed; or nothing, where an input has a fault
--- or memory ran out.
+-- What standard output gets: the whole report; a front of it, if a write failed; or nothing, if an input has a fault or
+-- memory ran out.
 abbrev pub IsReportOutput : Option InputFault → Result (List ℕ) Refused → Option (List ℕ) → Option (List ℕ) → Type 0
 IsReportOutput None made old new = (text : List ℕ) × (made ≡ Ok text) × Appends old new text
 IsReportOutput (Some told) made old new = IsReportCutShort told made old new ⊎ (IsFirstFault made told × Keeps old new)

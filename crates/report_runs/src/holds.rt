@@ -22,9 +22,8 @@ pub const MOST_READ: usize = mcs_reader::MOST_BYTES + 1;
 
 /// Reads HOLDDATA and prints the hold book that its statements leave. Returns the exit status.
 ///
-/// The text is made whole before its first byte is written. A fault is told on `errors` alone, as
-/// `FAULT`, its number and its line; only where a write fails has `writer` the front of the text. No more than
-/// [`MOST_READ`] bytes are read.
+/// The text is made whole before its first byte is written. A fault is told on `errors` alone, as `FAULT`, its number
+/// and its line; only if a write fails has `writer` the front of the text. No more than [`MOST_READ`] bytes are read.
 pub fn run_holds<R: Read, W: Write, E: Write>(
     alloc: Global,
     reader: &mut R,
@@ -39,9 +38,9 @@ pub fn run_holds<R: Read, W: Write, E: Write>(
     told(errors, printed)
 }
 
-/// Prints the hold book of a FILE by its name, or of standard input where that is `-`. Returns the exit status.
+/// Prints the hold book of a FILE by its name, or of standard input if that is `-`. Returns the exit status.
 ///
-/// Standard input is read where FILE is `-`, and nowhere else. A file that can't be opened is told as 71.
+/// Standard input is read if FILE is `-`, and nowhere else. A file that can't be opened is told as 71.
 pub fn do_holds<S: Files, I: Read, O: Write, E: Write>(
     surroundings: &S,
     alloc: Global,
@@ -155,7 +154,7 @@ fn changes_by(alloc: Global, statements: Statements) -> Result<Vec<HoldChange>, 
     Ok(changes)
 }
 
-// Puts the change, where there is one, after the others.
+// Puts the change, if there is one, after the others.
 fn push_change(
     changes: &mut Vec<HoldChange>,
     change: Option<HoldChange>,

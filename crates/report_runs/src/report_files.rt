@@ -28,7 +28,7 @@ pub(crate) struct Contents {
     pub(crate) publications: Vec<Vec<u8>>,
 }
 
-/// Prints the verdict on the SYSMOD of this name. Where that is no id, status 2 says so.
+/// Prints the verdict on the SYSMOD of this name. If that is no id, status 2 says so.
 pub fn do_chain<S: Files, I: Read, O: Write, E: Write>(
     surroundings: &S,
     alloc: Global,
@@ -51,7 +51,7 @@ pub fn do_chain<S: Files, I: Read, O: Write, E: Write>(
     }
 }
 
-/// Prints what is asked of these files. Nothing is read where the zone has no name, or where a second file is `-`: status 2
+/// Prints what is asked of these files. Nothing is read if the zone has no name, or if a second file is `-`: status 2
 /// says so.
 pub fn do_report<S: Files, I: Read, O: Write, E: Write>(
     surroundings: &S,
@@ -119,7 +119,7 @@ fn print<O: Write, E: Write>(
     run_report(alloc, &asked, publications, output, errors)
 }
 
-// The bytes, where there are any.
+// The bytes, if there are any.
 fn bytes_of(bytes: &Option<Vec<u8>>) -> Option<&[u8]>
     ensures { option_map (λ bytes. bytes.now) result ≡ option_map (λ bytes. bytes.items) bytes.now }
 {
@@ -180,7 +180,7 @@ fn read_all<S: Files, I: Read>(
     Ok(all)
 }
 
-// What stands in a file, where one is given.
+// What stands in a file, if one is given.
 fn read_given<S: Files, I: Read>(
     surroundings: &S,
     alloc: Global,
@@ -202,8 +202,7 @@ fn read_given<S: Files, I: Read>(
     }
 }
 
-// What stands in a file, or in standard input where the name is `-`: all of it, or one byte more than an input may
-// have.
+// What stands in a file, or in standard input if the name is `-`: all of it, or one byte more than an input may have.
 fn read_one<S: Files, I: Read>(
     surroundings: &S,
     alloc: Global,
@@ -234,7 +233,7 @@ fn zone_name(alloc: Global, files: &ReportFiles) -> Result<Option<Id>, NoMemory>
     }
 }
 
-// The name of a file without its folder, up to its first period and in upper case, where that is an id.
+// The name of a file without its folder, up to its first period and in upper case, if that is an id.
 fn id_of_file(alloc: Global, file: &str) -> Result<Option<Id>, NoMemory>
     ensures { IfOk result (λ id. id ≡ option_and_then id_of (name_of_file file.now)) }
 {
@@ -255,7 +254,7 @@ fn is_read_twice(files: &ReportFiles) -> bool
     lists.saturating_add(standard_inputs_in(files.publications.as_slice())) > 1
 }
 
-// 1 where the name is `-`, and else 0.
+// 1 if the name is `-`, and else 0.
 fn once(name: &str) -> usize
     ensures times { result ≡ length (standard_inputs (name.now ∷ [])) }
     ensures bound { result ≤ 1 }

@@ -11,7 +11,7 @@ line_feed = 10
 abbrev pub carriage_return : ℕ
 carriage_return = 13
 
--- how many bytes the line end has that the bytes begin with: LF or CRLF, and 0 where there is none
+-- how many bytes the line end has that the bytes begin with: LF or CRLF, and 0 if there is none
 abbrev pub line_end_len : List ℕ → ℕ
 line_end_len [] = 0
 line_end_len (b ∷ bytes) =

@@ -21,13 +21,13 @@ value_if_named name field = if is_named name field then Some field.1 else None
 abbrev pub values : List ℕ → List Pair → List (List ℕ)
 values name fields = filter_map (value_if_named name) fields
 
--- the value where there is just one
+-- the value if there is just one
 abbrev pub sole : List (List ℕ) → Option (List ℕ)
 sole [] = None
 sole (value ∷ []) = Some value
 sole (value ∷ other ∷ more) = None
 
--- the value of the field with this name, where there is just one
+-- the value of the field with this name, if there is just one
 abbrev pub sole_value : List ℕ → List Pair → Option (List ℕ)
 sole_value name fields = sole (values name fields)
 

@@ -11,8 +11,8 @@ use Rattle.requests.specs.declared.refusal.Refusal.TheVariants.{HeadTooLarge}
 use Rattle.requests.specs.declared.next_request.Request.{Request}
 use Rattle.requests.specs.declared.next_request.NextRequest as answer
 
--- The connection ends where no request has begun, or inside one; or a head is refused, with whether its reply
--- has no body; or a whole request stands there, with its body and the bytes after it.
+-- The connection ends if no request has begun, or inside one; or a head is refused, with whether its reply has no body; or a
+-- whole request stands there, with its body and the bytes after it.
 pub data Next : Type 0 where
   clean_end : Next
   end_inside : Next

@@ -14,7 +14,7 @@ status_of Refusal.LengthRequired = Status.LengthRequired
 status_of Refusal.TooLarge = Status.PayloadTooLarge
 status_of Refusal.HeadTooLarge = Status.HeadTooLarge
 
--- what the path names, where it has other methods
+-- what the path names, if it has other methods
 abbrev pub allow_of_refusal : Refusal → Option Resource
 allow_of_refusal Refusal.BadRequest = None
 allow_of_refusal Refusal.UnknownToken = None

@@ -24,7 +24,7 @@ type_line is_json = line (codes "content-type: ") (type_name is_json)
 abbrev pub length_line : ℕ → List ℕ
 length_line length = line (codes "content-length: ") (decimal length)
 
--- the methods that there are, where the one asked for isn't among them
+-- the methods that there are, if the one asked for isn't among them
 abbrev pub allow_line : Option Resource → List ℕ
 allow_line None = []
 allow_line (Some resource) = line (codes "allow: ") (allow_of resource)
@@ -42,6 +42,6 @@ head_text head =
     status_line head.status ++ (type_line head.is_json ++ (length_line head.length ++ (allow_line head.allow
     ++ (challenge_line head.status ++ (close_line head.closes ++ codes "\r\n")))))
 
--- the head and the body, which is left out where only the head is asked for
+-- the head and the body, which is left out if only the head is asked for
 abbrev pub reply_text : ReplyHead → Bool → List ℕ → List ℕ
 reply_text head is_bare body = head_text head ++ (if is_bare then [] else body)

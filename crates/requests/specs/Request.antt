@@ -16,8 +16,8 @@ use Rattle.requests.specs.declared.refusal.Refusal.{Refusal}
 use Rattle.requests.specs.declared.refusal.Refusal.TheVariants.{BadRequest, NotFound, MethodNotAllowed, LengthRequired, TooLarge}
 use Rattle.requests.specs.declared.resource.Resource.{Resource}
 
--- what a head asks for: its method, its target, the caller's token and the number of a change, where there is just one
--- of each, and whether the connection ends after the reply
+-- what a head asks for: its method, its target, the caller's token and the number of a change, if there is just one of each,
+-- and whether the connection ends after the reply
 pub record Parts : Type 0 where
   pub method : List ℕ
   pub target : List ℕ
@@ -77,7 +77,7 @@ sysmod_in path = id_in (before slash (after slash (after slash (after slash (aft
 
 -- ---- the action
 
--- what a method asks for at a path that names this, where the path has the ids that are wanted
+-- what a method asks for at a path that names this, if the path has the ids that are wanted
 abbrev pub action_at : Resource → List ℕ → List ℕ → Option Action
 action_at Resource.Publication method path = Some Action.Publish
 action_at (Resource.Catalogue form) method path = Some (Action.Counts form)
@@ -122,7 +122,7 @@ has_body method = bytes_eq method (codes "POST") || bytes_eq method (codes "PUT"
 abbrev pub length_told : List ℕ → Result ℕ Refusal
 length_told value = if is_number value then within longest_body (digits_value 10 value) else Err BadRequest
 
--- the length where there is none
+-- the length if there is none
 abbrev pub length_untold : List ℕ → Result ℕ Refusal
 length_untold method = if has_body method then Err LengthRequired else Ok 0
 
@@ -150,6 +150,6 @@ abbrev pub number_in : Option (List ℕ) → Option ℕ
 number_in None = None
 number_in (Some text) = change_number text
 
--- the number of a change, where there is just one and it reads
+-- the number of a change, if there is just one and it reads
 abbrev pub number_of : Parts → Option ℕ
 number_of parts = number_in parts.number

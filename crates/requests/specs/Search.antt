@@ -7,7 +7,7 @@ use Rattle.requests.specs.declared.front.Front.TheVariants.{CleanEnd, EndInside}
 use Rattle.requests.specs.declared.head_end.Ending.{Ending}
 use Rattle.requests.specs.declared.head_end.Ending.TheVariants.{EmptyLines, EmptyLinesReturn, Line, Feed, FeedReturn}
 
--- the ending after a byte, or none where the head ends with it
+-- the ending after a byte, or none if the head ends with it
 abbrev pub after : Ending → ℕ → Option Ending
 after EmptyLines b = if b == line_feed then Some EmptyLines else if b == carriage_return then Some EmptyLinesReturn else Some Line
 after EmptyLinesReturn b = if b == line_feed then Some EmptyLines else Some Line

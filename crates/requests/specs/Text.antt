@@ -13,11 +13,11 @@ begins_with byte (b ∷ bytes) = b == byte
 abbrev pub before_len : ℕ → List ℕ → ℕ
 before_len byte text = prefix_len (λ b. not (b == byte)) text
 
--- what stands before the first of this kind, or the whole text where there is none
+-- what stands before the first of this kind, or the whole text if there is none
 abbrev pub before : ℕ → List ℕ → List ℕ
 before byte text = take (before_len byte text) text
 
--- what stands after it, which is nothing where there is none
+-- what stands after it, which is nothing if there is none
 abbrev pub after : ℕ → List ℕ → List ℕ
 after byte text = drop (before_len byte text + 1) text
 

@@ -29,7 +29,7 @@ pub enum Action {
     Chain(Id, Id),
 }
 
-// What a method asks for at what a path with these ids names, where it has those that are wanted.
+// What a method asks for at what a path with these ids names, if it has those that are wanted.
 pub(crate) fn action_at(
     resource: Resource,
     method: &[u8],

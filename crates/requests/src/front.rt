@@ -28,7 +28,7 @@ pub enum Front {
     TooLarge,
 }
 
-/// Reads as far as the end of a head, and no byte where that is at hand. The bytes stay in the intake.
+/// Reads as far as the end of a head, and no byte if that is at hand. The bytes stay in the intake.
 ///
 /// # Errors
 ///
@@ -110,8 +110,8 @@ fn at_end(ending: Ending) -> Front
     }
 }
 
-/// Reads until there are so many bytes, or the input ends, and no byte where they are at hand. The bytes
-/// stay in the intake.
+/// Reads until there are so many bytes, or the input ends, and no byte if they are at hand. The bytes stay in
+/// the intake.
 ///
 /// # Errors
 ///

@@ -56,7 +56,7 @@ impl Head {
         path
     }
 
-    /// The token of the caller, where there is just one.
+    /// The token of the caller, if there is just one.
     pub fn token<'a>(&self, bytes: &'a [u8]) -> Option<&'a [u8]>
         requires { LiesIn bytes.now self.now }
         ensures { option_map (λ token. token.now) result ≡ (parts_at bytes.now self.now).token }
@@ -67,7 +67,7 @@ impl Head {
         }
     }
 
-    /// The number of a change, where there is just one and it reads.
+    /// The number of a change, if there is just one and it reads.
     pub fn number(&self, bytes: &[u8]) -> Option<u64>
         requires { LiesIn bytes.now self.now }
         ensures { result ≡ Spec.number_of (parts_at bytes.now self.now) }

@@ -21,7 +21,7 @@ pub(crate) enum Ending {
 }
 
 impl Ending {
-    // The ending after a byte, or `None` where the head ends with it.
+    // The ending after a byte, or `None` if the head ends with it.
     fn after(self, byte: u8) -> Option<Ending>
         ensures { result ≡ after self byte }
     {

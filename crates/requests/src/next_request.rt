@@ -21,7 +21,7 @@ use transfer::{Intake, TransferFault};
 /// What stands next in a connection.
 #[derive(Clone, Copy, Debug)]
 pub enum NextRequest {
-    /// The end of the input, where no request has begun.
+    /// The end of the input, if no request has begun.
     CleanEnd,
     /// The end of the input inside a request.
     EndInside,
@@ -98,7 +98,7 @@ impl Request {
         self.head_len + self.body_len
     }
 
-    /// The token of the caller, where there is just one.
+    /// The token of the caller, if there is just one.
     pub fn token<'a>(&self, bytes: &'a [u8]) -> Option<&'a [u8]>
         requires { IsAt bytes.now self.now }
         ensures { option_map (λ token. token.now) result ≡ (parts_in bytes.now self.now).token }
@@ -106,7 +106,7 @@ impl Request {
         self.head.token(self.head_bytes(bytes))
     }
 
-    /// The number of a change, where there is just one and it reads.
+    /// The number of a change, if there is just one and it reads.
     pub fn number(&self, bytes: &[u8]) -> Option<u64>
         requires { IsAt bytes.now self.now }
         ensures { result ≡ Spec.number_of (parts_in bytes.now self.now) }
@@ -138,7 +138,7 @@ impl Request {
     }
 }
 
-/// Reads what stands next in a connection, and no byte where that is at hand. Its bytes stay in the intake.
+/// Reads what stands next in a connection, and no byte if that is at hand. Its bytes stay in the intake.
 ///
 /// # Errors
 ///

@@ -51,7 +51,7 @@ pub fn decide(bytes: &[u8]) -> Result<(Head, u64), Refused>
     decide_by(bytes, &spans, fields)
 }
 
-// Where the parts are of a head that is as long as its bytes. `None` where they are no head, or one with more than 64
+// Where the parts are of a head that is as long as its bytes. `None` if they are no head, or one with more than 64
 // fields.
 fn whole_head(bytes: &[u8], fields: &mut [HeaderSpan]) -> Option<RequestSpans>
     requires { length fields.old ≡ 64 }

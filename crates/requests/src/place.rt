@@ -15,9 +15,9 @@ use percent_encoding::percent_decode;
 pub(crate) struct Place {
     /// What stands there.
     pub(crate) resource: Resource,
-    /// The zone in the path, where that is an id.
+    /// The zone in the path, if that is an id.
     pub(crate) zone: Option<Id>,
-    /// The SYSMOD in the path, where that is an id.
+    /// The SYSMOD in the path, if that is an id.
     pub(crate) sysmod: Option<Id>,
 }
 

@@ -69,7 +69,7 @@ impl Progress {
     }
 }
 
-// How many bytes the request has whose head are the first so many, or `None` where it is refused.
+// How many bytes the request has whose head are the first so many, or `None` if it is refused.
 fn request_len(bytes: &[u8], head_len: usize) -> Option<usize>
     requires within { head_len ≤ length bytes.now }
     requires short { head_len ≤ 16384 }

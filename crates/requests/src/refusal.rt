@@ -40,7 +40,7 @@ impl Refusal {
         }
     }
 
-    /// What the path names, where it has other methods.
+    /// What the path names, if it has other methods.
     pub fn allow(self) -> Option<Resource>
         ensures { result ≡ Spec.allow_of_refusal self }
     {

@@ -17,7 +17,7 @@ pub struct ReplyHead {
     pub is_json: bool,
     /// The length of the body, in bytes.
     pub length: u64,
-    /// What the path names, where it has no such method.
+    /// What the path names, if it has no such method.
     pub allow: Option<Resource>,
     /// The connection ends after the reply.
     pub closes: bool,

@@ -73,7 +73,7 @@ impl Routes {
         Ok(Routes { router })
     }
 
-    /// What a path names, or `None` where it names nothing.
+    /// What a path names, or `None` if it names nothing.
     pub fn resource(&self, path: &str) -> Option<Resource>
         ensures { result ≡ Spec.resource_at path.now }
     {

@@ -111,7 +111,7 @@ fn are_digits(text: &[u8]) -> bool
     text.iter().all(|b| b.is_ascii_digit())
 }
 
-// The number that digits write, or `most` where it is over that.
+// The number that digits write, or `most` if it is over that.
 pub(crate) fn number_up_to(digits: &[u8], most: u64) -> u64
     requires { list_all is_ascii_digit digits.now ≡ true }
     ensures most { result ≤ most }

@@ -1,7 +1,7 @@
 -- Lists that lead from one to another by a relation.
 use Rattle.std.specs.Prelude.{◌≡◌, List, [], ◌∷◌}
 
--- from x to each of the list in turn, the last of which is y; y is x where the list is empty
+-- from x to each of the list in turn, the last of which is y; y is x if the list is empty
 abbrev pub IsPath : {A : Type 0} → (A → A → Type 0) → A → List A → A → Type 0
 IsPath Step x [] y = x ≡ y
 IsPath Step x (z ∷ zs) y = Step x z × IsPath Step z zs y

@@ -38,7 +38,7 @@ pub record IsGoodGiver {A : Type 0} (W : World A) (r y : A) : Type 0 where
   pub good : IsGood W y
   pub gives : W.Gives y r
 
--- the pick for a need: the need itself where it is good, else the least good id that gives it
+-- the pick for a need: the need itself if it is good, else the least good id that gives it
 abbrev pub IsPick : {A : Type 0} → World A → A → A → Type 0
 IsPick W r z = (IsGood W r × (z ≡ r)) ⊎ ((¬ IsGood W r) × IsLeast W (IsGoodGiver W r) z)
 

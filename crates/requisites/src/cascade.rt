@@ -1,8 +1,8 @@
 //! What falls with what: a quick way to all that isn't good.
 //!
-//! A ring of superseding closes where none of its nodes is left and nothing open from outside supersedes
-//! any; what needs a closed node falls. Each fall and each closing wakes those that it may concern, so that the
-//! whole takes time in proportion to the nodes and their links.
+//! A ring of superseding closes if none of its nodes is left and nothing open from outside supersedes any; what needs a
+//! closed node falls. Each fall and each closing wakes those that it may concern, so that the whole takes time in
+//! proportion to the nodes and their links.
 ghost use Rattle.std.specs.Prelude.{◌≡◌, ◌≤◌, ◌⊎◌, false, length, Contains, IfOk, OnOk};
 ghost use Rattle.std.specs.Bool.{OnTrue};
 ghost use Rattle.requisites.specs.Good.{AreAmong, AreClosedBut, AreMarksLeft, AreOpen, AreShutOff, AreUngiven, AreUnmarked, CanClose, ComesNearer, HasClosedNeed, IsShut, marked_count};
@@ -111,7 +111,7 @@ fn add_support(supports: &mut [usize], name: usize) {
     }
 }
 
-// Lets a node fall, and its ring close, where they have to.
+// Lets a node fall, and its ring close, if they have to.
 fn look(
     nodes: &Nodes,
     around: &Around,

@@ -17,7 +17,7 @@ use std::alloc::Global;
 ///
 /// # Errors
 ///
-/// `NoMemory` where memory ran out.
+/// `NoMemory` if memory ran out.
 pub fn chosen_plans(
     alloc: Global,
     nodes: &Nodes,
@@ -94,8 +94,7 @@ fn put_picks(
     Ok(())
 }
 
-// The pick for a need that isn't there: the need itself where it is good, else the least good
-// node that gives it.
+// The pick for a need that isn't there: the need itself if it is good, else the least good node that gives it.
 fn pick(nodes: &Nodes, resolution: &Resolution, need: usize) -> Option<usize>
     requires { AreGood nodes.now resolution.now.good.items resolution.now.givers.items }
     ensures some { IfSome result (λ z. IsNeedPick nodes.now need z) }

@@ -41,7 +41,7 @@ impl Resolution {
 ///
 /// # Errors
 ///
-/// `NoMemory` where memory ran out.
+/// `NoMemory` if memory ran out.
 pub fn resolve(alloc: Global, nodes: &Nodes) -> Result<Resolution, NoMemory>
     ensures good { IfOk result (λ found. AreGood nodes.now found.good.items found.givers.items) }
     ensures len { IfOk result (λ found. length found.givers.items ≡ length nodes.now.candidates.items) }
@@ -55,8 +55,8 @@ pub fn resolve(alloc: Global, nodes: &Nodes) -> Result<Resolution, NoMemory>
 // steps away from what falls with them, so that mostly nothing falls any more after two or three rounds.
 const ROUNDS: usize = 8;
 
-// Takes the marks from what isn't good, and finds what gives what among the rest. Where nothing falls after a few
-// rounds, what leads to each node isn't asked for, and takes no room.
+// Takes the marks from what isn't good, and finds what gives what among the rest. If nothing falls after a few rounds,
+// what leads to each node isn't asked for, and takes no room.
 fn fall(alloc: Global, nodes: &Nodes, marks: &mut [bool]) -> Result<Vec<Option<usize>>, NoMemory>
     requires { marks.old ≡ nodes.now.candidates.items }
     ensures good { IfOk result (λ givers. AreGood nodes.now marks.new givers.items) }
@@ -71,7 +71,7 @@ fn fall(alloc: Global, nodes: &Nodes, marks: &mut [bool]) -> Result<Vec<Option<u
     fall_on(alloc, nodes, marks)
 }
 
-// The same, where some have lost their marks: what falls with them falls in a cascade.
+// The same, if some have lost their marks: what falls with them falls in a cascade.
 fn fall_on(alloc: Global, nodes: &Nodes, marks: &mut [bool]) -> Result<Vec<Option<usize>>, NoMemory>
     requires { AreMarksLeft nodes.now marks.old }
     ensures good { IfOk result (λ givers. AreGood nodes.now marks.new givers.items) }
@@ -85,7 +85,7 @@ fn fall_on(alloc: Global, nodes: &Nodes, marks: &mut [bool]) -> Result<Vec<Optio
         if !sweep(nodes, &givers, marks) {
             return Ok(givers);
         }
-        // Where something falls still, a ring of superseding has kept it up.
+        // If something falls still, a ring of superseding has kept it up.
         rings = Rings::of(alloc, &nodes.supersedes, &around.superseders)?;
     }
 }
@@ -137,7 +137,7 @@ fn is_met(nodes: &Nodes, givers: &[Option<usize>], need: usize) -> bool
     source_at(givers, need).is_some()
 }
 
-// The need, or the one before where that is less.
+// The need, or the one before if that is less.
 fn lesser(least: Option<usize>, need: usize) -> usize
     ensures { result ≡ option_map_or (λ open_need. min open_need need) least need }
 {

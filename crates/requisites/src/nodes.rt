@@ -14,7 +14,7 @@ pub struct Nodes {
     /// Whether the id is there already, or something installed gives it.
     pub there: Vec<bool>,
     /// What the id needs. A need past the end of `candidates` is no node: nothing gives it, and it is there
-    /// just where `there` is long enough to mark it.
+    /// just if `there` is long enough to mark it.
     pub needs: Rows,
     /// What the id supersedes.
     pub supersedes: Rows,

@@ -13,7 +13,7 @@ use std::alloc::Global;
 ///
 /// # Errors
 ///
-/// `NoMemory` where memory ran out.
+/// `NoMemory` if memory ran out.
 pub fn turned(alloc: Global, lists: &Rows, len: usize) -> Result<Rows, NoMemory>
     ensures { IfOk result (λ reversed. AreReversed lists.now len reversed) }
 {

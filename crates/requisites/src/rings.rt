@@ -44,7 +44,7 @@ impl Rings {
         self.named.get(node).copied().unwrap_or(node)
     }
 
-    /// The ring of a node, or what is handed where the node stands alone.
+    /// The ring of a node, or what is handed if the node stands alone.
     pub(crate) fn ring_of<'a>(&'a self, node: usize, alone: &'a [usize]) -> &'a [usize] {
         match self.members.get(self.name_of(node)) {
             Some(members) => members.as_slice(),

@@ -42,7 +42,7 @@ impl Rows {
     ///
     /// # Errors
     ///
-    /// `NoMemory` where memory ran out.
+    /// `NoMemory` if memory ran out.
     pub fn with_room(alloc: Global, rows: usize, entries: usize) -> Result<Self, NoMemory>
         ensures { IfOk result (λ none. none ≡ []) }
     {
@@ -59,7 +59,7 @@ impl Rows {
         self.ends.len()
     }
 
-    /// The row of a node. It has no entries where there are fewer rows.
+    /// The row of a node. It has no entries if there are fewer rows.
     pub fn row(&self, node: usize) -> &[usize]
         ensures { result.now ≡ row self.now node }
     {
@@ -75,7 +75,7 @@ impl Rows {
     ///
     /// # Errors
     ///
-    /// `NoMemory` where memory ran out, or all rows would have over 4,294,967,295 entries: the rows are as they were.
+    /// `NoMemory` if memory ran out, or all rows would have over 4,294,967,295 entries: the rows are as they were.
     pub fn push_row(&mut self, row: &[usize]) -> Result<(), NoMemory>
         ensures rows { OnOk result (self.new ≡ self.old ++ row.now ∷ []) }
         ensures err { OnErr result (self.new ≡ self.old) }
@@ -132,7 +132,7 @@ impl Rows {
     ///
     /// # Errors
     ///
-    /// `NoMemory` where memory ran out.
+    /// `NoMemory` if memory ran out.
     pub fn copy(&self) -> Result<Self, NoMemory>
         ensures { IfOk result (λ copy. copy ≡ self.now) }
     {

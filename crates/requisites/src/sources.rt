@@ -7,14 +7,14 @@ use crate::nodes::is_marked;
 use crate::{NoMemory, Rows};
 use std::alloc::Global;
 
-/// For each node the least marked node from which a list of links leads to it, by way of nothing
-/// or of others, or `None` where no marked node leads there.
+/// For each node the least marked node from which a list of links leads to it, by way of nothing or
+/// of others, or `None` if no marked node leads there.
 ///
 /// It takes time in proportion to the marks and the links.
 ///
 /// # Errors
 ///
-/// `NoMemory` where memory ran out.
+/// `NoMemory` if memory ran out.
 pub fn least_sources(
     alloc: Global,
     lists: &Rows,
@@ -99,7 +99,7 @@ fn take_node(
     Ok(())
 }
 
-/// The source of a node, where it has one.
+/// The source of a node, if it has one.
 pub fn source_at(sources: &[Option<usize>], node: usize) -> Option<usize>
     ensures { result ≡ source_of sources.now node }
 {

@@ -24,7 +24,7 @@ pub enum Verdict {
 ///
 /// # Errors
 ///
-/// `NoMemory` where memory ran out.
+/// `NoMemory` if memory ran out.
 pub fn verdict_of_node(
     alloc: Global,
     nodes: &Nodes,

@@ -7,7 +7,7 @@ pub data KnownFile : Type 0 where
   Missing : KnownFile
   Holds : List ℕ → KnownFile
 
--- a file that is opened is not missing, and where its bytes are known the reader gives them
+-- a file that is opened is not missing, and if its bytes are known the reader gives them
 abbrev pub IsOpened : KnownFile → Option (List ℕ) → Type 0
 IsOpened Unknown remaining = Unit {0}
 IsOpened Missing remaining = ⊥

@@ -26,7 +26,7 @@ abbrev pub fault_in : {T : Type 0} → Result T AnyFault → Option AnyFault
 fault_in (Ok _) = None
 fault_in (Err fault) = Some fault
 
--- What standard output and standard error had before a run and have after it, where that is known.
+-- What standard output and standard error had before a run and have after it, if that is known.
 pub record Outputs : Type 0 where
   pub output : Option (List ℕ)
   pub written : Option (List ℕ)

@@ -21,7 +21,7 @@ abbrev pub of_transfer : TransferFault → ProgramFault
 of_transfer (transfer.Read error) = NotRead
 of_transfer transfer.Memory = Memory
 
--- The exit status where a fault ends a run. A source that is too long is itself at fault.
+-- The exit status if a fault ends a run. A source that is too long is itself at fault.
 abbrev pub status_of : Cause → ℕ
 status_of Input = 1
 status_of Machine = 3

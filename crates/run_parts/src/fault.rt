@@ -75,7 +75,7 @@ impl From<TransferFault> for ProgramFault {
     }
 }
 
-/// The exit status of a run that a fault ends: 1 where what was given is at fault, and 3 where the machine is.
+/// The exit status of a run that a fault ends: 1 if what was given is at fault, and 3 if the machine is.
 pub fn exit_status(fault: AnyFault) -> u8
     ensures { result ≡ status_of fault.cause }
 {

@@ -3,7 +3,7 @@
 //! - [`Files`]: files by their names; [`read_file`]: all that stands in one; [`is_standard_input`]: the name `-`
 //! - [`ReportFiles`]: the names of the files of a report
 //! - [`ProgramFault`]: why the program itself can't do what it is asked
-//! - [`told`], [`refuse`], [`explain`]: what standard error gets where a run ends, and the exit status
+//! - [`told`], [`refuse`], [`explain`]: what standard error gets if a run ends, and the exit status
 //! - [`report`], [`tell_in`], [`tell`], [`exit_status`]: a fault's line, alone or with a name after it, a text for
 //!   people, the status of a fault
 //! - [`printed`], [`write_text`], [`numbered_line`]: what standard output gets

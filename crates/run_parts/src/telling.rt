@@ -1,4 +1,4 @@
-//! What standard error gets where a run ends, and the exit status.
+//! What standard error gets if a run ends, and the exit status.
 ghost use Rattle.std.specs.Prelude.{◌≡◌, ◌-◌, Some, length, take};
 ghost use Rattle.run_parts.specs.Outputs.{IsTold, fault_in, line_in, run_status};
 ghost use Rattle.run_parts.specs.ProgramFault.{of_program};
@@ -8,10 +8,10 @@ use crate::fault::{ProgramFault, exit_status, report, tell};
 use faults::AnyFault;
 use std::io::{self, Write};
 
-// The exit status where the words aren't understood.
+// The exit status if the words aren't understood.
 const NOT_UNDERSTOOD: u8 = 2;
 
-/// Tells how a run ended, where that is with a fault, and gives the exit status.
+/// Tells how a run ended, if that is with a fault, and gives the exit status.
 pub fn told<E: Write>(errors: &mut E, outcome: Result<(), AnyFault>) -> u8
     ensures told { IsTold (fault_in outcome) (E.contents errors.old) (E.contents errors.new) }
     ensures status { result ≡ run_status (fault_in outcome) }

@@ -8,7 +8,7 @@ use Rattle.socket_desk.specs.declared.patience.Stage.TheVariants.{Idle, Head, Bo
 abbrev pub seconds : ℕ → ℕ
 seconds n = n * 1000000000
 
--- A connection that has been quiet for so long is late at a stage, where its request, or its end, has taken so long in all.
+-- A connection that has been quiet for so long is late at a stage, if its request, or its end, has taken so long in all.
 abbrev pub is_late : Patience → Stage → ℕ → ℕ → Bool
 is_late patience Idle quiet taken = nat_lt (as_nanos patience.idle) quiet
 is_late patience Head quiet taken = nat_lt (as_nanos patience.head) taken

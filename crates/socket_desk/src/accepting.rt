@@ -1,4 +1,4 @@
-//! New connections: each is accepted where there is a place, or an idle one gives way to it.
+//! New connections: each is accepted if there is a place, or an idle one gives way to it.
 use crate::fault::LoopFault;
 use crate::patience::Stage;
 use crate::side::{Listed, Side};

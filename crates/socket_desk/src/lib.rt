@@ -9,8 +9,8 @@
 //! - [`Patience`], [`Stage`]: how long a connection may take at each stage
 //! - [`LoopFault`]: why there are no sockets
 //!
-//! Where a log is kept, it gets a line for each request, once its reply went out whole, and for each connection
-//! that failed.
+//! If a log is kept, it gets a line for each request, once its reply went out whole, and for each connection that
+//! failed.
 #![tactic(auto)]
 
 mod accepting;

@@ -78,7 +78,7 @@ impl Lines {
     }
 }
 
-// The word of the time that it is, or none where the system doesn't tell it.
+// The word of the time that it is, or none if the system doesn't tell it.
 fn now<C: Clock>(clock: &C) -> Word {
     let Ok(time) = SystemTime::now(clock) else {
         return Word::none();

@@ -68,7 +68,7 @@ impl Patience {
         }
     }
 
-    /// Whether a connection's time is up: at this stage, where it has been quiet for so long, and its request, or
+    /// Whether a connection's time is up: at this stage, if it has been quiet for so long, and its request, or
     /// its end, has taken so long in all.
     pub fn is_over(&self, stage: Stage, quiet: Duration, taken: Duration) -> bool
         ensures { result ≡ is_late self.now stage (as_nanos quiet) (as_nanos taken) }

@@ -18,7 +18,7 @@ const EVENTS: usize = 1024;
 /// In each round one read or one write is made of each socket that is ready. Then all of these are told, and so
 /// each connection gets at most one request answered before the next one's turn.
 ///
-/// Where a log is kept, it gets a line for each reply that went out whole, and for each connection that failed, at
+/// If a log is kept, it gets a line for each reply that went out whole, and for each connection that failed, at
 /// the end of the round. What can't be written to it is left out, and nothing else depends on it.
 #[derive(Drop)]
 pub struct SocketRounds<'c, C, W> {
@@ -31,7 +31,7 @@ pub struct SocketRounds<'c, C, W> {
 }
 
 impl<'c, C: Clock, W: Write> SocketRounds<'c, C, W> {
-    /// Listens on an address. It has so many slots, and time goes by this clock. A log is kept where there is a
+    /// Listens on an address. It has so many slots, and time goes by this clock. A log is kept if there is a
     /// writer for it.
     ///
     /// # Errors

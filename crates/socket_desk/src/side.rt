@@ -137,7 +137,7 @@ impl Side {
     }
 }
 
-// Whether the system would make a read or write wait, or it has failed. `None` where it is to be made again.
+// Whether the system would make a read or write wait, or it has failed. `None` if it is to be made again.
 pub(crate) fn waits(error: &io::Error) -> Option<bool> {
     match error.kind() {
         ErrorKind::WouldBlock => Some(true),

@@ -21,8 +21,8 @@ const LISTENER: usize = usize::MAX;
 // stays small. And how many are accepted.
 pub(crate) const MOST: usize = 64;
 
-// How often, in seconds, the loop looks for connections whose time is up, and tries again what the system may
-// refuse for a while: to accept a connection where no descriptor was left.
+// How often, in seconds, the loop looks for connections whose time is up, and tries again what the system may refuse
+// for a while: to accept a connection if no descriptor was left.
 const TICK: u64 = 1;
 
 /// Sockets, each in its slot.
@@ -110,7 +110,7 @@ impl Sockets {
         self.sides.len().saturating_add(3 * MOST)
     }
 
-    /// Waits for the system to tell of sockets, but not where there is more to do.
+    /// Waits for the system to tell of sockets, but not if there is more to do.
     pub(crate) fn wait(&mut self, events: &mut Events) -> io::Result<()> {
         let wait = if self.ready.is_empty() && !self.more_wait {
             Duration::from_secs(TICK)
@@ -224,7 +224,7 @@ impl Sockets {
         Ok(())
     }
 
-    // Looks for connections whose time is up, where that is due.
+    // Looks for connections whose time is up, if that is due.
     fn sweep_where_due(
         &mut self,
         connections: &Connections,
@@ -336,7 +336,7 @@ impl Sockets {
         Ok(())
     }
 
-    // One of them; it stays among them where there is still no room.
+    // One of them; it stays among them if there is still no room.
     fn retry(&mut self, slot: usize) -> Result<(), LoopFault> {
         let Some(mut side) = self.take_out(slot) else {
             return Ok(());

@@ -127,7 +127,7 @@ impl Sockets {
         }
     }
 
-    // A read or a write didn't do. Where the system wouldn't only make it wait, the connection is given up.
+    // A read or a write didn't do. If the system wouldn't only make it wait, the connection is given up.
     fn stopped(
         &mut self,
         slot: usize,

@@ -15,7 +15,7 @@ use Rattle.sql_checks.specs.declared.checking.Finding.{Finding}
 use Rattle.sql_checks.specs.declared.checking.Finding.TheVariants.{Whole, OtherTables, OtherVersion, WrongRow}
 use Rattle.sql_checks.specs.declared.table.StoreTable.{StoreTable}
 
--- A look at a connection at rest. An open one stays open, and what is told is told of the database that is committed, where
+-- A look at a connection at rest. An open one stays open, and what is told is told of the database that is committed, if
 -- that has the bureau's tables.
 pub record Looks {Answer Fault : Type 0} (old new : State) (result : Result Answer Fault) (Fact : Database → Answer → Type 0) : Type 0 where
   pub reads : OnlyReads old new

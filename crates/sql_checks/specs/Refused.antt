@@ -1,4 +1,4 @@
--- Why a look at a database is refused, where that isn't for want of memory.
+-- Why a look at a database is refused, if that isn't for want of memory.
 use Rattle.std.specs.Prelude.{◌≡◌, ◌≤◌, ◌⊎◌, ℕ, nat_lt, List, [], ◌∷◌, Option, Some, None, codes, if◌then◌else◌, length, map, option_and_then, option_map, sum_by}
 use Rattle.std.specs.List.{Contains}
 use Rattle.bureau_store.specs.Tables.{LastChange, NamesAscend}
@@ -71,7 +71,7 @@ IsAskedBy what text = Reads bureau text what.query what.names (length what.param
 
 -- ---- what the rows of an answer say
 
--- a count, where it isn't as much as the database can count: that may stand for more
+-- a count, if it isn't as much as the database can count: that may stand for more
 abbrev pub counted : ℕ → Option ℕ
 counted count = if nat_lt count read.most_rows then Some count else None
 
@@ -81,7 +81,7 @@ count_said [] = None
 count_said (row ∷ []) = option_and_then counted (number_in (column row 0))
 count_said (row ∷ other ∷ rows) = None
 
--- the number of the last change: that of the one row, or 0 where there is no row
+-- the number of the last change: that of the one row, or 0 if there is no row
 abbrev pub number_said : List Row → Option ℕ
 number_said [] = Some 0
 number_said (row ∷ []) = option_map (λ (change : LastChange). change.number) (change_found row)

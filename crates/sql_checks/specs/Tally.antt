@@ -30,7 +30,7 @@ pub record IsTallyOf (tables : Tables) (callers : List CallerRow) (tally : Store
   pub holds : tally.holds ≡ length tables.content.holds
   pub callers_have : tally.callers.items ≡ map (line_of tables) callers
 
--- No part of what is promised: private contracts cite it. The same of these callers alone, where the database is ours.
+-- No part of what is promised: private contracts cite it. The same of these callers alone, if the database is ours.
 abbrev pub HasTallied : List CallerRow → Database → List CallerLine → Type 0
 HasTallied callers database lines = IsOurs database → lines ≡ map (line_of (tables_of (held_by database))) callers
 

@@ -26,8 +26,8 @@ use std::alloc::Global;
 ///
 /// # Errors
 ///
-/// Those of [`ReadFault`]. A failed device is told only where the device failed, the connection was shut, or the
-/// database shows no rows that say what is asked.
+/// Those of [`ReadFault`]. A failed device is told only if the device failed, the connection was shut, or the database
+/// shows no rows that say what is asked.
 pub fn every_caller<S: Alter>(
     alloc: Global,
     conn: &mut Connection<S>,
@@ -50,8 +50,8 @@ pub fn every_caller<S: Alter>(
 ///
 /// # Errors
 ///
-/// Those of [`ReadFault`]. A failed device is told only where the device failed, the connection was shut, or the
-/// database shows no rows that say what is asked.
+/// Those of [`ReadFault`]. A failed device is told only if the device failed, the connection was shut, or the database
+/// shows no rows that say what is asked.
 pub(crate) fn counts<S: Alter>(conn: &mut Connection<S>) -> Result<(u64, u64), ReadFault>
     requires rest { conn.old.in_transaction ≡ false }
     ensures mode { conn.new.in_transaction ≡ false }
@@ -91,8 +91,8 @@ fn count<S: Alter>(conn: &mut Connection<S>, text: &str) -> Result<u64, ReadFaul
 ///
 /// # Errors
 ///
-/// Those of [`ReadFault`]. A failed device is told only where the device failed, the connection was shut, or the
-/// database shows no rows that say what is asked.
+/// Those of [`ReadFault`]. A failed device is told only if the device failed, the connection was shut, or the database
+/// shows no rows that say what is asked.
 pub(crate) fn caller_tally<S: Alter>(
     alloc: Global,
     conn: &mut Connection<S>,

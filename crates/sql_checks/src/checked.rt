@@ -25,7 +25,7 @@ pub(crate) trait Checked: AllColumns {
     fn keeps(alloc: Global, row: &Row) -> Result<bool, NoMemory>
         ensures { IfOk result (λ keeps. IsTrue keeps ↔ keeps_to row.now) };
 
-    /// A row keeps to the table just where its columns do, as the text shows them.
+    /// A row keeps to the table just if its columns do, as the text shows them.
     ghost as_shown: { (row : Values) → keeps_to (show (indices_of Self.table) row) ↔ keeps_to row };
 }
 

@@ -9,9 +9,8 @@
 //! - [`law`]: what a connection keeps to by itself
 //!
 //! `specs/` says what a row keeps to (`Kept`), what a check tells (`Checked`), how much a store has (`Tally`), and why
-//! each of these is refused (`Refused`).
-//! Where a database is found to be whole, it is the bureau's own (`IsOurs` of `sql_tables`), which is what all that
-//! is promised of a store begins with.
+//! each of these is refused (`Refused`). If a database is found to be whole, it is the bureau's own (`IsOurs` of
+//! `sql_tables`), which is what all that is promised of a store begins with.
 #![tactic(auto)]
 
 mod asked;

@@ -80,7 +80,7 @@ fn is_up_to(nodes: &[Node<'_>], depth: usize, at: usize, place: usize, high: i64
     }
 }
 
-// Whether the terms are the one rule, or none where there is none.
+// Whether the terms are the one rule, or none if there is none.
 fn are_rules(nodes: &[Node<'_>], roots: &[usize], rule: Option<Rule>) -> bool
     ensures { IsTrue result ↔ (terms_of nodes.now roots.now ≡ terms_of_rule rule) }
 {
@@ -91,7 +91,7 @@ fn are_rules(nodes: &[Node<'_>], roots: &[usize], rule: Option<Rule>) -> bool
     }
 }
 
-/// Whether the terms are this one rule, or none where there is none.
+/// Whether the terms are this one rule, or none if there is none.
 pub(crate) fn has_rule(alloc: Global, terms: &Terms, rule: Option<Rule>) -> Result<bool, AllocError>
     ensures { IfOk result (λ is. IsTrue is ↔ (terms.now ≡ terms_of_rule rule)) }
 {

@@ -41,7 +41,7 @@ fn counted(count: u64) -> Option<u64>
     Some(count)
 }
 
-/// The number of the last change, 0 where there is no row.
+/// The number of the last change, 0 if there is no row.
 pub(crate) fn last(alloc: Global, rows: &[Row]) -> Result<u64, ReadFault>
     ensures said { IfOk result (SaysLast rows.now) }
     ensures unsaid { IsErrOf result ReadFault.Device → (number : ℕ) → SaysLast rows.now number → ⊥ }

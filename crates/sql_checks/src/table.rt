@@ -35,7 +35,7 @@ pub enum StoreTable {
     Sysmod,
     /// What each record supersedes.
     SysmodSup,
-    /// What each record requires where a function is installed.
+    /// What each record requires if a function is installed.
     SysmodCond,
     /// The holds.
     HoldRow,

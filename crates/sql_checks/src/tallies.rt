@@ -48,7 +48,7 @@ pub struct StoreTally {
 ///
 /// # Errors
 ///
-/// Those of [`ReadFault`]. A failed device is told only where the device failed, the connection was shut, or the
+/// Those of [`ReadFault`]. A failed device is told only if the device failed, the connection was shut, or the
 /// database shows no rows that say what is asked.
 pub fn store_tally<S: Alter>(
     alloc: Global,

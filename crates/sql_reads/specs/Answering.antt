@@ -35,7 +35,7 @@ abbrev pub IsRefusedFor : List ℕ → Row → State → State → ReadFault →
 IsRefusedFor text params old new fault =
     fault ≡ Device → HasFailed old new ⊎ (MeansNothing text old.committed ⊎ Withholds old.step_limit text params old.committed)
 
--- what one row says, or nothing where there is no row; no answer where the row says nothing, or where there are more
+-- what one row says, or nothing if there is no row; no answer if the row says nothing, or if there are more
 abbrev pub one_of : {A : Type 0} → (Row → Option A) → List Row → Option (Option A)
 one_of read [] = Some None
 one_of read (row ∷ []) = option_map Some (read row)

@@ -12,7 +12,7 @@ use Rattle.sql_texts.specs.Meaning.{Reads}
 use Rattle.sql_texts.specs.Reads as read
 use Rattle.sql_texts.specs.Schema.{bureau}
 
--- the number of the one row, where there is just one
+-- the number of the one row, if there is just one
 abbrev pub version_in : List Row → Option ℕ
 version_in [] = None
 version_in (row ∷ []) = number_in (column row 0)

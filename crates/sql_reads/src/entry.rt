@@ -35,7 +35,7 @@ pub trait Entry: Ordered {
     /// What the columns that are shown say.
     ghost found: { Values → Option Self };
 
-    /// What a row says, or `None` where nothing was written as it.
+    /// What a row says, or `None` if nothing was written as it.
     fn in_row(alloc: Global, row: &Row) -> Result<Option<Self>, NoMemory>
         ensures { IfOk result (λ entry. entry ≡ found row.now) };
 }
@@ -44,7 +44,7 @@ pub trait Entry: Ordered {
 ///
 /// # Errors
 ///
-/// `Device` where a row says nothing; `Memory` where memory ran out.
+/// `Device` if a row says nothing; `Memory` if memory ran out.
 pub fn each<E: Entry + Drop>(alloc: Global, rows: &[Row]) -> Result<Vec<E>, ReadFault>
     ensures said { IfOk result (λ entries. map Some entries.items ≡ map E.found rows.now) }
     ensures unsaid { IsErrOf result ReadFault.Device → (entries : List E)
@@ -83,7 +83,7 @@ pub(crate) fn ascending<X: Ordered + Drop>(items: Vec<X>) -> Option<Vec<X>>
 ///
 /// # Errors
 ///
-/// `Device` where a row says nothing, or what they say doesn't ascend, each once; `Memory` where memory ran out.
+/// `Device` if a row says nothing, or what they say doesn't ascend, each once; `Memory` if memory ran out.
 pub fn entries<E: Entry + Drop>(alloc: Global, rows: &[Row]) -> Result<Vec<E>, ReadFault>
     ensures said { IfOk result (λ entries. map Some entries.items ≡ map E.found rows.now) }
     ensures ascend { IfOk result (λ entries. E.ascend entries.items) }

@@ -92,7 +92,7 @@ fn held_among<S: Alter>(
     entries(alloc, rows.as_slice())
 }
 
-/// The rows of a zone, ascending, or `None` where the client has no such zone.
+/// The rows of a zone, ascending, or `None` if the client has no such zone.
 ///
 /// # Errors
 ///

@@ -42,7 +42,7 @@ fn texts_ascend(ids: &[Id]) -> bool
     ids.is_sorted_by(|id, next| id.as_bytes().cmp(next.as_bytes()).is_lt())
 }
 
-/// For each of some SYSMODs that ascend its record, or `None` where it isn't catalogued, and the holds on it. It goes
+/// For each of some SYSMODs that ascend its record, or `None` if it isn't catalogued, and the holds on it. It goes
 /// through all rows from the first SYSMOD to the last.
 ///
 /// # Errors

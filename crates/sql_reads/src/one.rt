@@ -15,7 +15,7 @@ use sql_tables::NoMemory;
 use sqlite::{Alter, Connection, Row};
 use std::alloc::Global;
 
-/// A selection that finds one row of a key at most, which says a list. Where there is none, nothing stands in the list.
+/// A selection that finds one row of a key at most, which says a list. If there is none, nothing stands in the list.
 pub(crate) trait One<K: Key>: Selection<K> {
     /// What stands in the list.
     type Item: Ordered + Drop;
@@ -26,7 +26,7 @@ pub(crate) trait One<K: Key>: Selection<K> {
     /// What the store says of a key.
     ghost tells: { K → Stored → List Self.Item → Type 0 };
 
-    /// What a row says, or `None` where nothing was written as it.
+    /// What a row says, or `None` if nothing was written as it.
     fn in_row(alloc: Global, row: &Row) -> Result<Option<Vec<Self::Item>>, NoMemory>
         ensures { IfOk result (λ list. option_map (λ items. items.items) list ≡ found row.now) };
 
@@ -55,7 +55,7 @@ pub(crate) fn any(rows: &[Row]) -> bool
     !rows.is_empty()
 }
 
-// What the row says; nothing where there is no row.
+// What the row says; nothing if there is no row.
 fn said<K: Key, T: One<K>>(alloc: Global, row: Option<&Row>) -> Result<Vec<T::Item>, ReadFault>
     ensures { IfOk result (λ list. list.items
         ≡ unwrap_or (option_and_then T.found (option_map (λ row. row.now) row.entry)) []) }

@@ -73,7 +73,7 @@ impl Entry for (Id, u64) {
 ///
 /// # Errors
 ///
-/// `Device` where a row says no zone; `Memory` where memory ran out.
+/// `Device` if a row says no zone; `Memory` if memory ran out.
 pub fn each_zone(alloc: Global, rows: &[Row]) -> Result<Vec<(Id, u64)>, ReadFault>
     ensures said { IfOk result (λ zones. map Some zones.items ≡ map zone_counted rows.now) }
     ensures unsaid { IsErrOf result ReadFault.Device → (zones : List (List ℕ × ℕ))

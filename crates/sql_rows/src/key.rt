@@ -1,4 +1,4 @@
-//! The keys by which rows are found: an id, a client's zone, and none where all rows are.
+//! The keys by which rows are found: an id, a client's zone, and none if all rows are.
 ghost use Rattle.std.specs.Prelude.{◌≡◌, ◌≤◌, ℕ, Bool, drop, length, List, map, take};
 ghost use Rattle.std.specs.List.{range_with_len};
 ghost use Rattle.mcs_reader.specs.Id.{IsId};

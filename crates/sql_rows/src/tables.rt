@@ -154,7 +154,7 @@ impl Table for Received {
     ghost stands = { stands_by _ _ _ _ refl };
 }
 
-/// `sysmod_cond`: what records require where a function is installed.
+/// `sysmod_cond`: what records require if a function is installed.
 pub enum Conds {}
 
 impl Table for Conds {

@@ -44,7 +44,7 @@ abbrev pub with_last : Option (List ℕ) → LastChange → List Row → List Ro
 with_last None last rows = rows
 with_last (Some name) last rows = replaced (is_of name) (change_row name last ∷ []) rows
 
--- the heads, with one for this zone, which asks for no patterns where it wasn't there
+-- the heads, with one for this zone, which asks for no patterns if it wasn't there
 abbrev pub with_head : List ℕ → List ℕ → List Row → List Row
 with_head client zone heads =
     if list_any (is_of_both client zone) heads then heads else heads ++ head_row client zone [] ∷ []

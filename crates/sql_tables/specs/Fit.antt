@@ -1,4 +1,4 @@
--- What is written is fit to be read again: ids are ids, and lists ascend where the bureau's lists do.
+-- What is written is fit to be read again: ids are ids, and lists ascend if the bureau's lists do.
 use Rattle.std.specs.Prelude.{◌≡◌, ℕ, true, List, IsTrue, IfSome, false, is_some}
 use Rattle.std.specs.List.{AllByRecursion, list_all}
 use Rattle.holddata.specs.Categories.{are_categories}

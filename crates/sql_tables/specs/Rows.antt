@@ -48,7 +48,7 @@ sup_row id member = id_value id ∷ id_value member ∷ []
 abbrev pub cond_row : List ℕ → CondNeed → Row
 cond_row id cond = id_value id ∷ id_value cond.fmid ∷ id_value cond.need ∷ []
 
--- a function and what is required where it is installed, of the two columns that a read shows
+-- a function and what is required if it is installed, of the two columns that a read shows
 abbrev pub cond_found : Row → Option CondNeed
 cond_found shown = with (id_in (column shown 0)) (λ fmid.
     option_map (λ need. record { fmid = fmid; need = need }) (id_in (column shown 1)))

@@ -138,7 +138,7 @@ conds_of conds id = put_conds [] (filter_map (λ row. cond_found (shown (1 ∷ 2
 abbrev pub beside_of : Stored → List ℕ → Beside
 beside_of stored id = record { conds = conds_of stored.conds id; sup = sup_of stored.sups id }
 
--- the record of a row, where this stands of each id beside
+-- the record of a row, if this stands of each id beside
 abbrev pub sysmod_with : (List ℕ → Beside) → Row → Option Sysmod
 sysmod_with beside row = option_and_then (λ id. sysmod_found (beside id) row) (id_in (column row 0))
 

@@ -1,6 +1,6 @@
--- How what the bureau keeps stands in the columns of its tables. An id is a text without blanks, and an absent
--- id is the empty text. A list is a text with commas between, and empty where there is nothing in it. Kinds,
--- states and dates are numbers. Each value is read back as what was written, and any other value as nothing.
+-- How what the bureau keeps stands in the columns of its tables. An id is a text without blanks, and an absent id is the
+-- empty text. A list is a text with commas between, and empty if there is nothing in it. Kinds, states and dates are
+-- numbers. Each value is read back as what was written, and any other value as nothing.
 use Rattle.std.specs.Prelude.{ℕ, pos, negsuc, ◌==◌, Bool, List, [], ◌∷◌, map, Option, Some, None, option_map, option_and_then, if◌then◌else◌}
 use Rattle.std.specs.List.{join_with_byte, slice_split}
 use Rattle.holddata.specs.Categories.{are_categories}

@@ -49,8 +49,8 @@ pub fn change()
         ≡ tables_after caller effect last (tables_of stored) }
 {}
 
-/// What other callers make of the rows stands for what they make of the tables, where the callers before were read
-/// in the order of their names: `found` are those of the tables. And as many come and go.
+/// What other callers make of the rows stands for what they make of the tables, if the callers before were read in the
+/// order of their names: `found` are those of the tables. And as many come and go.
 pub fn other_callers()
     ensures tables { (found rows : List SomeCallerRow) (stored : Stored)
         → AllByRecursion (λ row. IsId row.name) rows
@@ -62,7 +62,7 @@ pub fn other_callers()
         → counts_of found rows ≡ counts_of these rows }
 {}
 
-/// Rows with other callers are whole where those before were.
+/// Rows with other callers are whole if those before were.
 pub fn whole_with_callers()
     ensures { (names : List (List ℕ)) (rows : List SomeCallerRow) (stored : Stored)
         → AllByRecursion (λ row. IsId row.name) rows → IsWhole stored
@@ -90,7 +90,7 @@ pub fn zone_rows()
         → IsPermutation (rows_as_stored rows client zone) found → found ≡ zone_rows_of rows client zone }
 {}
 
-/// A zone stands under its name where the client's heads have a row for it, with its rows and its patterns.
+/// A zone stands under its name if the client's heads have a row for it, with its rows and its patterns.
 #[tactic(auto, using(crate::proofs::ClientFacts::zone_found))]
 pub fn zone()
     ensures { (stored : Stored) (client zone : List ℕ) → zone_named zone (zones_of stored client)
@@ -98,8 +98,8 @@ pub fn zone()
         else None) }
 {}
 
-/// A read of holds in the order of their keys finds what the book has of them, where it finds just the holds
-/// of the rows whose keys are asked for.
+/// A read of holds in the order of their keys finds what the book has of them, if it finds just the holds of the rows
+/// whose keys are asked for.
 pub fn holds()
     ensures { (stored : Stored) (found : List SomeHold) (asked : HoldKey → Bool) → IsInKeyOrder found
         → ((hold : SomeHold) → Contains found hold
@@ -149,7 +149,7 @@ pub fn ids()
         → found ≡ ids_of (content_of stored) }
 {}
 
-/// What a read shows of a row in its tree, where the rowid stands first, is what it shows of the row alone.
+/// What a read shows of a row in its tree, if the rowid stands first, is what it shows of the row alone.
 #[tactic(auto, using(crate::proofs::TreeFacts::shown_after))]
 pub fn columns()
     ensures { (indices : List ℕ) (row : Row) → shown indices (drop 1 row) ≡ shown (map suc indices) row }

@@ -57,7 +57,7 @@ pub fn categories_value(categories: &Categories) -> ValueRef<'_>
     ValueRef::Text(categories.joined())
 }
 
-// The texts between the commas of a text, or `None` where the value is none.
+// The texts between the commas of a text, or `None` if the value is none.
 fn texts_in<'a>(alloc: Global, value: ValueRef<'a>) -> Result<Option<Vec<&'a [u8]>>, NoMemory>
     ensures { IfOk result (λ found.
         option_map (λ texts. bytes_of_each texts.items) found ≡ spec.texts_in (owned value.entry)) }
@@ -83,7 +83,7 @@ fn split(alloc: Global, joined: &[u8]) -> Result<Vec<&[u8]>, NoMemory>
     joined.split(|b| *b == b',').collect(alloc)
 }
 
-/// The ids of a list in their order, or `None` where the value is no text or a text in it is no id's.
+/// The ids of a list in their order, or `None` if the value is no text or a text in it is no id's.
 ///
 /// # Errors
 ///
@@ -111,7 +111,7 @@ fn ids_of(alloc: Global, texts: &[&[u8]]) -> Result<Option<Vec<Id>>, NoMemory>
     Ok(Some(ids))
 }
 
-/// The categories of a list, or `None` where they are none or don't ascend.
+/// The categories of a list, or `None` if they are none or don't ascend.
 ///
 /// # Errors
 ///
@@ -125,8 +125,7 @@ pub fn categories_in(alloc: Global, value: ValueRef<'_>) -> Result<Option<Catego
     Categories::from_ascending(alloc, texts.as_slice())
 }
 
-/// The patterns of a list in their order, or `None` where the value is no text or a text in it is no
-/// pattern.
+/// The patterns of a list in their order, or `None` if the value is no text or a text in it is no pattern.
 ///
 /// # Errors
 ///

@@ -181,7 +181,7 @@ fn ascending_in(alloc: Global, list: ValueRef<'_>) -> Result<Option<Ids>, NoMemo
     Ok(Ids::from_ascending(ids))
 }
 
-/// A function and what is required where it is installed, of the columns `fmid` and `member`.
+/// A function and what is required if it is installed, of the columns `fmid` and `member`.
 pub fn cond_in(row: &Row) -> Option<CondNeed>
     ensures { result ≡ spec.cond_found row.now }
 {

@@ -46,7 +46,7 @@ pub fn id_value(id: &Id) -> ValueRef<'_>
     ValueRef::Text(id.as_bytes())
 }
 
-/// The id of a text, or `None` where the value is no id's text.
+/// The id of a text, or `None` if the value is no id's text.
 pub fn id_in(value: ValueRef<'_>) -> Option<Id>
     ensures { result ≡ spec.id_in (owned value.entry) }
 {
@@ -63,7 +63,7 @@ pub fn optional_id_value(id: &Option<Id>) -> ValueRef<'_>
     }
 }
 
-/// The id of a text, `Some(None)` where the text is empty, or `None` for any other value.
+/// The id of a text, `Some(None)` if the text is empty, or `None` for any other value.
 pub fn optional_id_in(value: ValueRef<'_>) -> Option<Option<Id>>
     ensures { result ≡ spec.optional_id_in (owned value.entry) }
 {
@@ -147,7 +147,7 @@ pub fn state_in(value: ValueRef<'_>) -> Option<ZoneState>
     }
 }
 
-/// A date as its number yyddd, or -1 where there is none.
+/// A date as its number yyddd, or -1 if there is none.
 pub fn date_value(date: Option<Date>) -> ValueRef<'static>
     ensures { owned result ≡ spec.date_value date }
 {

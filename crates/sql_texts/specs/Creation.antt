@@ -16,8 +16,8 @@ abbrev pub creations : List Creation
 creations =
     map of_table (drop 1 (take 5 tables)) ++ of_index 4 sysmod_sup by_member ∷ map of_table (drop 5 tables)
 
--- Where so many of the tables and of the indexes are there, these texts create these, one after the other, and then all
--- are there.
+-- If so many of the tables and of the indexes are there, these texts create these, one after the other, and then all are
+-- there.
 abbrev pub CreateAll : ℕ → ℕ → List Creation → List (Bor (List ℕ)) → Type 0
 CreateAll so_many so_many_indexes [] [] = (so_many ≡ length tables) × (so_many_indexes ≡ length indexes)
 CreateAll so_many so_many_indexes [] (text ∷ texts) = ⊥

@@ -112,7 +112,7 @@ abbrev pub received_list : Table
 received_list = table_of (codes "received_list") 17
     (text_column (codes "client") ∷ text_column (codes "ids") ∷ []) (1 ∷ []) []
 
--- what each record requires where a function is installed
+-- what each record requires if a function is installed
 abbrev pub sysmod_cond : Table
 sysmod_cond = table_of (codes "sysmod_cond") 19
     (text_column (codes "id") ∷ text_column (codes "fmid") ∷ text_column (codes "member") ∷ [])

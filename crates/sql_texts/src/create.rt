@@ -86,7 +86,7 @@ pub fn received_list() -> &'static str
     "CREATE TABLE received_list (client TEXT NOT NULL PRIMARY KEY, ids TEXT NOT NULL) STRICT"
 }
 
-/// What each record requires where a function is installed. A file of version 1 has all tables but this.
+/// What each record requires if a function is installed. A file of version 1 has all tables but this.
 pub fn sysmod_cond() -> &'static str
     ensures { MakesTable bureau_1 result.now schema.sysmod_cond bureau }
 {

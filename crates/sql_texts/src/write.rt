@@ -23,8 +23,8 @@ pub fn delete_version() -> &'static str
     "DELETE FROM bureau_version"
 }
 
-/// What a probe runs where no transaction is open: an open connection refuses it, and nothing
-/// changes, whatever tables there are.
+/// What a probe runs if no transaction is open: an open connection refuses it, and nothing changes, whatever tables
+/// there are.
 pub fn rollback() -> &'static str
     ensures { (schema : Schema) → Means schema result.now Rollback 0 }
 {

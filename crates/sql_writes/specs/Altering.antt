@@ -14,13 +14,13 @@ use Rattle.sql_writes.specs.Making.{Leads}
 abbrev pub Alters : {S Answer Fault : Type 0} → Ghosts S → Held S → Held S → Result Answer Fault → (Stored → Stored) → Type 0
 Alters ghosts old new result change = Changes (state ghosts old) (state ghosts new) result change
 
--- statements change the rows in some way, which is this one where such a thing is true of the rows
+-- statements change the rows in some way, which is this one if such a thing is true of the rows
 pub record ChangesWhere {Answer Fault : Type 0} (old new : State) (result : Result Answer Fault) (Fits : Stored → Type 0) (change : Stored → Stored) : Type 0 where
   pub made : Stored → Stored
   pub changes : Changes old new result made
   pub same : (stored : Stored) → Fits stored → made stored ≡ change stored
 
--- the rows change so, where such a thing is true of them
+-- the rows change so, if such a thing is true of them
 abbrev pub AltersWhere : {S Answer Fault : Type 0} → Ghosts S → Held S → Held S → Result Answer Fault → (Stored → Type 0) → (Stored → Stored) → Type 0
 AltersWhere ghosts old new result Fits change = ChangesWhere (state ghosts old) (state ghosts new) result Fits change
 
@@ -28,7 +28,7 @@ AltersWhere ghosts old new result Fits change = ChangesWhere (state ghosts old) 
 abbrev pub Turns : {S Answer Fault : Type 0} → Ghosts S → Held S → Held S → Result Answer Fault → (Database → Type 0) → (Database → Type 0) → Type 0
 Turns ghosts old new result From To = Leads (state ghosts old) (state ghosts new) result From To
 
--- so many rows come, into tables of which such a thing is true, and a refusal has an excuse where there is room for them
+-- so many rows come, into tables of which such a thing is true, and a refusal has an excuse if there is room for them
 abbrev pub TakesRoom : {S Answer : Type 0} → Ghosts S → Held S → Held S → Result Answer Error → ℕ → (Stored → Type 0) → Type 0
 TakesRoom ghosts old new result rows Fits = Takes (state ghosts old) (state ghosts new) result rows Fits
 

@@ -35,20 +35,20 @@ FindsAny ghosts old new rows test found =
     HasCleanDisk (state ghosts new) → IsKnown (state ghosts old).now
     → list_any test (rows (held_by (state ghosts old).now)) ≡ found
 
--- where the answer denies that a table has rows, it has none; and the database is as it was
+-- if the answer denies that a table has rows, it has none; and the database is as it was
 abbrev pub FindsRows : {S : Type 0} → Ghosts S → Held S → Held S → (Stored → List Row) → Bool → Type 0
 FindsRows ghosts old new rows found =
     HasCleanDisk (state ghosts new) → IsKnown (state ghosts old).now
     → ((state ghosts new).now ≡ (state ghosts old).now)
     × (found ≡ false → rows (held_by (state ghosts old).now) ≡ [])
 
--- where the answer says so, no record is catalogued, and no row stands of what one supersedes or requires under a condition
+-- if the answer says so, no record is catalogued, and no row stands of what one supersedes or requires under a condition
 abbrev pub FindsBare : {S : Type 0} → Ghosts S → Held S → Held S → Bool → Type 0
 FindsBare ghosts old new bare =
     IsTrue bare → HasCleanDisk (state ghosts new) → IsKnown (state ghosts old).now
     → IsBare (held_by (state ghosts old).now)
 
--- where the answer says so, no row stands under the ids of these records
+-- if the answer says so, no row stands under the ids of these records
 abbrev pub FindsFree : {S : Type 0} → Ghosts S → Held S → Held S → List Change → Bool → Type 0
 FindsFree ghosts old new changes free =
     IsTrue free → HasCleanDisk (state ghosts new) → IsKnown (state ghosts old).now

@@ -1,4 +1,4 @@
--- What excuses that a statement of a transaction is refused, where its text is right and its values keep to the rules of the
+-- What excuses that a statement of a transaction is refused, if its text is right and its values keep to the rules of the
 -- tables.
 use Rattle.std.specs.Prelude.{◌≡◌, ◌⊎◌, ◌<◌, ◌+◌, ◌^◌, ℕ, IfErr, IsSome, IsTrue, OnOk, Result}
 use Rattle.sqlite.specs.Effect.{Database}
@@ -14,14 +14,14 @@ use Rattle.sql_writes.specs.Room.{AreUpTo, IsRoomy}
 abbrev pub Excuses : State → State → Error → Type 0
 Excuses old new error = (error ≡ store_error OutOfMemory) ⊎ (HasFailed old new ⊎ IsSome old.step_limit)
 
--- a refusal has such an excuse, where the transaction saw such a database
+-- a refusal has such an excuse, if the transaction saw such a database
 abbrev pub IsExcused : {Answer : Type 0} → State → State → Result Answer Error → (Database → Type 0) → Type 0
 IsExcused old new result From =
     IfErr result (λ error. HasCleanDisk new → IsTrue old.in_transaction → From old.now → Excuses old new error)
 
 -- ---- No part of what is promised: private contracts cite it.
 
--- Statements that add so many rows, in tables of which such a thing is true: a refusal has an excuse where the tables have as
+-- Statements that add so many rows, in tables of which such a thing is true: a refusal has an excuse if the tables have as
 -- many numbers left. Done, no row has a higher number than they took.
 pub record Takes {Answer : Type 0} (old new : State) (result : Result Answer Error) (rows : ℕ) (Fits : Stored → Type 0) : Type 0 where
   pub excused : (most : ℕ) → most + rows < 2 ^ 63 → IsExcused old new result (λ database. IsRoomy most database × Fits (held_by database))

@@ -83,6 +83,6 @@ abbrev pub AreNew : {X : Type 0} → (X → Row → Bool) → (X → Row) → Li
 AreNew is made [] rows = Unit {0}
 AreNew is made (one ∷ news) rows = (list_any (is one) rows ≡ false) × AreNew is made news (rows ++ made one ∷ [])
 
--- so it is where the rows of a key went
+-- so it is if the rows of a key went
 abbrev pub AreNewInPlace : {X : Type 0} → (X → Row → Bool) → (X → Row) → List X → (Row → Bool) → (Stored → List Row) → Type 0
 AreNewInPlace is made news has rows = (stored : Stored) → AreNew is made news (replaced has [] (rows stored))

@@ -30,7 +30,7 @@ pub record HoldsAll (of_version : List Row) (stored : Stored) (database : Databa
 
 -- ---- whatever tables the database has
 
--- What a text, run without parameters in a transaction, makes of a database: what its command does, where that writes.
+-- What a text, run without parameters in a transaction, makes of a database: what its command does, if that writes.
 abbrev pub IsRunOf : List ℕ → Database → Database → Type 0
 IsRunOf text before after =
     (compiled : Compiled) × (understood before.schema text ≡ Ok compiled)

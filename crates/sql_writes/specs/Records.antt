@@ -135,7 +135,7 @@ pub record AreFree (changes : List Change) (stored : Stored) : Type 0 where
   pub sups : AllByRecursion (NoneOf stored.sups) changes
   pub conds : AllByRecursion (NoneOf stored.conds) changes
 
--- so it is where it was found
+-- so it is if it was found
 abbrev pub FreeIf : Bool → List Change → Stored → Type 0
 FreeIf found changes stored = IsTrue found → AreFree changes stored
 

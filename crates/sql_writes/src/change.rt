@@ -19,7 +19,7 @@ use sql_rows::{Heads, LastChanges, Received, Zone, ZoneRows};
 use sqlite::{Alter, Error, Transaction};
 use std::alloc::Global;
 
-/// What a change makes of the rows, before its number is kept. A zone that is put keeps its patterns where it was there
+/// What a change makes of the rows, before its number is kept. A zone that is put keeps its patterns if it was there
 /// before.
 fn change<S: Alter>(
     alloc: Global,

@@ -45,7 +45,7 @@ pub(crate) fn any_of<K: Key, T: Deletes<K>, S: Alter>(
     run(tx, <T as Deletes<K>>::deletion(), &params[..K::count()])
 }
 
-/// The rows of a key. Where mostly there are none, a read tells it sooner than a statement that deletes.
+/// The rows of a key. If mostly there are none, a read tells it sooner than a statement that deletes.
 pub(crate) fn rows_of<K: Key, T: Asked<K>, S: Alter>(
     tx: &mut Transaction<'_, S>,
     key: &K,

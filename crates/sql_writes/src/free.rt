@@ -84,7 +84,7 @@ fn sorted_ids(alloc: Global, changes: &[Change]) -> Result<Vec<Id>, NoMemory>
     Ok(ids)
 }
 
-/// Whether no two are records of one id, of as many changes as there may be. It isn't told where memory runs out.
+/// Whether no two are records of one id, of as many changes as there may be. It isn't told if memory runs out.
 fn are_all_apart(alloc: Global, changes: &[Change]) -> bool
     ensures { IsTrue result → AreApart changes.now }
 {
@@ -94,7 +94,7 @@ fn are_all_apart(alloc: Global, changes: &[Change]) -> bool
     }
 }
 
-/// Whether no row stands under the ids of these records, and no two have one id. It is told only where nothing is
+/// Whether no row stands under the ids of these records, and no two have one id. It is told only if nothing is
 /// catalogued: then three reads stand for those of each record.
 pub(crate) fn are_free<S: Alter>(
     alloc: Global,

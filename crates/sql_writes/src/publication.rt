@@ -49,7 +49,7 @@ fn put_rest<S: Alter>(tx: &mut Transaction<'_, S>, change: &Change) -> Result<()
     }
 }
 
-/// Whether nothing is left to put of a change beside the row of a record and those of what it supersedes, where `free`
+/// Whether nothing is left to put of a change beside the row of a record and those of what it supersedes, if `free`
 /// says that nothing stands of the record.
 fn is_put(change: &Change, free: bool) -> bool
     ensures free { IsTrue result → IsTrue free }
@@ -208,7 +208,7 @@ fn records_of(change: &Change) -> usize
     }
 }
 
-/// How many changes there are up to the eighth record; none where fewer records are among the first 64.
+/// How many changes there are up to the eighth record; none if fewer records are among the first 64.
 fn to_eighth(changes: &[Change]) -> usize
     ensures within { result ≤ length changes.now }
     ensures eight { 0 < result → records_in (take result changes.now) ≡ 8 }

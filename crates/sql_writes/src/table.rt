@@ -184,6 +184,6 @@ pub trait Joined<K: Key>: Several<K, Item = Vec<u8>> {
     /// One may come.
     ghost one: { Self.counts 1 };
 
-    /// A row has the key of the table where it has this key.
+    /// A row has the key of the table if it has this key.
     ghost alone: { (key : K) (made : _) → Self.is_same key made ≡ K.has key };
 }

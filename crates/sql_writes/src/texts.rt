@@ -1,4 +1,4 @@
-//! The texts that insert the rows of lists, each into one table: several at once where many come.
+//! The texts that insert the rows of lists, each into one table: several at once if many come.
 ghost use Rattle.std.specs.Prelude.{◌≡◌, ◌⊎◌, ◌<◌, ◌≤◌, ◌+◌, ◌*◌};
 ghost use Rattle.sql_texts.specs.Schema.{bureau};
 ghost use Rattle.sql_writes.specs.Many.{MeansBy, insert_alike, parameters_to};

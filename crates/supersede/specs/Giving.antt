@@ -9,8 +9,8 @@ use Rattle.catalogue.specs.Ids.{same_id}
 use Rattle.catalogue.specs.declared.conditional.CondNeed.{CondNeed}
 use Rattle.catalogue.specs.declared.sysmod.Sysmod.{Sysmod}
 
--- the ids that a record supersedes, needs before it and with it, the functions that it applies to, and its requisites
--- under a condition; none where there is no record
+-- the ids that a record supersedes, needs before it and with it, the functions that it applies to, and its requisites under
+-- a condition; none if there is no record
 abbrev pub sup_of : Option Sysmod → List (List ℕ)
 sup_of None = []
 sup_of (Some sysmod) = sysmod.sup
@@ -70,6 +70,6 @@ always_needs content id = requisites_of (record_of content id) ++ error_reasons 
 abbrev pub may_need : Content → List ℕ → List (List ℕ)
 may_need content id = always_needs content id ++ each_need (conds_of (record_of content id))
 
--- what an id needs in a zone: what it always needs, and what it needs where a function is, if that is installed
+-- what an id needs in a zone: what it always needs, and what it needs if a function is, if that is installed
 abbrev pub needs_in : Content → List ZoneRow → List ℕ → List (List ℕ)
 needs_in content rows id = always_needs content id ++ needs_where rows (conds_of (record_of content id))

@@ -1,5 +1,5 @@
--- The law above `Giving`: one SYSMOD gives another exactly where a list of SYSMODs leads from one to the other,
--- each of which supersedes the next (IBM z/OS SMP/E Reference, `++VER`, operand SUP).
+-- The law above `Giving`: one SYSMOD gives another exactly if a list of SYSMODs leads from one to the other, each
+-- of which supersedes the next (IBM z/OS SMP/E Reference, `++VER`, operand SUP).
 use Rattle.std.specs.Prelude.{◌≡◌, ◌⊎◌, ℕ, true, List, [], ◌∷◌}
 use Rattle.zone_lists.specs.Installed.{is_installed, is_listed}
 use Rattle.zone_lists.specs.declared.zones.ZoneRow.{ZoneRow}

@@ -20,7 +20,7 @@ use std::collections::BTreeSet;
 ///
 /// # Errors
 ///
-/// `Memory` where memory ran out, `Device` where the source failed.
+/// `Memory` if memory ran out, `Device` if the source failed.
 pub fn givers<P: Published>(alloc: Global, source: &mut P, id: &Id) -> Result<Vec<Id>, SourceFault>
     ensures asks { MayAsk P.content_view Device source.old source.new result }
     ensures givers { IfOk result (λ ids. Tells P.content_view source.old source.new

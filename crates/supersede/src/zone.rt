@@ -38,7 +38,7 @@ impl Zone {
     ///
     /// # Errors
     ///
-    /// `NoMemory` where memory ran out.
+    /// `NoMemory` if memory ran out.
     pub fn new(alloc: Global, rows: &[ZoneRow]) -> Result<Zone, NoMemory>
         requires { RowsAscend rows.now }
         ensures { IfOk result (λ zone. zone ≡ rows.now) }
@@ -67,7 +67,7 @@ impl Zone {
     ///
     /// # Errors
     ///
-    /// `NoMemory` where memory ran out.
+    /// `NoMemory` if memory ran out.
     pub fn copy(&self) -> Result<Zone, NoMemory>
         ensures { IfOk result (λ copy. copy ≡ self.now) }
     {

@@ -9,7 +9,7 @@ use std::test::Fail;
 ///
 /// # Errors
 ///
-/// A failure that says both, where they differ.
+/// A failure that says both, if they differ.
 pub fn assert_equal<T: PartialEq + Debug + Drop>(got: T, wanted: T) -> Result<(), Fail>
     ensures equal { OnOk result (T.eq got wanted ≡ true) }
     ensures told { OnErr result (T.eq got wanted ≡ false) }
@@ -24,7 +24,7 @@ pub fn assert_equal<T: PartialEq + Debug + Drop>(got: T, wanted: T) -> Result<()
 ///
 /// # Errors
 ///
-/// A failure that says the case and both, where they differ.
+/// A failure that says the case and both, if they differ.
 pub fn assert_equal_at<T: PartialEq + Debug + Drop, P: Debug + Drop>(
     case: P,
     got: T,
@@ -39,7 +39,7 @@ pub fn assert_equal_at<T: PartialEq + Debug + Drop, P: Debug + Drop>(
     )
 }
 
-// Nothing where it is so, and else a failure that says this.
+// Nothing if it is so, and else a failure that says this.
 fn assert_so<D: Display + Drop>(is_so: bool, said: D) -> Result<(), Fail>
     ensures so { OnOk result (is_so ≡ true) }
     ensures told { OnErr result (is_so ≡ false) }

@@ -22,7 +22,7 @@ impl Draws {
         (self.state.wrapping_shr(33) & 0x7FFF_FFFF) as u32
     }
 
-    /// A number below a bound, or 0 where the bound is 0.
+    /// A number below a bound, or 0 if the bound is 0.
     pub fn below(&mut self, bound: u32) -> u32 {
         self.next().checked_rem(bound).unwrap_or(0)
     }

@@ -33,7 +33,7 @@ pub const OK: &str = "200 OK";
 ///
 /// # Errors
 ///
-/// A failure where memory ran out.
+/// A failure if memory ran out.
 pub fn request_text(alloc: Global, asked: Asked) -> Result<String, Fail> {
     let (token, first, lines, body) = asked;
     Ok(format!(in alloc;
@@ -46,7 +46,7 @@ pub fn request_text(alloc: Global, asked: Asked) -> Result<String, Fail> {
 ///
 /// # Errors
 ///
-/// A failure where memory ran out.
+/// A failure if memory ran out.
 pub fn reply_text(alloc: Global, exchange: Exchange) -> Result<String, Fail> {
     let ((_, first, _, _), (status, lines, body)) = exchange;
     if status.is_empty() {

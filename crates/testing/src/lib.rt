@@ -1,7 +1,7 @@
 //! What tests of several crates share: comparisons, readers and writers that fail, a clock that is set, numbers that are drawn,
 //! texts of requests and replies, and a worked case.
 //!
-//! Where what a test sees differs from what it wants, the test fails and says both. The comparisons are functions, where
+//! If what a test sees differs from what it wants, the test fails and says both. The comparisons are functions, where
 //! `std` has macros: a macro's text is proved anew at each of its uses, and takes most of the time of a test's proof. A
 //! condition is asserted by `std`'s `assert!`, which costs little.
 //!

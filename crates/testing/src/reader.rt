@@ -10,7 +10,7 @@ pub struct Pieces<'a> {
     /// How many bytes it gives at most in one read.
     pub piece: usize,
     pub failures: Failures,
-    /// How it fails where it has given all. It tells its end where it doesn't.
+    /// How it fails if it has given all. It tells its end if it doesn't.
     pub end: Option<ErrorKind>,
 }
 

@@ -18,7 +18,7 @@ HBB7790  UA10001  AA20002  UA10002  GOOD   NO       PE
 ROWS 1
 ";
 
-/// The same report where a PTF UA10005 supersedes the second PTF.
+/// The same report if a PTF UA10005 supersedes the second PTF.
 pub const TWO_RESOLVERS: &str = "EXCEPTION SYSMOD REPORT FOR ZONE TGT1
 FMID     SYSMOD   REASON   RESOLVER STATUS RECEIVED CLASS
 HBB7790  UA10001  AA20002  UA10002  GOOD   NO       PE
@@ -26,7 +26,7 @@ HBB7790  UA10001  AA20002  UA10005  GOOD   NO       PE
 ROWS 2
 ";
 
-/// The same, where the second PTF is received.
+/// The same, if the second PTF is received.
 pub const ONE_RECEIVED: &str = "EXCEPTION SYSMOD REPORT FOR ZONE TGT1
 FMID     SYSMOD   REASON   RESOLVER STATUS RECEIVED CLASS
 HBB7790  UA10001  AA20002  UA10002  GOOD   YES      PE

@@ -11,7 +11,7 @@ pub struct Slow {
     pub piece: usize,
     /// How many more bytes it takes in all.
     pub room: usize,
-    /// How it fails where it has no room. It takes no byte where it doesn't.
+    /// How it fails if it has no room. It takes no byte if it doesn't.
     pub full: Option<ErrorKind>,
     pub failures: Failures,
     /// How its flushes fail.
@@ -19,7 +19,7 @@ pub struct Slow {
 }
 
 impl Slow {
-    /// A writer that has taken nothing. It takes no byte where it has no room, and its flushes pass.
+    /// A writer that has taken nothing. It takes no byte if it has no room, and its flushes pass.
     pub fn new(alloc: Global, piece: usize, room: usize, failures: Failures) -> Slow {
         Slow {
             taken: Vec::new(alloc),

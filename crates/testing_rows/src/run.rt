@@ -12,7 +12,7 @@ pub trait Subject {
     ///
     /// # Errors
     ///
-    /// A failure where memory ran out.
+    /// A failure if memory ran out.
     fn begin(&mut self, alloc: Global) -> Result<(), Fail>;
 
     /// The answer to a command, as lines, each with its end. A word that isn't known has none.
@@ -27,7 +27,7 @@ pub trait Subject {
 ///
 /// # Errors
 ///
-/// A failure of the subject, or where a file can't be read.
+/// A failure of the subject, or if a file can't be read.
 pub fn run_files<R: Files + AllocGlobal, S: Subject>(
     rt: &R,
     subject: &mut S,

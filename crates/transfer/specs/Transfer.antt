@@ -1,4 +1,4 @@
--- What a transfer leaves where it fails.
+-- What a transfer leaves if it fails.
 use Rattle.std.specs.Prelude.{◌≡◌, ℕ, ◌≤◌, List, ◌++◌, length, take, Option, Result, IfErr}
 use Rattle.std.specs.Io.KnownBytes.{Appends, Consumes}
 use Rattle.std.specs.IoError.{error_kind}
@@ -7,7 +7,7 @@ use Rattle.std.specs.declared.io.ErrorKind.TheVariants.{Interrupted}
 use Rattle.transfer.specs.declared.fault.TransferFault.{TransferFault}
 use Rattle.transfer.specs.declared.fault.TransferFault.TheVariants.{Read, Memory}
 
--- an interruption is the last word only where no retry is left
+-- an interruption is the last word only if no retry is left
 abbrev pub IsGivenUp : TransferFault → ℕ → Type 0
 IsGivenUp (Read error) retries = error_kind error ≡ Interrupted → retries ≡ 0
 IsGivenUp Memory retries = Unit {0}
@@ -27,7 +27,7 @@ pub record TakesIn (old new : List ℕ) (before after : Option (List ℕ)) (n : 
   pub grown : new ≡ old ++ bytes
   pub consumed : Consumes before after bytes
 
--- Serves private contracts alone: retries are spent at most, and an interruption is told only where none is left.
+-- Serves private contracts alone: retries are spent at most, and an interruption is told only if none is left.
 pub record SpendsRetries {T : Type 0} (result : Result T Error) (old new : ℕ) : Type 0 where
   pub given_up : IfErr result (λ error. error_kind error ≡ Interrupted → new ≡ 0)
   pub counted : new ≤ old

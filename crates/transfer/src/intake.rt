@@ -99,7 +99,7 @@ impl Intake {
     ///
     /// # Errors
     ///
-    /// [`TransferFault::Read`] where the read fails, or is interrupted when no retry is left, and
+    /// [`TransferFault::Read`] if the read fails, or is interrupted when no retry is left, and
     /// [`TransferFault::Memory`]. Nothing was read then, and the bytes are as they were.
     pub fn read_more<R: Read>(
         &mut self,
@@ -149,7 +149,7 @@ fn read_into_room<R: Read>(
     Ok(read_at(reader, room.as_mut_slice(), end, until, retries)?)
 }
 
-// Room after the bytes that are there, where there is none.
+// Room after the bytes that are there, if there is none.
 fn make_room(room: &mut Vec<u8>, end: usize) -> Result<(), NoMemory>
     requires { end ≤ length room.old.items }
     ensures kept { take end room.new.items ≡ take end room.old.items }

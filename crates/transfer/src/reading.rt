@@ -13,11 +13,11 @@ use std::io::{self, ErrorKind, Read};
 /// How often interrupted calls are made again, in one transfer.
 pub const RETRIES: u32 = 64;
 
-/// Reads `limit` bytes, or all that there are where that is less, and never asks for more.
+/// Reads `limit` bytes, or all that there are if that is less, and never asks for more.
 ///
 /// # Errors
 ///
-/// [`TransferFault::Read`] where a read fails, or is interrupted when no retry is left, and
+/// [`TransferFault::Read`] if a read fails, or is interrupted when no retry is left, and
 /// [`TransferFault::Memory`]. What was read until then is lost.
 pub fn read_source<R: Read>(
     alloc: Global,

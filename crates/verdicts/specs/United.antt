@@ -6,7 +6,7 @@ use Rattle.catalogue.specs.Content.{Content}
 use Rattle.catalogue.specs.Ids.{in_order}
 use Rattle.verdicts.specs.Verdicts.{Judged, good, held, lack, verdict_of}
 
--- the chosen plan of a verdict; none where it isn't good
+-- the chosen plan of a verdict; none if it isn't good
 abbrev pub plan_by : Judged → List (List ℕ)
 plan_by (good plan) = plan
 plan_by (held need) = []

@@ -35,7 +35,7 @@ module _ (content : Content) (rows : List ZoneRow) where
   abbrev pub is_good : List ℕ → Bool
   is_good id = list_any (λ members. list_any (same_id id) members && is_plan members) (sublists candidates)
 
-  -- the pick for a need: the need itself where it is good, else the least good id that gives it
+  -- the pick for a need: the need itself if it is good, else the least good id that gives it
   abbrev pub pick_for : List ℕ → Option (List ℕ)
   pick_for need = if is_good need then Some need else find (λ id. is_good id && gives content id need) (in_order (ids_of content))
 

@@ -21,13 +21,13 @@ world_of content rows = record {
   AtMost = λ a b. id_cmp a b ≡ Greater → ⊥;
 }
 
--- an id is found good exactly where some plan of candidates holds it
+-- an id is found good exactly if some plan of candidates holds it
 abbrev pub GoodIsPlanned : Type 0
 GoodIsPlanned =
     (content : Content) (rows : List ZoneRow) (id : List ℕ) → (is_good content rows id ≡ true) ↔ IsGood (world_of content rows) id
 
--- the verdict on an id is good exactly where a plan holds it, held exactly where it is a candidate that no plan
--- holds, and lack exactly where it is no candidate
+-- the verdict on an id is good exactly if a plan holds it, held exactly if it is a candidate that no plan holds, and lack
+-- exactly if it is no candidate
 pub record IsRightStatus (content : Content) (rows : List ZoneRow) (id : List ℕ) : Type 0 where
   pub good : (status_of (verdict_of content rows id) ≡ status.Good) ↔ IsGood (world_of content rows) id
   pub held : (status_of (verdict_of content rows id) ≡ status.Held) ↔ ((is_candidate content rows id ≡ true) × (¬ IsGood (world_of content rows) id))

@@ -13,7 +13,7 @@ use supersede::index_among;
 ///
 /// # Errors
 ///
-/// `NoMemory` where memory ran out.
+/// `NoMemory` if memory ran out.
 pub fn sort_each_once(ids: &mut Vec<Id>) -> Result<(), NoMemory>
     ensures in_order { OnOk result (ids.new.items ≡ in_order ids.old.items) }
     ensures ascend { OnOk result (Ascend ids.new.items) }
@@ -57,7 +57,7 @@ pub fn index_near(members: &[Id], first: usize, id: &Id) -> Option<usize>
 ///
 /// # Errors
 ///
-/// `NoMemory` where memory ran out.
+/// `NoMemory` if memory ran out.
 pub fn put_indices(
     indices: &mut Vec<usize>,
     members: &[Id],
@@ -82,7 +82,7 @@ pub fn put_indices(
 ///
 /// # Errors
 ///
-/// `NoMemory` where memory ran out.
+/// `NoMemory` if memory ran out.
 pub fn ids_at(alloc: Global, members: &[Id], indices: &[usize]) -> Result<Vec<Id>, NoMemory>
     requires { (q : ℕ) → Contains indices.now q → q < length members.now }
     ensures { IfOk result (λ ids. ids.items ≡ map (Indices.id_at members.now) indices.now) }

@@ -20,7 +20,7 @@ use supersede::Zone;
 
 /// Who gives verdicts over a source of published content.
 ///
-/// A judge may keep what it has found. It is right for a content where what it keeps is true of it.
+/// A judge may keep what it has found. It is right for a content if what it keeps is true of it.
 pub trait Judge<P: Published> {
     /// What is kept is true of the content.
     ghost is_right: { Self → Content → Type 0 };
@@ -29,7 +29,7 @@ pub trait Judge<P: Published> {
     ///
     /// # Errors
     ///
-    /// `Memory` where memory ran out, `Device` where the source failed.
+    /// `Memory` if memory ran out, `Device` if the source failed.
     fn verdict(
         &mut self,
         alloc: Global,
@@ -46,15 +46,15 @@ pub trait Judge<P: Published> {
 
     /// Forgets what is kept of these SYSMODs. It takes no memory.
     ///
-    /// It stays right for each content for which it was, and is right for each that says the same
-    /// outside these ids, where both are in order: what is published before, and after.
+    /// It stays right for each content for which it was, and is right for each that says the same outside these ids, if
+    /// both are in order: what is published before, and after.
     fn drop_touched(&mut self, ids: &[Id])
         ensures stays { (content : Content) → is_right self.old content → is_right self.new content }
         ensures right { (old new : Content) → IsInOrder old → IsInOrder new → is_right self.old old
             → AgreeOutside ids.now old new → is_right self.new new };
 
-    /// For each of some SYSMODs the candidates that give it, ascending, or `None` where it is there: the zone lists it,
-    /// or an installed SYSMOD gives it (IBM z/OS SMP/E Reference, `++VER`, operands SUP and FMID).
+    /// For each of some SYSMODs the candidates that give it, ascending, or `None` if it is there: the zone lists it, or
+    /// an installed SYSMOD gives it (IBM z/OS SMP/E Reference, `++VER`, operands SUP and FMID).
     ///
     /// # Errors
     ///

@@ -9,11 +9,11 @@ use mcs_reader::{Id, NoMemory};
 use std::alloc::Global;
 use std::collections::BTreeSet;
 
-/// Puts the chosen plan of a verdict among ids. There is none where the verdict isn't good.
+/// Puts the chosen plan of a verdict among ids. There is none if the verdict isn't good.
 ///
 /// # Errors
 ///
-/// `NoMemory` where memory ran out.
+/// `NoMemory` if memory ran out.
 pub fn put_plan(found: &mut BTreeSet<Id>, verdict: &Verdict) -> Result<(), NoMemory>
     ensures { OnOk result
         (found.new.keys ≡ put_among found.old.keys (plan_by (judge.judged_by verdict.now))) }
@@ -37,7 +37,7 @@ fn put_all(found: &mut BTreeSet<Id>, ids: &[Id]) -> Result<(), NoMemory>
 ///
 /// # Errors
 ///
-/// `NoMemory` where memory ran out.
+/// `NoMemory` if memory ran out.
 pub fn listed(alloc: Global, ids: BTreeSet<Id>) -> Result<Vec<Id>, NoMemory>
     ensures ids { IfOk result (λ list. list.items ≡ ids.keys) }
     ensures ascend { IfOk result (λ list. Ascend list.items) }

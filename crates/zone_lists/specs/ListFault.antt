@@ -4,7 +4,7 @@ use Rattle.faults.specs.declared.any.AnyFault.{AnyFault}
 use Rattle.zone_lists.specs.declared.fault.ListFault.{ListFault}
 use Rattle.zone_lists.specs.declared.fault.ListFault.TheVariants.{Header, BadRecord, BadId, BadState, BadPattern, Repeated, TooMany, Memory}
 
--- the number that is printed, the number of the record, where there is one, and what is at fault
+-- the number that is printed, the number of the record, if there is one, and what is at fault
 abbrev pub told : ListFault → AnyFault
 told Header = of_input 31
 told (BadRecord n) = at_place 32 n

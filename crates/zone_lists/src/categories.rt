@@ -27,8 +27,8 @@ pub const PATTERN_RECORDS: u32 = 64;
 /// # Errors
 ///
 /// The first fault of the list, by record, and in a record in this order: `TooMany` at record
-/// [`PATTERN_RECORDS`] + 1, `BadRecord` where it has not one field, `BadPattern`. `Header` comes
-/// first of all. `Memory` may come in place of any answer.
+/// [`PATTERN_RECORDS`] + 1, `BadRecord` if it has not one field, `BadPattern`. `Header` comes first of all.
+/// `Memory` may come in place of any answer.
 #[tactic(auto, using(crate::proofs::KeyFacts::each_pattern, crate::proofs::OwnFaultFacts::first_of_patterns))]
 pub fn patterns(alloc: Global, text: &[u8]) -> Result<Vec<Pattern>, ListFault>
     ensures rows { IfOk result (λ patterns. patterns_of text.now ≡ Ok patterns.items) }

@@ -36,7 +36,7 @@ pub trait Entries: Drop {
     ///
     /// # Errors
     ///
-    /// What is wrong with the record by itself, told with its number `n`; `Repeated` where its entry
+    /// What is wrong with the record by itself, told with its number `n`; `Repeated` if its entry
     /// contradicts an earlier one; `Memory`. After an error what was gathered is of no use.
     fn add(&mut self, row: &ByteRecord, n: u32) -> Result<(), ListFault>
         ensures added { OnOk result ((earlier : List Self.Entry) → Has self.old earlier

@@ -33,7 +33,7 @@ impl Model for Pattern {
 }
 
 impl Pattern {
-    /// The pattern with this text, or `None` where the text is none.
+    /// The pattern with this text, or `None` if the text is none.
     ///
     /// # Errors
     ///

@@ -27,8 +27,8 @@ pub const RECEIVED_RECORDS: u32 = 20_000;
 /// # Errors
 ///
 /// The first fault of the list, by record, and in a record in this order: `TooMany` at record
-/// [`RECEIVED_RECORDS`] + 1, `BadRecord` where it has not one field, `BadId`. `Header` comes first
-/// of all. `Memory` may come in place of any answer.
+/// [`RECEIVED_RECORDS`] + 1, `BadRecord` if it has not one field, `BadId`. `Header` comes first of all. `Memory`
+/// may come in place of any answer.
 #[tactic(auto, using(crate::proofs::KeyFacts::each_received, crate::proofs::OwnFaultFacts::first_of_received))]
 pub fn received_rows(alloc: Global, text: &[u8]) -> Result<Vec<Id>, ListFault>
     ensures rows { IfOk result (λ ids. received_rows_of text.now ≡ Ok ids.items) }

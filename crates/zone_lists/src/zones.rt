@@ -51,9 +51,9 @@ pub struct ZoneRow {
 ///
 /// # Errors
 ///
-/// The first fault of the list, by record, and in a record in this order: `TooMany` at record
-/// [`ZONE_RECORDS`] + 1, `BadRecord` where it has not two fields, `BadId`, `BadState`, `Repeated`.
-/// `Header` comes first of all. `Memory` may come in place of any answer.
+/// The first fault of the list, by record, and in a record in this order: `TooMany` at record [`ZONE_RECORDS`] + 1,
+/// `BadRecord` if it has not two fields, `BadId`, `BadState`, `Repeated`. `Header` comes first of all. `Memory` may
+/// come in place of any answer.
 pub fn zone_rows(alloc: Global, text: &[u8]) -> Result<Vec<ZoneRow>, ListFault>
     ensures rows { IfOk result (λ rows. zone_rows_of text.now ≡ Ok rows.items) }
     ensures fault { IfErr result (IsRefusal ListFault.Memory (λ fault. zone_rows_of text.now ≡ Err fault)) }

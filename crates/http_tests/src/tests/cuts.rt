@@ -26,7 +26,7 @@ fn two_requests(alloc: Global, publish: &[u8]) -> Result<Vec<u8>, NoMemory> {
     Ok(text)
 }
 
-// The replies to both where no byte is cut off.
+// The replies to both if no byte is cut off.
 fn whole_replies(alloc: Global, text: &[u8]) -> Result<Vec<u8>, Fail> {
     let (whole, ended) = served(alloc, false, text)?;
     assert_equal(ended, Ok(2))?;

@@ -10,7 +10,7 @@ use std::alloc::Global;
 use std::io::{Read, Write};
 use std::test::Fail;
 
-/// What answers each call of the publisher with what it sends, and fails where it is closed.
+/// What answers each call of the publisher with what it sends, and fails if it is closed.
 #[derive(Drop)]
 pub(crate) struct Echo {
     alloc: Global,

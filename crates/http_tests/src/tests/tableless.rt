@@ -8,7 +8,7 @@ use bureau_store::{Caller, StoreFault};
 
 /// What answers in place of a bureau.
 pub(crate) trait Answering {
-    /// Who has this token, where somebody has it. It fails for want of memory alone.
+    /// Who has this token, if somebody has it. It fails for want of memory alone.
     fn found(&mut self, token: &[u8]) -> Result<Option<Caller>, StoreFault>
         ensures { IfOk result (λ found. IfSome found IsProper) };
 

@@ -113,7 +113,7 @@ pub fn all_callers<S: Alter>(
     read_list::<All, Callers, S>(alloc, conn, &All)
 }
 
-/// The caller whose token this is, or `None` where no caller has it.
+/// The caller whose token this is, or `None` if no caller has it.
 ///
 /// # Errors
 ///

@@ -56,7 +56,7 @@ fn name(caller: &Caller) -> ValueRef<'_>
     }
 }
 
-// The number and the reply in the one row; 0 and nothing where there is no row.
+// The number and the reply in the one row; 0 and nothing if there is no row.
 fn change_or_none(alloc: Global, rows: &[Row]) -> Result<(u64, Vec<u8>), ReadFault>
     ensures { IfOk result (λ last. option_map (λ found. unwrap_or found no_change)
         (one_of change_found rows.now)

@@ -97,7 +97,7 @@ pub fn ids<S: Alter>(alloc: Global, conn: &mut Connection<S>) -> Result<Vec<Id>,
     entries(alloc, rows.as_slice())
 }
 
-/// The record of a SYSMOD, or `None` where it isn't catalogued.
+/// The record of a SYSMOD, or `None` if it isn't catalogued.
 ///
 /// # Errors
 ///

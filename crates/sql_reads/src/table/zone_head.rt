@@ -75,7 +75,7 @@ impl One<Zone> for Heads {
         (first (filter (is_of_both key.client key.zone) stored.heads)) patterns says) };
 }
 
-/// The patterns of the fix categories that a client asks for in a zone, ascending; none where it has no such zone.
+/// The patterns of the fix categories that a client asks for in a zone, ascending; none if it has no such zone.
 ///
 /// # Errors
 ///

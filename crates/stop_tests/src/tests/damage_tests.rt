@@ -27,7 +27,7 @@ fn would_commit<D: Disk + Drop>(trial: &mut Trial, conn: Opened<D>) -> Checked<b
 }
 
 // How many requests are answered over a new store of this connection, and whether the connection would have committed
-// more. None is answered where none can be made.
+// more. None is answered if none can be made.
 fn served_over<D: Disk + Drop>(trial: &mut Trial, conn: Opened<D>) -> Checked<(usize, bool)> {
     match visited(trial, conn, Step::Init, Course::Part(0, REQUESTS))? {
         (Ok(answered), conn) => Ok((answered, would_commit(trial, conn)?)),

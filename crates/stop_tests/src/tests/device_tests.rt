@@ -111,7 +111,7 @@ fn stopped_after(trial: &mut Trial, calls: Calls) -> Checked<Option<usize>> {
     stopped(trial, new_files(trial.alloc, calls))
 }
 
-// After which requests of the script a run was stopped, where each call of one of the files failed in turn.
+// After which requests of the script a run was stopped, if each call of one of the files failed in turn.
 fn stops(alloc: Global, keys: RandomState, failing: Failing) -> Result<Vec<Option<usize>>, Fail> {
     let mut trial = worked(alloc, keys)?;
     let mut stops = Vec::new(alloc);

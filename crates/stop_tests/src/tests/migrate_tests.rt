@@ -137,7 +137,7 @@ fn stopped_after<D: Stoppable>(
     }
 }
 
-// What is found where each call of one of the files failed in turn, until none does.
+// What is found if each call of one of the files failed in turn, until none does.
 fn put_stops<D: Stoppable>(
     stops: &mut Vec<Stop>,
     trial: &mut Trial,
@@ -154,7 +154,7 @@ fn put_stops<D: Stoppable>(
     Err("migrate never runs through".into())
 }
 
-// These are among what is found where each call of one of these files failed in turn.
+// These are among what is found if each call of one of these files failed in turn.
 fn assert_stops_of<D: Stoppable>(
     trial: &mut Trial,
     files: &Files<D>,

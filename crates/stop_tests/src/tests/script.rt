@@ -194,7 +194,7 @@ impl Ask {
         }
     }
 
-    /// The call, or `None` where a name is no id.
+    /// The call, or `None` if a name is no id.
     pub(crate) fn call_in(&self, place: Where) -> Option<Call<'_>> {
         let (zone, sysmod) = place.ids()?;
         Some(self.call(zone, sysmod))

@@ -53,7 +53,7 @@ pub(crate) fn given_up<D: Disk + Drop, T>(conn: Opened<D>, why: &'static str) ->
     Err(why)
 }
 
-/// The files of a connection after the log was copied into the database, or where the device failed in that.
+/// The files of a connection after the log was copied into the database, or if the device failed in that.
 pub(crate) fn closed<D: Disk + Drop>(conn: Opened<D>) -> Result<Files<D>, Files<D>> {
     match conn.close_files() {
         Ok(files) => Ok(files),
@@ -75,7 +75,7 @@ pub(crate) enum Step {
     Migrate,
     /// Something else than the bureau takes away what version 1 did not have.
     TakeBack,
-    /// The connection says that its file is damaged, and commits a change all the same. It is refused where it doesn't.
+    /// The connection says that its file is damaged, and commits a change all the same. It is refused if it doesn't.
     Commit,
 }
 
