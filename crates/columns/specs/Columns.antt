@@ -17,7 +17,7 @@ texts_of fields = map (λ field. field.now) fields
 abbrev pub in_width : ℕ → List ℕ → List ℕ
 in_width width field = field ++ replicate (width - length field) 32
 
--- how wide the first of the columns is: it goes as far as the next begins, and the last has no width
+-- the width of the first of the columns, up to the beginning of the next; the last has no width
 abbrev pub width_of : List (ℕ × List ℕ) → ℕ
 width_of [] = 0
 width_of (column ∷ []) = 0

@@ -3,7 +3,7 @@ use Rattle.std.specs.Prelude.{ℕ, List, ◌+◌, ◌++◌, length, Option}
 use Rattle.std.specs.List.{flat_map}
 use Rattle.columns.specs.Columns.{title_line, heading_of, row_of, count_line}
 
--- its columns, its lines, and how many of them are rows
+-- its columns, its lines, and the number of its rows
 pub record TableText : Type 0 where
   pub columns : List (ℕ × List ℕ)
   pub text : List ℕ

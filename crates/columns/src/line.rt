@@ -6,7 +6,7 @@ ghost use Rattle.columns.specs.Columns.{columns_of, texts_of, in_width, width_of
 use crate::{Column, NoMemory};
 use itoa::Buffer;
 
-/// Puts the title's line after a text, if there is a title.
+/// Appends the title's line to a text, if there is a title.
 pub(crate) fn push_title(text: &mut Vec<u8>, title: Option<&[u8]>) -> Result<(), NoMemory>
     ensures { OnOk result (text.new.items ≡ text.old.items ++ title_line (option_copied title.entry)) }
 {
@@ -17,7 +17,7 @@ pub(crate) fn push_title(text: &mut Vec<u8>, title: Option<&[u8]>) -> Result<(),
     Ok(())
 }
 
-/// Puts the line with the columns' names after a text.
+/// Appends the line with the columns' names to a text.
 pub(crate) fn push_heading(text: &mut Vec<u8>, columns: &[Column]) -> Result<(), NoMemory>
     ensures { OnOk result (text.new.items ≡ text.old.items ++ heading_of (columns_of columns.now)) }
 {
@@ -30,8 +30,8 @@ pub(crate) fn push_heading(text: &mut Vec<u8>, columns: &[Column]) -> Result<(),
     Ok(())
 }
 
-/// Puts a row after a text: each field with blanks up to where the next column begins, and a line end. If memory runs
-/// out, a part of the line may stand there.
+/// Appends a row to a text: each field, with blanks up to the next column, and a line end. If memory runs out, a part
+/// of the line may stand there.
 pub(crate) fn push_row(
     text: &mut Vec<u8>,
     columns: &[Column],
@@ -51,7 +51,7 @@ pub(crate) fn push_row(
     Ok(())
 }
 
-/// Puts the line that counts the rows after a text.
+/// Appends the line that counts the rows to a text.
 pub(crate) fn push_count(text: &mut Vec<u8>, rows: usize) -> Result<(), NoMemory>
     ensures { OnOk result (text.new.items ≡ text.old.items ++ count_line rows) }
 {
@@ -62,14 +62,14 @@ pub(crate) fn push_count(text: &mut Vec<u8>, rows: usize) -> Result<(), NoMemory
     Ok(())
 }
 
-// How long a row is whose fields fit their columns, with its line end, so that it takes one growth.
+// The length of a row whose fields fit their columns, with its line end. Room for it is made at once.
 fn row_len(columns: &[Column], fields: &[&[u8]]) -> usize {
     let before_last = columns.last().map_or(0, |column| usize::from(column.start));
     let last = fields.last().map_or(0, |field| field.len());
     before_last.saturating_add(last).saturating_add(1)
 }
 
-// How wide the first of these columns is. The last one has no width.
+// The width of the first of these columns. The last one has no width.
 fn width(columns: &[Column]) -> u16
     ensures { result ≡ width_of (columns_of columns.now) }
 {

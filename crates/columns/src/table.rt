@@ -50,9 +50,8 @@ impl<'a> Table<'a> {
         })
     }
 
-    /// Puts a row under those that stand: a field for each column, each with blanks after it up to where the
-    /// next column begins. The field in the last column has none after it, and a field that is too long for
-    /// its column stands as it is.
+    /// Appends a row: a field for each column, each with blanks up to the next column. No blank follows the
+    /// field in the last column, and a field that is too long for its column stands as it is.
     ///
     /// # Errors
     ///
@@ -74,7 +73,7 @@ impl<'a> Table<'a> {
         pushed
     }
 
-    /// The whole text, which ends with the line that counts the rows.
+    /// Returns the whole text, which ends with the line that counts the rows.
     ///
     /// # Errors
     ///

@@ -1,5 +1,5 @@
-//! How often what lies below a store has failed. A store that has failed once answers nothing more, so its count is
-//! never 0 again.
+//! Counts how often what lies below a store has failed. A store that has failed once answers nothing more: its
+//! count is never 0 again.
 //!
 //! - [`count_failure`]: counts a failure
 //!

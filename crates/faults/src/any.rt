@@ -7,15 +7,15 @@ use crate::{Cause, Fault};
 use arrayvec::ArrayString;
 use itoa::Buffer;
 
-/// A fault of any kind, by what is told of it. `?` makes it of each [`Fault`].
+/// A fault of any kind: its number, place and cause. `?` makes one from each [`Fault`].
 #[derive(Clone, Copy, Debug, PartialEq, Eq)]
 pub struct AnyFault {
-    /// The number in print. What `told` of a [`Fault`] gives is from 1 to 99.
+    /// The number in print, from 1 to 99 for each [`Fault`].
     pub number: u8,
-    /// Where the fault is: the line of a source on which the statement begins, or the number of a list's record,
-    /// counted from 1. A fault of all that was given has no place, nor has one of the machine.
+    /// The line of a source on which the statement begins, or the number of a list's record, counted from 1. A
+    /// fault of the whole input has none, and neither has one of the machine.
     pub place: Option<u32>,
-    /// What is at fault.
+    /// The input or the machine.
     pub cause: Cause,
 }
 
@@ -28,7 +28,7 @@ impl<F: Fault> From<F> for AnyFault {
 }
 
 impl AnyFault {
-    /// A fault of what was given, at this line or record.
+    /// A fault of the input, at this line or record.
     pub fn at_place(number: u8, place: u32) -> AnyFault
         ensures { result ≡ told.at_place number place }
     {
@@ -39,7 +39,7 @@ impl AnyFault {
         }
     }
 
-    /// A fault of all that was given.
+    /// A fault of the whole input.
     pub fn of_input(number: u8) -> AnyFault
         ensures { result ≡ told.of_input number }
     {
@@ -62,7 +62,7 @@ impl AnyFault {
     }
 
     /// The line that tells the fault: `FAULT`, the number and the place, if there is one, with blanks between and a
-    /// line feed at the end. It takes no memory.
+    /// line feed at the end.
     pub fn text(self) -> ArrayString<32>
         ensures { result.bytes ≡ text_of self }
     {

@@ -1,13 +1,13 @@
 //! What is refused, and why, in one form for all crates.
 //!
 //! - [`Fault`]: a reason to refuse something
-//! - [`AnyFault`]: a fault of any kind, by what is told of it: its number, its place, if there is one, and its cause
+//! - [`AnyFault`]: a fault of any kind: its number, its place, if it has one, and its cause
 //! - [`Cause`]: whether what was given is at fault, or the machine
 //! - [`fault_text`]: the line `FAULT number place` that tells a fault
 //! - [`NoMemory`]: memory ran out
 //!
-//! A contract says `IsRefusal memory IsFault fault` of `specs/Refusal.antt` if a call is refused: memory ran out, or
-//! the fault is the one that is told.
+//! The contract of a call that can be refused says `IsRefusal memory IsFault fault` (`specs/Refusal.antt`): memory
+//! ran out, or the fault is the one that is told.
 //!
 //! ```
 //! use faults::{AnyFault, fault_text};

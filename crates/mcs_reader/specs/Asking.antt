@@ -14,7 +14,7 @@ is_asked names operand = list_any (λ name. str_eq_ignore_ascii_case operand.nam
 abbrev pub asking : List (List ℕ) → Statement → Statement
 asking names statement = record statement { operands = filter (is_asked names) statement.operands }
 
--- what a text is read as, if those operands alone are asked for; a text that is refused stays refused
+-- the reading of a text if those operands alone are asked for; a text that is refused stays refused
 abbrev pub reading_asking : List (List ℕ) → Read → Read
 reading_asking names (Ok statements) = Ok (map (asking names) statements)
 reading_asking names (Err fault) = Err fault

@@ -1,4 +1,4 @@
--- What each byte may do in a statement (SMP/E Reference, "MCS coding rules").
+-- The role of each byte in a statement (SMP/E Reference, "MCS coding rules").
 use Rattle.std.specs.Prelude.{ℕ, Bool, true, false, ◌==◌, ◌||◌, ◌&&◌, nat_le, if◌then◌else◌}
 use Rattle.mcs_reader.specs.declared.byte.ByteRole.{ByteRole}
 use Rattle.mcs_reader.specs.declared.byte.ByteRole.TheVariants.{Gap, Comment, Name, Open, Close, Period, Other}

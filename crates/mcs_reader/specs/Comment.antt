@@ -28,6 +28,6 @@ somewhere test (b ∷ text) = if test (b ∷ text) then true else somewhere test
 abbrev pub IsCommentText : List ℕ → Type 0
 IsCommentText body = somewhere ends_comment body ≡ false
 
--- what a byte does if this text follows it: only so is it seen that a comment begins
+-- the role of a byte before this text, which may show that a comment begins
 abbrev pub role_here : ℕ → List ℕ → ByteRole
 role_here b text = if begins_comment (b ∷ text) then Comment else role_of b

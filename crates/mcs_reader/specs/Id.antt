@@ -18,7 +18,7 @@ padded t = t ++ replicate (7 - length t) 32
 abbrev pub id_of : List ℕ → Option (List ℕ)
 id_of t = if is_id_text t then Some (padded t) else None
 
--- what stands before the blanks
+-- the text before the blanks
 abbrev pub text_of : List ℕ → List ℕ
 text_of [] = []
 text_of (b ∷ bs) = if b == 32 then [] else b ∷ text_of bs

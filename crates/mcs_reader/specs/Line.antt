@@ -31,7 +31,7 @@ text_of_lines read = flat_map (λ line. columns_1_to_72 line ++ line_end ∷ [])
 unfoldable pub text_of : List ℕ → List ℕ
 text_of source = text_of_lines (lines source)
 
--- how many lines end in a text
+-- the number of lines that end in a text
 abbrev pub line_ends : List ℕ → ℕ
 line_ends [] = 0
 line_ends (b ∷ text) = (if b == line_end then 1 else 0) + line_ends text

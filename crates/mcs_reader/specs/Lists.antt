@@ -23,7 +23,7 @@ pub record GivesValue (line depth : ℕ) (text value : List ℕ) (depth_after : 
   pub no_deeper : depth_after + length after ≤ depth + length text
   pub shorter : length after < length text
 
--- the list has some values, of which this is the only one if there is one
+-- the list has this value, if it has just one
 pub record HasSoleValue (line : ℕ) (text : List ℕ) (value : Option (List ℕ)) (after : List ℕ) : Type 0 where
   pub values : List (List ℕ)
   pub found : scan line 1 no_name false text ≡ on_found (with_list values) (scan line 0 no_name false after)

@@ -1,4 +1,4 @@
--- What stands in a statement after its verb, and in a list: pieces, nested where lists are.
+-- The pieces of a statement after its verb, and of a list. Lists nest.
 use Rattle.std.specs.Prelude.{◌≡◌, ℕ, Bool, true, false, ◌==◌, List, [], ◌∷◌, ◌++◌, Option, Some, None, unwrap_or, codes, IsTrue, if◌then◌else◌}
 use Rattle.std.specs.Str.{str_eq_ignore_ascii_case}
 use Rattle.mcs_reader.specs.Byte.{role_of, belongs_to_value, is_name_byte, line_end}
@@ -67,8 +67,8 @@ abbrev pub named_before : List ℕ → Before
 named_before name = if is_comment_name name then name_comment else a_name
 
 -- The pieces of a statement outside lists: names, which go as far as they can, and lists, with gaps and comments between. A
--- list belongs to a name: gaps and comments aside, a name stands before it; and if that is COMMENT, only parentheses count
--- in the list. `before` says what stands before these pieces.
+-- list belongs to the name before it, gaps and comments aside. If that is COMMENT, only parentheses count in the list.
+-- `before` says what stands before these pieces.
 abbrev pub IsOutside : Before → Pieces → Type 0
 IsOutside before nothing = Unit {0}
 IsOutside before (gap b rest) = (role_of b ≡ Gap) × IsOutside before rest
@@ -104,8 +104,8 @@ values (word w rest) = w ∷ values rest
 values (list inside rest) = values inside ++ values rest
 values (raw_list raw rest) = values rest
 
--- The values of the list that the pieces begin with, gaps and comments aside, if they begin with one. The list of an operand
--- COMMENT has none.
+-- The values of the list at the beginning of the pieces, gaps and comments aside, if one stands there. The list of an
+-- operand COMMENT has none.
 abbrev pub take_list : Pieces → Option (List (List ℕ))
 take_list nothing = None
 take_list (gap b rest) = take_list rest

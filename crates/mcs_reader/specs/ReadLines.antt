@@ -1,5 +1,6 @@
--- No part of what is promised: private contracts cite it. A plain machine that reads a text line by line: a statement if a
--- line's head names a verb, and else the line is passed over. The first argument bounds how many of these steps it takes.
+-- No part of what is promised: private contracts cite it. A plain machine that reads a text line by line. If a line's head
+-- names a verb, it reads a statement, and else it passes the line over. The first argument bounds how many of these steps it
+-- takes.
 use Rattle.std.specs.Prelude.{◌≡◌, ℕ, zero, suc, ◌+◌, ◌-◌, ◌<◌, false, List, [], ◌∷◌, length, Option, Some, None, Ok, Err}
 use Rattle.mcs_reader.specs.Line.{line_ends}
 use Rattle.mcs_reader.specs.declared.statement.Statement.{Statement}

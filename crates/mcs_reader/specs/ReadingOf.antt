@@ -1,5 +1,5 @@
--- What a source is read as, as one value: its statements, or the fault for which it is refused. The law
--- `IsRead source (reading_of source)` says that it is this; `read` and `Statements::new` name it.
+-- The reading of a source as one value: its statements, or the fault for which it is refused. The law
+-- `IsRead source (reading_of source)` says that this is right; `read` and `Statements::new` name it.
 use Rattle.std.specs.Prelude.{ℕ, List, length, nat_le, Err, if◌then◌else◌}
 use Rattle.mcs_reader.specs.Line.{text_of}
 use Rattle.mcs_reader.specs.ReadLines.{read_text}

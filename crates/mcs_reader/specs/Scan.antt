@@ -1,6 +1,6 @@
 -- No part of what is promised: private contracts cite it. A plain machine that goes over a statement's text once, with a
--- count of open parentheses: those contracts say that the code does what it does, and proofs/ shows that it does what
--- Pieces and Stop say.
+-- count of open parentheses. Contracts say that the code does as the machine does, and proofs/ shows that the machine does
+-- as Pieces and Stop say.
 use Rattle.std.specs.Prelude.{ℕ, zero, suc, ◌-◌, ◌==◌, ◌&&◌, Bool, false, if◌then◌else◌, List, [], ◌∷◌, ◌++◌, length, drop, Option, Some, None, Result, Ok, Err, option_map, unwrap_or}
 use Rattle.mcs_reader.specs.Byte.{is_name_byte, line_end}
 use Rattle.mcs_reader.specs.Comment.{role_here, ends_comment}

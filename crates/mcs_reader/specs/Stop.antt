@@ -9,7 +9,7 @@ use Rattle.mcs_reader.specs.StatementText.{StatementText, IsStatementText, subje
 use Rattle.mcs_reader.specs.declared.fault.McsFault.{McsFault}
 use Rattle.mcs_reader.specs.declared.fault.McsFault.TheVariants.{NoPeriod, BadVerbSubject, Unbalanced, BadByte}
 
--- What stands after the pieces of a statement, outside lists, where it goes no further: the end of the text; the ++ of
+-- The text after the pieces of a statement, outside lists, at which it goes no further: the end of the text; the ++ of
 -- the next statement, at a line's beginning; a closing parenthesis that nothing opened; a byte that can't stand outside
 -- lists; an opening parenthesis before which, gaps and comments aside, no name stands; a comment in which the text ends;
 -- a list in which the text ends, or a comment in it, each of whose opening parentheses has pieces after it; a list of

@@ -1,10 +1,10 @@
--- What is left to read of a source, of which one statement after the other is given.
+-- The part of a source that is left to read, statement by statement.
 use Rattle.std.specs.Prelude.{◌≡◌, ℕ, ◌<◌, List, [], ◌∷◌, ◌++◌, Result, Ok, Err}
 use Rattle.mcs_reader.specs.Reading.{IsFirstFault, IsReading}
 use Rattle.mcs_reader.specs.declared.fault.McsFault.{McsFault}
 use Rattle.mcs_reader.specs.declared.statement.Statement.{Statement}
 
--- what a text is read as: its statements, or the fault for which it is refused
+-- the reading of a text: its statements, or the fault for which it is refused
 abbrev pub Read : Type 0
 Read = Result (List Statement) McsFault
 
@@ -13,7 +13,7 @@ abbrev pub with_statements : List Statement → Read → Read
 with_statements front (Ok statements) = Ok (front ++ statements)
 with_statements front (Err fault) = Err fault
 
--- what the rest of the source is read as, and of how many bytes it is
+-- the reading of the rest of the source, and its number of bytes
 pub record Unread : Type 0 where
   pub reading : Read
   pub bytes : ℕ

@@ -4,7 +4,7 @@ ghost use Rattle.std.specs.List.{list_any};
 ghost use Rattle.std.specs.Str.{str_eq_ignore_ascii_case};
 ghost use Rattle.mcs_reader.specs.Gathered.{is_wanted};
 
-/// All operands, or those alone that have one of some names. What nobody asks for is passed over and takes no memory.
+/// All operands, or only those that have one of some names. The others are passed over, and take no memory.
 #[derive(Clone, Copy)]
 pub(crate) enum Asked<'a> {
     All,

@@ -1,9 +1,9 @@
-//! What each byte may do in a statement.
+//! The role of each byte in a statement.
 ghost use Rattle.std.specs.Prelude.{◌≡◌};
 ghost use Rattle.mcs_reader.specs.Byte.{role_of as role_of_byte, is_blank, is_gap, is_name_byte};
 ghost use Rattle.mcs_reader.specs.Pieces.{is_value_byte};
 
-/// What a byte does in a statement (SMP/E Reference, "MCS coding rules").
+/// The role of a byte in a statement (SMP/E Reference, "MCS coding rules").
 #[derive(Clone, Copy, Debug, PartialEq, Eq)]
 pub(crate) enum ByteRole {
     /// A blank, a tab, a comma or a line's end: it stands between names, values and lists.
@@ -22,7 +22,7 @@ pub(crate) enum ByteRole {
     Other,
 }
 
-/// What a byte does if no comment begins.
+/// The role of a byte if no comment begins.
 #[inline]
 #[tactic(auto, unfolding(crate::specs::Byte::role_of))]
 pub(crate) fn role_of(b: u8) -> ByteRole

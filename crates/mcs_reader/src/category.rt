@@ -1,4 +1,4 @@
-//! What text a fix category may have.
+//! The text of a fix category.
 ghost use Rattle.std.specs.Prelude.{◌≡◌};
 ghost use Rattle.std.specs.List.{list_all};
 ghost use Rattle.mcs_reader.specs.Category.{is_category as is_category_text, is_category_byte as may_stand_in_category};

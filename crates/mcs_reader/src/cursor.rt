@@ -57,7 +57,7 @@ impl<'a> Cursor<'a> {
         }
     }
 
-    /// The same position once more.
+    /// Copies the position.
     pub(crate) fn copy(&self) -> Self
         ensures { result ≡ self.now }
     {
@@ -125,7 +125,7 @@ impl<'a> Cursor<'a> {
         self.columns = rest;
     }
 
-    /// Passes the name bytes from here on, and gives them.
+    /// Passes the name bytes from here on, and returns them.
     #[inline]
     pub(crate) fn take_name(&mut self) -> &'a [u8]
         ensures name { result.now ≡ run is_name_byte self.old.text }
@@ -137,7 +137,7 @@ impl<'a> Cursor<'a> {
         name
     }
 
-    /// Passes the bytes of a value from here on, and gives them.
+    /// Passes the bytes of a value from here on, and returns them.
     #[inline]
     pub(crate) fn take_value(&mut self) -> &'a [u8]
         ensures value { result.now ≡ value_run self.old.text }
@@ -269,7 +269,7 @@ fn split_value(columns: &[u8]) -> (&[u8], &[u8])
     columns.split_at(value_len(columns))
 }
 
-/// What the first byte of a line's rest does.
+/// The role of the first byte of a line's rest.
 #[inline]
 fn role_in(columns: &[u8]) -> Option<ByteRole>
     requires { IsLine columns.now }
@@ -289,7 +289,7 @@ fn begins_with(columns: &[u8], b: u8) -> bool
     !columns.is_empty() && columns[0] == b
 }
 
-/// What stands after the first `*/`.
+/// The bytes after the first `*/`.
 fn after_comment_in(columns: &[u8]) -> Option<&[u8]>
     ensures { MatchOption result
         (after_comment columns.now ≡ None)
@@ -306,8 +306,8 @@ fn after_comment_in(columns: &[u8]) -> Option<&[u8]>
     None
 }
 
-/// What stands after the parenthesis that closes a list of COMMENT, in which `depth` more are open; or
-/// how many are open at the line's end.
+/// The bytes after the parenthesis that closes a list of COMMENT, in which `depth` more are open; or the number that
+/// are open at the line's end.
 fn after_raw_in(columns: &[u8], depth: usize) -> Result<&[u8], usize>
     requires { depth + length columns.now < 2 ^ 64 }
     ensures after { MatchResult result
@@ -349,7 +349,7 @@ fn name_len(columns: &[u8]) -> usize
     columns.iter().take_while(|b| stands_in_name(**b)).count()
 }
 
-/// How many bytes of a value stand at the beginning. A comment ends a value.
+/// The number of bytes of the value at the beginning. A comment ends a value.
 #[inline]
 fn value_len(columns: &[u8]) -> usize
     ensures value { take result columns.now ≡ value_run columns.now }

@@ -15,15 +15,15 @@ pub enum McsFault {
     /// `++`.
     #[error("line {0}: no period ends the statement")]
     NoPeriod(u32),
-    /// The list after the verb is missing, or holds anything but one value, an [`Id`](crate::Id), if the verb isn't
-    /// VER. Or the verb is IF, and a list follows it.
+    /// No list follows the verb, unless it is IF; or a list follows IF; or the list of any verb but VER holds anything
+    /// but one value, an [`Id`](crate::Id).
     #[error("line {0}: the list after the verb is not one id")]
     BadVerbSubject(u32),
     /// The text ends inside parentheses or a comment, or `)` stands outside them.
     #[error("line {0}: the parentheses do not match")]
     Unbalanced(u32),
-    /// Outside lists and comments stands a byte that can't stand there, or a `(` before which, gaps and
-    /// comments aside, no name stands.
+    /// A byte that can't stand outside lists and comments stands there, or a `(` without a name before it, gaps and
+    /// comments aside.
     #[error("line {0}: a character stands where it cannot")]
     BadByte(u32),
     /// The source has over 67,108,864 bytes.

@@ -1,4 +1,4 @@
-//! `Id`.
+//! The names of SYSMODs, FMIDs, reasons, classes, zones and callers.
 ghost use Rattle.std.specs.Prelude.{◌≡◌, ◌==◌, ◌↔◌, not, refl, Some, IsAscii, IsTrue, IsSome, IfSome};
 ghost use Rattle.std.specs.Ordering.{nat_cmp};
 ghost use Rattle.std.specs.Cmp.Lexicographic.{slice_cmp, nat_list_cmp_total, texts_po, texts_ties};
@@ -139,7 +139,7 @@ fn is_text_byte(b: u8) -> bool
     matches!(b, b'A'..=b'Z' | b'0'..=b'9' | b'@' | b'#' | b'$')
 }
 
-// The length of the text: where the blanks begin.
+// The length of the text, up to the blanks.
 fn text_len(bytes: &[u8]) -> usize
     ensures { result ≡ prefix_len (λ b. not (b == 32)) bytes.now }
 {

@@ -4,7 +4,7 @@
 //! - [`Statements`]: the same one statement at a time, with all operands or those that are asked for
 //! - [`MOST_BYTES`]: the most bytes that a source may have
 //! - [`Statement`]: its verb, its subject, its operands and its line
-//! - [`Verb`]: what a statement does: the name after its `++`
+//! - [`Verb`]: the name after a statement's `++`, which says what it does
 //! - [`Operands`]: the operands of one statement, in order
 //! - [`Operand`]: one operand: its name, and the values of its list
 //! - [`ListValues`]: the values of one list, in order

@@ -19,7 +19,7 @@ use crate::passing::{pass_comment, pass_raw_list};
 use crate::scratch::{Scratch, take_gathered};
 use crate::{Id, ListValues, McsFault, Operand, Operands, Verb};
 
-/// Goes to the next byte after gaps and comments, and gives its role.
+/// Goes to the next byte after gaps and comments, and returns its role.
 fn skip_gap(cursor: &mut Cursor<'_>, line: u32) -> Result<ByteRole, McsFault>
     ensures role { IfOk result (λ role. role_at cursor.new.text ≡ Some role) }
     ensures no_gap { IfOk result (λ role. role ≢ Gap) }
@@ -147,7 +147,7 @@ fn subject_by(verb: Verb, value: Option<&[u8]>) -> Option<Option<Id>>
     }
 }
 
-/// The values of the list that follows a name, none if no list does.
+/// The values of the list that follows a name; none if no list does.
 fn take_values<'a>(
     cursor: &mut Cursor<'a>,
     scratch: &mut Vec<&'a [u8]>,
@@ -212,7 +212,7 @@ fn gather_operand<'a>(
     Ok(())
 }
 
-/// The operands up to the period, which is passed, of those that are asked for.
+/// The operands that are asked for, up to the period, which is passed.
 pub(crate) fn gather_operands<'a>(
     cursor: &mut Cursor<'a>,
     scratch: &mut Scratch<'a>,

@@ -1,4 +1,4 @@
-//! What a statement passes over: comments, and the lists of operands COMMENT.
+//! The parts of a statement that are passed over: comments, and the lists of operands COMMENT.
 ghost use Rattle.std.specs.Prelude.{◌≡◌, ◌^◌, ◌<◌, Ok, Some, None, OnOk, IfErr, IsErr, length, drop};
 ghost use Rattle.mcs_reader.specs.Position.{IsAfter, role_at};
 ghost use Rattle.mcs_reader.specs.Scan.{after_comment, after_raw};

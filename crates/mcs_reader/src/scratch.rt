@@ -1,4 +1,4 @@
-//! Scratch vectors, in which the parts of a statement are gathered before it is known how many they are.
+//! Scratch vectors, in which the parts of a statement are gathered before their number is known.
 ghost use Rattle.std.specs.Prelude.{◌≡◌, IfOk};
 
 use crate::{NoMemory, Operand};

@@ -24,9 +24,9 @@ pub const MOST_BYTES: usize = 67_108_864;
 ///
 /// # Errors
 ///
-/// The source's first fault: [`McsFault::TooLong`] if it has more than [`MOST_BYTES`] bytes; else that of the first
-/// statement that has one, and in it the first position at which the text can't go on, or else its subject. Nothing is
-/// returned of the other statements. [`McsFault::Memory`] if memory runs out.
+/// [`McsFault::TooLong`] if the source has more than [`MOST_BYTES`] bytes. Else the fault of the first statement that
+/// has one: at the first position at which its text can't go on, or else that of its subject. The other statements are
+/// not returned. [`McsFault::Memory`] if memory runs out.
 pub fn read(alloc: Global, source: &[u8]) -> Result<Vec<Statement<'_>>, McsFault>
     // What is returned is the source's reading, or its first fault.
     ensures reading { IfOk result (λ statements. IsReading source.now statements.items) }

@@ -6,7 +6,7 @@ use crate::{Id, NoMemory};
 use std::marker::Model;
 use std::slice;
 
-/// What a statement does: the name after its `++`.
+/// The name after a statement's `++`, which says what it does.
 #[derive(Clone, Copy, Debug, PartialEq, Eq, PartialOrd, Ord, Hash)]
 pub enum Verb {
     /// `++HOLD` puts a SYSMOD in exception status.
@@ -81,7 +81,7 @@ impl<'a> Model for ListValues<'a> {
 }
 
 impl<'a> ListValues<'a> {
-    /// These values, as slices of one source. It takes no memory.
+    /// These values, as slices of one source.
     pub fn from_vec(items: Vec<&'a [u8]>) -> Self
         ensures { result ≡ bytes_of_each items.entry.items }
     {
@@ -118,7 +118,7 @@ impl<'a> ListValues<'a> {
 pub struct Operand<'a> {
     /// The operand's name as it was written; names are compared without regard to ASCII case.
     pub name: &'a [u8],
-    /// The values of the operand's list, none if it has no list.
+    /// The values of the operand's list; none if it has no list.
     pub values: ListValues<'a>,
 }
 
@@ -142,7 +142,7 @@ impl<'a> Model for Operands<'a> {
 impl<'a> Operands<'a> {
     ghost use Rattle.mcs_reader.specs.Operand.{operand_texts};
 
-    /// These operands. It takes no memory.
+    /// These operands.
     pub fn from_vec(items: Vec<Operand<'a>>) -> Self
         ensures { result ≡ operand_texts items.entry.items }
     {
@@ -156,7 +156,7 @@ impl<'a> Operands<'a> {
         self.items.as_slice()
     }
 
-    /// The same as a list. It takes no memory.
+    /// Returns them as a list.
     pub fn into_vec(self) -> Vec<Operand<'a>>
         ensures { operand_texts result.items ≡ self.entry }
     {
@@ -167,12 +167,12 @@ impl<'a> Operands<'a> {
 /// One statement of a source (SMP/E Reference, "MCS coding rules").
 #[derive(Debug, Drop)]
 pub struct Statement<'a> {
-    /// What the statement does.
+    /// The verb, which says what the statement does.
     pub verb: Verb,
     /// The one value of the list after the verb; none for `++VER`, whose list isn't used, and for `++IF`, which
     /// has none.
     pub subject: Option<Id>,
-    /// What stands after the verb's list, up to the period.
+    /// The operands after the verb's list, up to the period.
     pub operands: Operands<'a>,
     /// The line, counted from 1, on which the statement begins.
     pub line: u32,

@@ -24,9 +24,9 @@ use std::marker::Model;
 
 /// The statements of a source, one after the other, of which none is kept.
 ///
-/// A contract sees what the part that is left is read as, and of how many bytes it is. So a source is read as
-/// [`read`](crate::read) reads it just if its end is reached: if a statement has a fault, those before it were no
-/// reading of the source.
+/// A contract sees the reading of the part that is left, and its number of bytes. A source is read as
+/// [`read`](crate::read) reads it only if its end is reached. If a statement has a fault, the statements before it
+/// were no reading of the source.
 #[derive(Drop)]
 pub struct Statements<'a> {
     cursor: Cursor<'a>,
@@ -46,7 +46,7 @@ impl<'a> Model for Statements<'a> {
 }
 
 impl<'a> Statements<'a> {
-    /// All statements of a source. It takes no memory.
+    /// All statements of a source.
     ///
     /// # Errors
     ///
@@ -62,8 +62,8 @@ impl<'a> Statements<'a> {
         Statements::begin(alloc, source, Asked::All)
     }
 
-    /// All statements of a source, each with those operands alone that have one of these names, without regard to
-    /// ASCII case. Of the others neither names nor values take memory. It takes no memory itself.
+    /// All statements of a source, each with only those operands that have one of these names, without regard to ASCII
+    /// case. Names and values of the other operands take no memory.
     ///
     /// # Errors
     ///
@@ -97,7 +97,7 @@ impl<'a> Statements<'a> {
         })
     }
 
-    /// The next statement, or `None` at the end of the source, where what is left stays as it was.
+    /// Reads the next statement, or `None` at the end of the source. What is left stays as it was then.
     ///
     /// # Errors
     ///

@@ -1,4 +1,4 @@
--- What is wanted of a report.
+-- The rows of a report, or the plan for it.
 use Rattle.questions.specs.declared.wanted.Form.{Form}
 use Rattle.questions.specs.declared.wanted.Wanted.{Wanted}
 use Rattle.questions.specs.declared.wanted.Wanted.TheVariants.{Rows, Plan}

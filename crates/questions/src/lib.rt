@@ -1,7 +1,7 @@
-//! What may be asked about a zone: which report, its rows or the plan for it, and in which form.
+//! Questions about a zone: which report, its rows or the plan for it, and in which form.
 //!
 //! - [`Report`]: a report on a zone, with its name
-//! - [`Wanted`]: what is wanted of a report
+//! - [`Wanted`]: the rows of a report, or the plan for it
 //! - [`Form`]: the form of an answer
 //!
 //! ```

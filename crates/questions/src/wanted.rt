@@ -1,4 +1,4 @@
-//! What is wanted of a report, and in which form.
+//! The rows of a report or the plan for it, and their form.
 ghost use Rattle.std.specs.Prelude.{◌≡◌};
 ghost use Rattle.questions.specs.Wanted.{form_of};
 
@@ -11,7 +11,7 @@ pub enum Form {
     Json,
 }
 
-/// What is wanted of a report.
+/// The rows of a report, or the plan for it.
 #[derive(Clone, Copy, Debug, PartialEq, Eq)]
 pub enum Wanted {
     /// Its rows.

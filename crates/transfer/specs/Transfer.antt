@@ -27,7 +27,7 @@ pub record TakesIn (old new : List ℕ) (before after : Option (List ℕ)) (n : 
   pub grown : new ≡ old ++ bytes
   pub consumed : Consumes before after bytes
 
--- Serves private contracts alone: retries are spent at most, and an interruption is told only if none is left.
+-- Serves private contracts alone: retries only get fewer, and an interruption is told only if none is left.
 pub record SpendsRetries {T : Type 0} (result : Result T Error) (old new : ℕ) : Type 0 where
   pub given_up : IfErr result (λ error. error_kind error ≡ Interrupted → new ≡ 0)
   pub counted : new ≤ old

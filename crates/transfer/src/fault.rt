@@ -1,4 +1,4 @@
-//! Why bytes aren't there.
+//! Why no bytes were read.
 ghost use Rattle.std.specs.Prelude.{◌≡◌};
 ghost use Rattle.transfer.specs.declared.fault.TransferFault.TheVariants.{Read, Memory};
 
@@ -6,7 +6,7 @@ use faults::NoMemory;
 use std::io;
 use thiserror::Error;
 
-/// Why bytes aren't there.
+/// Why no bytes were read.
 #[derive(Debug, Drop, Error)]
 pub enum TransferFault {
     /// A read failed, or was interrupted when no retry was left.

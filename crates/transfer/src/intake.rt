@@ -10,7 +10,7 @@ use std::alloc::Global;
 use std::io::{self, ErrorKind, Read};
 use std::marker::Model;
 
-// How many bytes of room are made at a time.
+// The bytes of room that are made at a time.
 const CHUNK: usize = 65536;
 
 /// Bytes that came from a reader and were not yet taken off, with room for more after them.
@@ -36,7 +36,7 @@ impl Model for Intake {
 }
 
 impl Intake {
-    /// No bytes, and no room yet. It takes no memory.
+    /// No bytes, and no room yet.
     pub fn new(alloc: Global) -> Intake
         ensures { result ≡ [] }
     {
@@ -54,7 +54,7 @@ impl Intake {
         &self.room[self.start..self.end]
     }
 
-    /// How many bytes there are.
+    /// The number of bytes.
     pub fn len(&self) -> usize
         ensures { result ≡ length self.now }
     {
@@ -95,7 +95,7 @@ impl Intake {
 }
 
 impl Intake {
-    /// One read of up to `most` bytes, onto the end. It reads none only at the reader's end.
+    /// Reads up to `most` bytes, once, and appends them. It reads none only at the reader's end.
     ///
     /// # Errors
     ///
@@ -123,7 +123,7 @@ impl Intake {
     }
 }
 
-// One read into the room, after the bytes that end there.
+// Reads once into the room, after the bytes that end there.
 fn read_into_room<R: Read>(
     reader: &mut R,
     room: &mut Vec<u8>,
@@ -149,7 +149,7 @@ fn read_into_room<R: Read>(
     Ok(read_at(reader, room.as_mut_slice(), end, until, retries)?)
 }
 
-// Room after the bytes that are there, if there is none.
+// Makes room after the bytes that are there, if there is none.
 fn make_room(room: &mut Vec<u8>, end: usize) -> Result<(), NoMemory>
     requires { end ≤ length room.old.items }
     ensures kept { take end room.new.items ≡ take end room.old.items }
@@ -162,7 +162,7 @@ fn make_room(room: &mut Vec<u8>, end: usize) -> Result<(), NoMemory>
     Ok(())
 }
 
-// One read into the room, between two places.
+// Reads once into the room, between two positions.
 fn read_at<R: Read>(
     reader: &mut R,
     room: &mut [u8],

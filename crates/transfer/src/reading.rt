@@ -10,10 +10,10 @@ use crate::{Intake, TransferFault};
 use std::alloc::Global;
 use std::io::{self, ErrorKind, Read};
 
-/// How often interrupted calls are made again, in one transfer.
+/// The number of times that one transfer makes interrupted calls again.
 pub const RETRIES: u32 = 64;
 
-/// Reads `limit` bytes, or all that there are if that is less, and never asks for more.
+/// Reads `limit` bytes, or all if there are fewer, and never asks for more.
 ///
 /// # Errors
 ///
@@ -45,11 +45,11 @@ pub fn read_source<R: Read>(
     Ok(source.into_vec())
 }
 
-/// One read that isn't interrupted.
+/// Reads once. A read that is interrupted is made again.
 ///
 /// # Errors
 ///
-/// The reader's own, and an interruption when no retry is left. Nothing was read then.
+/// The reader's own error, and an interruption when no retry is left. Nothing was read then.
 pub fn read_some<R: Read>(reader: &mut R, buf: &mut [u8], retries: &mut u32) -> io::Result<usize>
     ensures bound { ReadsAtMost result buf.new }
     ensures bytes { IfOk result (λ n.

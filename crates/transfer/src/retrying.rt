@@ -8,7 +8,7 @@ use std::io::{self, ErrorKind};
 ///
 /// # Errors
 ///
-/// The call's own, if it failed in another way or no retry is left. No retry is spent then.
+/// The call's own error, if it failed in another way or no retry is left. No retry is spent then.
 pub fn spend_retry(error: io::Error, retries: &mut u32) -> io::Result<()>
     ensures interrupted { OnOk result (error_kind error ≡ ErrorKind.Interrupted) }
     ensures spent { OnOk result (retries.new + 1 ≡ retries.old) }

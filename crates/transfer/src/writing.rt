@@ -12,8 +12,8 @@ use std::io::{self, ErrorKind, Write};
 ///
 /// # Errors
 ///
-/// The writer's own, that of a flush among them, an interruption when no retry is left, and `WriteZero` if
-/// a write takes no byte. A front part of the text was written then.
+/// The writer's own error, also that of a flush; an interruption when no retry is left; `WriteZero` if a
+/// write takes no byte. A front part of the text was written then.
 pub fn write_whole<W: Write>(writer: &mut W, text: &[u8], retries: &mut u32) -> io::Result<()>
     ensures ok { OnOk result (Appends (W.contents writer.old) (W.contents writer.new) text.now) }
     ensures err { OnErr result (AppendsFront (W.contents writer.old) (W.contents writer.new) text.now) }
@@ -31,7 +31,8 @@ pub fn write_whole<W: Write>(writer: &mut W, text: &[u8], retries: &mut u32) -> 
     flush(writer, retries)
 }
 
-// One write that isn't interrupted. It fails if one fails in another way, or no retry is left.
+// Writes once. A write that is interrupted is made again. It fails if one fails in another way, or no
+// retry is left.
 fn write_some<W: Write>(writer: &mut W, text: &[u8], retries: &mut u32) -> io::Result<usize>
     ensures bound { WritesAtMost result text.now }
     ensures bytes { IfOk result (λ n.
@@ -47,7 +48,8 @@ fn write_some<W: Write>(writer: &mut W, text: &[u8], retries: &mut u32) -> io::R
     }
 }
 
-// One flush that isn't interrupted. It fails if one fails in another way, or no retry is left.
+// Flushes once. A flush that is interrupted is made again. It fails if one fails in another way, or no
+// retry is left.
 fn flush<W: Write>(writer: &mut W, retries: &mut u32) -> io::Result<()>
     ensures bytes { Keeps (W.contents writer.old) (W.contents writer.new) }
     ensures retries { SpendsRetries result retries.old retries.new }
