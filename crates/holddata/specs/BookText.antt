@@ -8,7 +8,7 @@ use Rattle.holddata.specs.HoldKey.{kind_name}
 use Rattle.holddata.specs.Date.{date_digits}
 use Rattle.columns.specs.Columns.{text_of as text_in}
 
--- where each column begins, and its heading
+-- the column at which each field begins, and its heading
 abbrev pub hold_columns : List (ℕ × List ℕ)
 hold_columns =
     (1, codes "SYSMOD") ∷ (10, codes "KIND") ∷ (18, codes "REASON") ∷ (27, codes "FMID") ∷ (36, codes "CLASS")
@@ -26,7 +26,7 @@ abbrev pub category_field : List (List ℕ) → List ℕ
 category_field [] = codes "-"
 category_field (category ∷ categories) = join_with_byte 44 (category ∷ categories)
 
--- what stands in the columns for a hold
+-- the fields of a hold's row
 abbrev pub hold_fields : Hold → List (List ℕ)
 hold_fields hold =
     text_of hold.key.sysmod ∷ kind_name hold.key.kind ∷ text_of hold.key.reason ∷ id_field hold.fmid ∷ id_field hold.class

@@ -24,7 +24,7 @@ with_each kept texts = fold (insert_key (slice_cmp nat_cmp)) kept texts
 abbrev pub in_order : List (List ℕ) → List (List ℕ)
 in_order texts = with_each [] texts
 
--- what that means: the list ascends and has the same texts
+-- the list ascends and has the same texts
 pub record IsInOrder (texts kept : List (List ℕ)) : Type 0 where
   pub ascending : IsTrue (ascends kept)
   pub same : (text : List ℕ) → list_any (bytes_eq text) kept ≡ list_any (bytes_eq text) texts

@@ -1,4 +1,5 @@
--- No part of what is promised: private contracts cite it. What the code keeps of what operands give.
+-- No part of what is promised: private contracts cite it. What the code keeps of the values of
+-- operands.
 use Rattle.std.specs.Prelude.{◌≡◌, ℕ, ◌≤◌, false, List, [], ◌∷◌, length, codes, Some, None}
 use Rattle.std.specs.Borrow.{Bor}
 use Rattle.holddata.specs.declared.key.Kind.{Kind}

@@ -1,4 +1,4 @@
--- What a statement does to the holds, and what a list of such changes leaves.
+-- The change that a statement makes of the holds, and what a list of such changes leaves.
 use Rattle.std.specs.Prelude.{◌≡◌, Bool, List, Option, Some, None, find, reverse, option_and_then}
 use Rattle.std.specs.List.{filter}
 use Rattle.holddata.specs.declared.key.HoldKey.{HoldKey}
@@ -21,10 +21,10 @@ hold_put (Release key) = None
 abbrev pub names : HoldKey → HoldChange → Bool
 names key change = is_same_key (key_of change) key
 
--- the hold that a list of changes leaves under a key: what the last change that names the key puts
+-- the hold that a list of changes leaves under a key: the one that the last change of that key puts
 abbrev pub hold_left : List HoldChange → HoldKey → Option Hold
 hold_left changes key = option_and_then hold_put (find (names key) (reverse changes))
 
--- Serves private contracts alone: the same changes in another order, in which those that name one key stand as they did
+-- Serves private contracts alone: the same changes in another order; those that name one key keep theirs
 abbrev pub IsRearranged : List HoldChange → List HoldChange → Type 0
 IsRearranged changes others = (key : HoldKey) → filter (names key) others ≡ filter (names key) changes

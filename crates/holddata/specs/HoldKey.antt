@@ -1,4 +1,4 @@
--- What a hold is known by: the SYSMOD, the kind of hold and the reason.
+-- The key that identifies a hold: the SYSMOD, the kind of hold and the reason.
 use Rattle.std.specs.Prelude.{ℕ, ◌==◌, ◌&&◌, Bool, List, codes, bytes_eq}
 use Rattle.std.specs.declared.cmp.Ordering.{Ordering}
 use Rattle.std.specs.Ordering.{nat_cmp, ordering_then}

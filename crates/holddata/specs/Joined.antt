@@ -5,7 +5,7 @@ use Rattle.std.specs.List.{slice_split}
 abbrev pub is_comma : ℕ → Bool
 is_comma b = b == 44
 
--- what stands between the commas; nothing in an empty text
+-- the parts between the commas; none of an empty text
 abbrev pub between_commas : List ℕ → List (List ℕ)
 between_commas [] = []
 between_commas (b ∷ bytes) = slice_split is_comma (b ∷ bytes)

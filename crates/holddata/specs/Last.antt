@@ -1,4 +1,4 @@
--- No part of what is promised: private contracts cite it. What stands in print of changes in the order of their keys.
+-- No part of what is promised: private contracts cite it. The print of changes in the order of their keys.
 use Rattle.std.specs.Prelude.{◌≡◌, ◌⊎◌, Bool, false, List, [], ◌∷◌, Option, None, if◌then◌else◌}
 use Rattle.std.specs.List.{cons_option}
 use Rattle.std.specs.declared.cmp.Ordering.TheVariants.{Less}

@@ -1,4 +1,4 @@
--- What the operands of a statement say of a hold.
+-- The operands of a statement that say something of a hold.
 use Rattle.std.specs.Prelude.{ℕ, ◌&&◌, ◌||◌, not, Bool, true, false, List, [], ◌∷◌, codes, Option, Some, None, is_none, if◌then◌else◌}
 use Rattle.std.specs.List.{list_all, filter_map, flat_map}
 use Rattle.std.specs.Str.{str_eq_ignore_ascii_case}

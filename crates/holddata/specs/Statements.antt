@@ -1,4 +1,4 @@
--- What statements do to the holds, and the faults that they may have (IBM z/OS SMP/E Reference, `++HOLD` and
+-- The changes that statements make of the holds, and the faults that they may have (IBM z/OS SMP/E Reference, `++HOLD` and
 -- `++RELEASE`).
 use Rattle.std.specs.Prelude.{◌&&◌, ◌++◌, ℕ, not, Bool, List, [], ◌∷◌, codes, Option, Some, None, is_none, option_and_then, if◌then◌else◌}
 use Rattle.std.specs.Option.{option_map}
@@ -42,8 +42,8 @@ hold_of statement =
       categories = in_order (given statement (codes "CATEGORY"));
     }) (key_named statement)
 
--- what a statement does to the holds: HOLD puts one, RELEASE takes one away whatever its FMID is, and the other
--- verbs do nothing to them
+-- the change that a statement makes of the holds: HOLD puts one, RELEASE takes one away whatever its FMID is, and the other
+-- verbs make none
 abbrev pub change_by : Verb → Statement → Option HoldChange
 change_by verb.Hold statement = option_map Put (hold_of statement)
 change_by verb.Release statement = option_map Release (key_named statement)
@@ -106,10 +106,10 @@ abbrev pub first_of : {A : Type 0} → List A → Option A
 first_of [] = None
 first_of (x ∷ xs) = Some x
 
--- the fault of a list of statements: in the first that has one, that with the lowest number
+-- the fault of a list of statements: of the first that has one, the fault with the lowest number
 abbrev pub first_fault : List Statement → Option HoldFault
 first_fault statements = first_of (flat_map faults_of statements)
 
--- what statements do to the holds, if none has a fault
+-- the changes that statements make of the holds, if none has a fault
 abbrev pub changes_of : List Statement → List HoldChange
 changes_of statements = filter_map change_of statements

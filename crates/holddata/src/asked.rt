@@ -1,4 +1,4 @@
-//! Which operands say something of a hold.
+//! The operands that say something of a hold.
 ghost use Rattle.std.specs.Prelude.{◌≡◌, ℕ, List, IsTrue, map};
 ghost use Rattle.mcs_reader.specs.Asking.{asking};
 ghost use Rattle.mcs_reader.specs.Bytes.{bytes_of_each};
@@ -6,7 +6,7 @@ ghost use Rattle.mcs_reader.specs.declared.statement.Statement.{Statement};
 ghost use Rattle.holddata.specs.Asked.{are_among, hold_operands};
 ghost use Rattle.holddata.specs.Statements.{change_of, changes_of, faults_of, first_fault};
 
-// What most statements give stands first.
+// The operands that most statements have stand first.
 const NAMES: [&[u8]; 12] = [
     b"REASON",
     b"FMID",
@@ -22,8 +22,9 @@ const NAMES: [&[u8]; 12] = [
     b"FIXCAT",
 ];
 
-/// The names of the operands of `++HOLD` and `++RELEASE` that say something of a hold. If a statement is read with
-/// these, and maybe with more, it does to the holds what it does with all of its operands, and has the same faults.
+/// The names of the operands of `++HOLD` and `++RELEASE` that say something of a hold. A statement that is read with
+/// these, and maybe with more, makes the same change and has the same faults as one that is read with all of its
+/// operands.
 pub fn hold_operands() -> &'static [&'static [u8]]
     ensures names { bytes_of_each result.now ≡ hold_operands }
     ensures change { (names : List (List ℕ)) (statement : Statement) →

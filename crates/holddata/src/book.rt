@@ -48,7 +48,7 @@ impl Model for HoldBook {
 }
 
 impl HoldBook {
-    /// A book without holds. It takes no memory.
+    /// A book without holds.
     pub fn new(alloc: Global) -> Self
         ensures { result ≡ [] }
     {
@@ -58,14 +58,14 @@ impl HoldBook {
         }
     }
 
-    /// The hold under a key. It takes no memory.
+    /// The hold under a key.
     pub fn get(&self, key: &HoldKey) -> Option<&Hold>
         ensures { option_copied result ≡ hold_under self.now key.now }
     {
         hold_at(&self.holds, key)
     }
 
-    /// The holds in the order of their keys. It takes no memory.
+    /// The holds in the order of their keys.
     pub fn iter(&self) -> Values<'_, SortKey, Hold>
         ensures holds { result ≡ self.now }
         ensures runs { ShowsInOrder (deref {X = Hold}) }
@@ -89,7 +89,7 @@ impl HoldBook {
         Ok(holds)
     }
 
-    /// How many holds there are.
+    /// The number of holds.
     pub fn len(&self) -> usize
         ensures { result ≡ length self.now }
     {
@@ -103,7 +103,7 @@ impl HoldBook {
         self.holds.is_empty()
     }
 
-    /// The same book once more.
+    /// Copies the book.
     ///
     /// # Errors
     ///
@@ -117,12 +117,12 @@ impl HoldBook {
         })
     }
 
-    /// Makes one change. A put replaces the hold of its key whole; a release takes its key away, whatever the FMID, and
-    /// does nothing if there is no such hold.
+    /// Makes one change. A put replaces the whole hold of its key. A release removes the hold of its key, whatever its
+    /// FMID, and does nothing if there is none.
     ///
     /// # Errors
     ///
-    /// Memory ran out, which a release never meets. The book is as it was.
+    /// Memory ran out, which never stops a release. The book is as it was.
     pub fn apply(&mut self, change: HoldChange) -> Result<(), NoMemory>
         ensures changed { OnOk result (IsChanged change self.old self.new) }
         ensures left { OnOk result ((changes : List HoldChange) →
@@ -136,7 +136,7 @@ impl HoldBook {
         make_change(&mut self.holds, change)
     }
 
-    /// Does to the holds what one statement does (see [`change`]).
+    /// Makes the change of one statement, if it makes one (see [`change`]).
     ///
     /// # Errors
     ///
@@ -161,8 +161,8 @@ impl HoldBook {
         Ok(())
     }
 
-    /// The book after more changes, in their order: what [`apply`](HoldBook::apply) makes of it with one after the
-    /// other. They are put in the order of their keys first, so that the book is gone through once.
+    /// Makes more changes, in their order, as [`apply`](HoldBook::apply) makes one after the other. It puts them in the
+    /// order of their keys first, and so goes through the book once.
     ///
     /// # Errors
     ///
@@ -182,8 +182,8 @@ impl HoldBook {
         Ok(book)
     }
 
-    /// The book in print: a heading, a row for each hold in the order of the keys, and their count.
-    /// Each line ends with LF. A field that is absent is `-`.
+    /// Prints the book: a heading, a row for each hold in the order of the keys, and their count. Each line ends with
+    /// LF. A field that is absent is `-`.
     ///
     /// # Errors
     ///
@@ -199,8 +199,8 @@ impl HoldBook {
     }
 }
 
-/// The book that the changes leave: under each key what the last change that names the key puts, and nothing if that is
-/// a release or if none names it.
+/// Makes the book that changes leave. Under each key it has the hold that the last change of that key puts, and none if
+/// that is a release or no change names the key.
 ///
 /// # Errors
 ///

@@ -35,7 +35,7 @@ impl Model for Categories {
 }
 
 impl Categories {
-    /// No categories. It takes no memory.
+    /// No categories.
     pub fn new(alloc: Global) -> Self
         ensures { result ≡ [] }
     {
@@ -44,7 +44,7 @@ impl Categories {
         }
     }
 
-    /// These categories, or `None` if one is none or they don't ascend.
+    /// These categories, or `None` if one isn't a category or they don't ascend.
     ///
     /// # Errors
     ///
@@ -100,7 +100,7 @@ impl Categories {
         self.joined.is_empty()
     }
 
-    /// The categories with commas between. It takes no memory.
+    /// The categories with commas between.
     #[tactic(auto, using(crate::proofs::JoinedFacts::joined_again))]
     pub fn joined(&self) -> &[u8]
         ensures value { result.now ≡ join_with_byte 44 self.now }
@@ -125,7 +125,7 @@ impl Categories {
         split(alloc, self.joined.as_slice())
     }
 
-    /// The same categories once more.
+    /// Copies the categories.
     ///
     /// # Errors
     ///
@@ -139,7 +139,7 @@ impl Categories {
     }
 }
 
-/// The texts with commas between.
+/// Joins texts with commas between.
 ///
 /// # Errors
 ///
@@ -160,7 +160,8 @@ pub fn join_with_commas(alloc: Global, texts: &[&[u8]]) -> Result<Vec<u8>, NoMem
     Ok(joined)
 }
 
-// How many bytes the texts take with commas between. It decides only how much room is taken at once.
+// The number of bytes that the texts take with commas between. It decides only how much room is made at
+// once.
 fn joined_len(first: &[u8], rest: &[&[u8]]) -> usize {
     let mut len = first.len();
     for text in rest {

@@ -7,8 +7,8 @@ use faults::{AnyFault, Fault, NoMemory};
 use std::alloc::AllocFailed;
 use thiserror::Error;
 
-/// Why statements give no hold changes. Lines are numbered from 1, and each line here is the one on
-/// which the statement with the fault begins.
+/// Why statements give no hold changes. Lines are numbered from 1. Each line here is the one on which the statement
+/// with the fault begins.
 #[derive(Clone, Copy, Debug, PartialEq, Eq, Error)]
 pub enum HoldFault {
     /// No operand names a kind of hold.
@@ -37,8 +37,8 @@ pub enum HoldFault {
 impl Fault for HoldFault {
     ghost told = { hold.told };
 
-    /// Its number is from 11 to 17, and its place the line on which the statement with the fault begins. Want of memory
-    /// has none.
+    /// Its number is from 11 to 17, and its place is the line on which the statement with the fault begins. Want of
+    /// memory has none.
     fn told(self) -> AnyFault {
         match self {
             HoldFault::NoKind(line) => AnyFault::at_place(11, line),

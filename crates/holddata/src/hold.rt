@@ -1,4 +1,4 @@
-//! A hold, and what a statement does to the holds.
+//! A hold, and the change that a statement makes of the holds.
 ghost use Rattle.std.specs.Prelude.{◌≡◌, IfOk};
 ghost use Rattle.holddata.specs.HoldChange.{key_of};
 
@@ -10,22 +10,23 @@ use mcs_reader::Id;
 /// The types of the fields keep what the standard asks of a date and of categories.
 #[derive(Debug, Drop)]
 pub struct Hold {
-    /// What the hold is known by.
+    /// The key that identifies the hold.
     pub key: HoldKey,
     /// The function to which the held SYSMOD belongs.
     pub fmid: Option<Id>,
-    /// What the hold means for those who install the SYSMOD, as `PE` or `HIPER`.
+    /// The class, such as `PE` or `HIPER`, which says what the hold means for those who install the
+    /// SYSMOD.
     pub class: Option<Id>,
     /// The SYSMOD that resolves a FIXCAT hold.
     pub resolver: Option<Id>,
-    /// When the hold was put.
+    /// The date on which the hold was put.
     pub dated: Option<Date>,
     /// The categories of the fix that the SYSMOD lacks.
     pub categories: Categories,
 }
 
 impl Hold {
-    /// The same hold once more.
+    /// Copies the hold.
     ///
     /// # Errors
     ///
@@ -54,7 +55,7 @@ impl Clone for Hold {
     }
 }
 
-/// What one statement does to the holds.
+/// The change that one statement makes of the holds.
 #[derive(Debug, Drop)]
 pub enum HoldChange {
     /// The hold is there from now on, in place of one with the same key.
@@ -74,7 +75,7 @@ impl HoldChange {
         }
     }
 
-    /// The same change once more.
+    /// Copies the change.
     ///
     /// # Errors
     ///

@@ -1,4 +1,4 @@
-//! What a hold is known by.
+//! The key that identifies a hold.
 ghost use Rattle.std.specs.Prelude.{◌≡◌};
 ghost use Rattle.holddata.specs.HoldKey.{key_cmp, kind_name, kind_order};
 
@@ -44,18 +44,18 @@ impl Kind {
     }
 }
 
-/// What a hold is known by. A book has its holds in the order of SYSMOD, kind and reason.
+/// The key that identifies a hold. A book has its holds in the order of SYSMOD, kind and reason.
 #[derive(Clone, Copy, Debug, PartialEq, Eq, Hash)]
 pub struct HoldKey {
     /// The SYSMOD that is held.
     pub sysmod: Id,
-    /// What kind of hold it is.
+    /// The kind of the hold.
     pub kind: Kind,
-    /// Why: of an ERROR or FIXCAT hold the APAR, of the others a word.
+    /// The reason: of an ERROR or FIXCAT hold the APAR, of the others a word.
     pub reason: Id,
 }
 
-/// How a key stands to another in the order of a book: by SYSMOD, then by kind, then by reason. It takes no memory.
+/// Compares two keys in the order of a book: by SYSMOD, then by kind, then by reason.
 pub fn key_cmp(a: &HoldKey, b: &HoldKey) -> Ordering
     ensures { result ≡ key_cmp a.now b.now }
 {

@@ -10,8 +10,8 @@ use crate::book::sort_by_key;
 use crate::print::{hold_table, push_hold};
 use crate::{Hold, HoldChange, HoldKey, NoMemory};
 
-/// The book that changes leave, in print: the [`text`](crate::HoldBook::text) of [`book_left`](crate::book_left). The
-/// changes are put in the order of their keys, and no book is made.
+/// Prints the book that changes leave: the [`text`](crate::HoldBook::text) of [`book_left`](crate::book_left). It
+/// puts the changes in the order of their keys, and makes no book.
 ///
 /// # Errors
 ///

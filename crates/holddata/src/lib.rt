@@ -3,16 +3,16 @@
 //!
 //! - [`change`]: the [`HoldChange`] that a statement makes, if it makes one, or its [`HoldFault`]; [`changes`]: those
 //!   of a list of statements
-//! - [`hold_operands`]: the operands that are read, for those who ask for these alone; [`sole_value`]: the one value
-//!   that operands of one name give
+//! - [`hold_operands`]: the names of the operands that are read; [`sole_value`]: the one value that operands of one
+//!   name give
 //! - [`HoldBook`]: takes changes one by one or many at a time, and gives its holds by key, by SYSMOD, in key order,
 //!   and as text; [`SortKey`]: its order
 //! - [`book_left`]: the book that a list of changes leaves; [`book_text_left`]: its text
-//! - [`Hold`], [`HoldKey`]: a hold, and what it is known by; [`key_cmp`]: the order of keys; [`Kind`], [`Date`], [`Categories`]: parts of it;
-//!   [`join_with_commas`]: texts with commas between
+//! - [`Hold`], [`HoldKey`]: a hold, and the key that identifies it; [`key_cmp`]: the order of keys; [`Kind`], [`Date`],
+//!   [`Categories`]: parts of it; [`join_with_commas`]: texts with commas between
 //! - [`NoMemory`]: memory ran out
 //!
-//! `specs/` says what each is: begin with its `HoldBook`.
+//! `specs/` defines each of these: begin with its `HoldBook`.
 //!
 //! ```
 //! use holddata::{Kind, book_left, changes};

@@ -17,7 +17,7 @@ use std::collections::btree_map::Range;
 
 pub(crate) type HoldMap = BTreeMap<SortKey, Hold>;
 
-/// The same map once more.
+/// Copies the map.
 pub(crate) fn copy_holds(holds: &HoldMap) -> Result<HoldMap, NoMemory>
     ensures { IfOk result (λ copy. copy.entries ≡ holds.now.entries) }
 {

@@ -1,4 +1,4 @@
-//! What the operands of a statement say of a hold.
+//! The operands of a statement that say something of a hold.
 ghost use Rattle.std.specs.Prelude.{◌≡◌, ◌++◌, ◌∷◌, [], ℕ, List, option_map};
 ghost use Rattle.std.specs.Option.{option_to_list};
 ghost use Rattle.std.specs.Str.{str_eq_ignore_ascii_case};
@@ -13,7 +13,7 @@ ghost use Rattle.holddata.specs.declared.key.Kind.{Kind};
 use crate::Kind;
 use mcs_reader::Operand;
 
-/// What operands give, taken together.
+/// The values that operands give, taken together.
 #[derive(Clone, Copy)]
 pub(crate) enum Given<T> {
     Nothing,
@@ -21,7 +21,7 @@ pub(crate) enum Given<T> {
     Several,
 }
 
-/// What the operands of a statement give, by their names.
+/// The values that the operands of a statement give, by their names.
 #[derive(Clone, Copy)]
 pub(crate) struct Gathered<'a> {
     pub(crate) kinds: Given<Kind>,
@@ -33,7 +33,7 @@ pub(crate) struct Gathered<'a> {
     pub(crate) category: Given<&'a [u8]>,
 }
 
-/// What the operands give. They may be many, so they are gone through once.
+/// Gathers the values of operands. They may be many, so it goes through them once.
 #[tactic(auto, using(crate::proofs::OperandFacts::gathered_more))]
 pub(crate) fn given_by_operands<'a>(operands: &[Operand<'a>]) -> Gathered<'a>
     ensures { IsGathered result (operand_texts operands.now) }
@@ -53,8 +53,7 @@ pub(crate) fn given_by_operands<'a>(operands: &[Operand<'a>]) -> Gathered<'a>
     given
 }
 
-/// The one value that the operands of this name give together, or `None` if they give none or several. It takes no
-/// memory.
+/// The one value that the operands of this name give together, or `None` if they give none or several.
 #[tactic(auto, using(crate::proofs::OperandFacts::shown_more))]
 pub fn sole_value<'a>(operands: &[Operand<'a>], name: &[u8]) -> Option<&'a [u8]>
     ensures { option_map (λ value. value.now) result
@@ -70,7 +69,7 @@ pub fn sole_value<'a>(operands: &[Operand<'a>], name: &[u8]) -> Option<&'a [u8]>
     }
 }
 
-// Puts what one more operand gives after what was given.
+// Adds the values of one more operand.
 fn gather<'a>(given: &mut Gathered<'a>, operand: &Operand<'a>)
     ensures { (seen : List OperandText) → IsGathered given.old seen →
         IsGathered given.new (seen ++ operand_text operand.now ∷ []) }

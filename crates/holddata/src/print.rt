@@ -13,7 +13,7 @@ use columns::{Column, Table};
 use mcs_reader::Id;
 use std::alloc::Global;
 
-// Where each column begins, and its name.
+// The column at which each field begins, and its name.
 const COLUMNS: [Column; 8] = [
     Column {
         start: 1,
@@ -49,7 +49,7 @@ const COLUMNS: [Column; 8] = [
     },
 ];
 
-// What stands for an absent field.
+// The text for an absent field.
 const ABSENT: &[u8] = b"-";
 
 /// A table for holds.
@@ -59,7 +59,7 @@ pub(crate) fn hold_table(alloc: Global) -> Result<Table<'static>, NoMemory>
     Table::new(alloc, &COLUMNS, None)
 }
 
-/// Puts the row of a hold under those of others.
+/// Adds the row of a hold.
 pub(crate) fn push_hold(table: &mut Table, hold: &Hold) -> Result<(), NoMemory>
     ensures { (holds : List Hold) → table.old ≡ table_with hold_columns None (map hold_fields holds) →
         OnOk result (table.new ≡ table_with hold_columns None (map hold_fields (holds ++ hold.now ∷ []))) }
@@ -69,7 +69,7 @@ pub(crate) fn push_hold(table: &mut Table, hold: &Hold) -> Result<(), NoMemory>
     table.push(&fields)
 }
 
-// What stands in the columns.
+// The fields of a hold's row.
 fn fields_of<'a>(hold: &'a Hold, date: &'a [u8]) -> [&'a [u8]; 8]
     ensures { date.now ≡ date_field hold.now.dated → bytes_of_each result ≡ hold_fields hold.now }
 {
@@ -109,7 +109,7 @@ fn date_field(digits: &Option<[u8; 5]>) -> &[u8]
     }
 }
 
-// The categories with commas between, or what stands for none.
+// The categories with commas between, or `-` if there are none.
 fn category_field(categories: &Categories) -> &[u8]
     ensures { result.now ≡ category_field categories.now }
 {

@@ -20,7 +20,7 @@ use crate::{Categories, Date, Hold, HoldChange, HoldFault, HoldKey, Kind};
 use mcs_reader::{Id, Operand, Statement, Verb, is_category};
 use std::alloc::Global;
 
-/// What the statements do to the holds, in order (IBM z/OS SMP/E Reference, `++HOLD`, `++RELEASE`).
+/// The changes that statements make of the holds, in order (IBM z/OS SMP/E Reference, `++HOLD`, `++RELEASE`).
 ///
 /// # Errors
 ///
@@ -46,7 +46,7 @@ pub fn changes(alloc: Global, statements: &[Statement]) -> Result<Vec<HoldChange
     Ok(changes)
 }
 
-/// What one statement does to the holds, or `None` if it does nothing to them.
+/// The change that one statement makes of the holds, or `None` if it makes none.
 ///
 /// # Errors
 ///
@@ -92,8 +92,8 @@ fn hold_by(alloc: Global, statement: &Statement) -> Result<Hold, HoldFault>
     })
 }
 
-// The key of the hold that a `++RELEASE` statement takes away. The FMID plays no role in that, but has to be an id if
-// it is given.
+// The key of the hold that a `++RELEASE` statement takes away. Its FMID doesn't matter, but has to be an id if it is
+// given.
 #[tactic(auto, using(crate::proofs::StatementFacts::first_of_longer))]
 fn key_of_release(statement: &Statement) -> Result<HoldKey, HoldFault>
     requires { statement.now.verb ≡ verb.Release }
@@ -107,7 +107,7 @@ fn key_of_release(statement: &Statement) -> Result<HoldKey, HoldFault>
     Ok(key)
 }
 
-// The categories that operands give, in ascending order, each once. Only several have to be put in order.
+// The categories that operands give, in ascending order, each once. Only two or more have to be put in order.
 fn categories_in(
     alloc: Global,
     line: u32,
@@ -159,7 +159,7 @@ fn several_categories(
     put_in_order(alloc, line, values.as_slice())
 }
 
-// Categories in ascending order, each once. Most come so.
+// Categories in ascending order, each once. Most are in order already.
 #[tactic(auto, using(crate::proofs::CategoryFacts::in_order_allowed, crate::proofs::CategoryFacts::in_order_already, crate::proofs::CategoryFacts::all_allowed))]
 fn put_in_order(alloc: Global, line: u32, values: &[&[u8]]) -> Result<Categories, HoldFault>
     ensures categories { IfOk result (λ categories. categories ≡ in_order (bytes_of_each values.now)) }

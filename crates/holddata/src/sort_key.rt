@@ -5,8 +5,8 @@ ghost use Rattle.holddata.specs.SortKey.{rank_of, sort_key_of, before_all, after
 use crate::{HoldKey, Kind};
 use mcs_reader::Id;
 
-/// Where a hold stands in a [`HoldBook`](crate::HoldBook): in the order of the keys. Callers meet this type in
-/// the name of the book's iterator alone.
+/// The place of a hold in a [`HoldBook`](crate::HoldBook), in the order of the keys. Callers meet this type
+/// only in the name of the book's iterator.
 #[derive(Clone, Copy, Debug, PartialEq, Eq, PartialOrd, Ord)]
 pub struct SortKey {
     sysmod: Id,

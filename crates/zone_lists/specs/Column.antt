@@ -8,7 +8,7 @@ use Rattle.zone_lists.specs.Lists.{ListKind, Numbered, never}
 use Rattle.zone_lists.specs.declared.fault.ListFault.{ListFault}
 use Rattle.zone_lists.specs.declared.fault.ListFault.TheVariants.{BadRecord}
 
--- what a record stands for, by what its field is read as
+-- the entry that a record stands for, by its field
 abbrev pub column_field : (List ℕ → Result (List ℕ) Numbered) → Option (List ℕ) → Result (List ℕ) Numbered
 column_field read None = Err BadRecord
 column_field read (Some field) = read field
@@ -23,7 +23,7 @@ column_list header limit read = record {
   contradicts = never;
 }
 
--- each thing that is wrong with a record of such a list by itself: its field is bad, or it has not one field
+-- each fault of a record of such a list by itself: its field is bad, or it has not one field
 abbrev pub IsColumnFault : Numbered → (List ℕ → Type 0) → ℕ → Record → ListFault → Type 0
 IsColumnFault bad IsBad n (field ∷ []) fault = (fault ≡ bad n) × IsBad (trimmed field)
 IsColumnFault bad IsBad n [] fault = fault ≡ BadRecord n

@@ -2,7 +2,7 @@
 use Rattle.std.specs.Prelude.{ℕ, ◌-◌, ◌==◌, ◌||◌, Bool, List, [], ◌∷◌, length, take, drop, Option, Some, None}
 use Rattle.std.specs.List.{prefix_len, suffix_len}
 
--- what a record is read as: its fields
+-- the fields of a record
 abbrev pub Record : Type 0
 Record = List (List ℕ)
 

@@ -1,11 +1,11 @@
--- Why a list is refused: the first record that has a fault, and of its faults the one that goes before all others.
+-- Why a list is refused: the first record that has a fault, and of its faults the first in their order.
 use Rattle.std.specs.Prelude.{◌≡◌, ◌⊎◌, ◌≤◌, ℕ, ◌+◌, Bool, true, false, List, [], ◌∷◌, ◌++◌, length}
 use Rattle.zone_lists.specs.Fields.{Record}
 use Rattle.zone_lists.specs.Lists.{Contradicts, ListKind}
 use Rattle.zone_lists.specs.declared.fault.ListFault.{ListFault}
 use Rattle.zone_lists.specs.declared.fault.ListFault.TheVariants.{Header, BadRecord, BadId, BadState, BadPattern, Repeated, TooMany, Memory}
 
--- which of the faults of one record is told: the one that comes first here
+-- the order of the faults of one record: the first one is told
 abbrev pub turn : ListFault → ℕ
 turn Header = 0
 turn TooMany = 1
@@ -16,9 +16,9 @@ turn (BadPattern n) = 5
 turn (Repeated n) = 6
 turn Memory = 7
 
--- a kind of list, and each thing that may be wrong with a record by itself
+-- a kind of list, and each fault that a record may have by itself
 module _ {Entry : Type 0} (kind : ListKind Entry) (IsOwnFault : ℕ → Record → ListFault → Type 0) where
-  -- a fault of a record that stands after these, be it told or not
+  -- a fault of a record that stands after these, told or not
   abbrev pub IsFaultAfter : List Record → Record → ListFault → Type 0
   IsFaultAfter earlier fields fault =
       ((fault ≡ TooMany) × (kind.limit ≤ length earlier))

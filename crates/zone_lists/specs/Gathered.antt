@@ -1,4 +1,4 @@
--- No part of what is promised: private contracts cite it. What is kept of a list's entries while it is read.
+-- No part of what is promised: private contracts cite it. The entries of a list that were read so far.
 use Rattle.std.specs.Prelude.{◌≡◌, ℕ, Bool, false, not, List, map, Option, Some, None}
 use Rattle.std.specs.BTreeMap.{is_at}
 use Rattle.std.specs.Cmp.Lexicographic.{slice_cmp}
@@ -14,7 +14,7 @@ use Rattle.zone_lists.specs.declared.zones.ZoneState.{ZoneState}
 abbrev pub row_of : List ℕ × ZoneState → ZoneRow
 row_of entry = record { sysmod = entry.0; state = entry.1 }
 
--- what a map has at an id
+-- the state that a map has at an id
 abbrev pub state_at : List ℕ → List (List ℕ × ZoneState) → Option ZoneState
 state_at id entries = lookup (is_at (slice_cmp nat_cmp id)) entries
 
@@ -23,7 +23,7 @@ abbrev pub has_other_state : ZoneState → Option ZoneState → Bool
 has_other_state state None = false
 has_other_state state (Some before) = not (same_state state before)
 
--- a map has the rows that came, in order, and what a row contradicts is what the map says
+-- a map has the rows that came, in order, and says what a row contradicts
 pub record HasRows (entries : List (List ℕ × ZoneState)) (came : List ZoneRow) : Type 0 where
   pub listed : map row_of entries ≡ in_order zone_list came
   pub agrees : (row : ZoneRow) → list_any (other_state row) came ≡ has_other_state row.state (state_at row.sysmod entries)

@@ -1,4 +1,4 @@
--- What the rows of a zone say of a SYSMOD: that it is listed, and that it is installed.
+-- Whether the rows of a zone list a SYSMOD, and whether it is installed.
 use Rattle.std.specs.Prelude.{ℕ, ◌&&◌, Bool, true, false, List}
 use Rattle.std.specs.List.{list_any}
 use Rattle.std.specs.Str.{bytes_eq}

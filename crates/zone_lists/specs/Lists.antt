@@ -1,4 +1,4 @@
--- How a client's list is read: the entries that its records stand for, or its first fault.
+-- The reading of a client's list: the entries that its records stand for, or its first fault.
 use Rattle.std.specs.Prelude.{◌≡◌, ◌⊎◌, ◌↔◌, ℕ, ◌+◌, Bool, true, false, List, [], ◌∷◌, ◌++◌, length, nat_le, Option, Some, None, Result, Ok, Err, if◌then◌else◌}
 use Rattle.std.specs.List.{Contains, filter_map, fold, list_any}
 use Rattle.std.specs.Option.{option_or}
@@ -22,9 +22,9 @@ Numbered = ℕ → ListFault
 pub record ListKind (Entry : Type 0) : Type 0 where
   -- whether a record is the header
   pub is_header : Record → Bool
-  -- how many records may stand after the header
+  -- the most records that may stand after the header
   pub limit : ℕ
-  -- what a record stands for by itself: an entry, or a fault
+  -- the entry that a record stands for by itself, or its fault
   pub entry : Record → Result Entry Numbered
   -- the order of an answer, in which no two entries tie
   pub order : Entry → Entry → Ordering
@@ -35,7 +35,7 @@ pub record ListKind (Entry : Type 0) : Type 0 where
 abbrev pub never : {Entry : Type 0} → Entry → Entry → Bool
 never entry other = false
 
--- what a record with this number stands for
+-- the entry that a record with this number stands for, or its fault
 abbrev pub at_number : {Entry : Type 0} → ℕ → Result Entry Numbered → Result Entry ListFault
 at_number n (Ok entry) = Ok entry
 at_number n (Err fault) = Err (fault n)

@@ -5,7 +5,7 @@ use Rattle.std.specs.List.{list_any, starts_with}
 use Rattle.std.specs.Str.{bytes_eq}
 use Rattle.mcs_reader.specs.Category.{is_category}
 
--- what stands before the final `*` of a text, if it ends so
+-- the text before a final `*`, if it ends so
 abbrev pub open_stem : List ℕ → Option (List ℕ)
 open_stem text =
     if bytes_eq (drop (length text - 1) text) (0x2A ∷ []) then Some (take (length text - 1) text) else None
@@ -29,7 +29,7 @@ equals category text = bytes_eq (in_small_letters category) (in_small_letters te
 abbrev pub begins_with : List ℕ → List ℕ → Bool
 begins_with category stem = starts_with nat_eq (in_small_letters category) (in_small_letters stem)
 
--- whether a category matches a pattern: it equals it, or begins with what stands before a final `*`
+-- whether a category matches a pattern: it equals it, or begins with the text before a final `*`
 abbrev pub matches_stem : List ℕ → List ℕ → Option (List ℕ) → Bool
 matches_stem pattern category None = equals category pattern
 matches_stem pattern category (Some stem) = begins_with category stem

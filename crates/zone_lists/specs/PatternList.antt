@@ -19,10 +19,10 @@ pattern_field field = column_field pattern_read field
 abbrev pub pattern_list : ListKind (List ℕ)
 pattern_list = column_list (codes "CATEGORY") 64 pattern_read
 
--- each thing that is wrong with a record of such a list by itself
+-- each fault of a record of such a list by itself
 abbrev pub IsPatternFault : ℕ → Record → ListFault → Type 0
 IsPatternFault n fields fault = IsColumnFault BadPattern (λ text. is_pattern text ≡ false) n fields fault
 
--- what a text stands for as such a list: the patterns in order, or its first fault
+-- the reading of a text as such a list: the patterns in order, or its first fault
 abbrev pub patterns_of : List ℕ → Result (List (List ℕ)) ListFault
 patterns_of text = answer pattern_list (records_of text)

@@ -1,4 +1,4 @@
--- No part of what is promised: private contracts cite it. What a reader of `csv` over the bytes of a text has yet to
+-- No part of what is promised: private contracts cite it. The bytes that a reader of `csv` over a text has yet to
 -- read.
 use Rattle.std.specs.Prelude.{◌≡◌, ℕ, ◌+◌, List, [], ◌∷◌, length, Option, Some, None}
 use Rattle.std.specs.Borrow.{Bor}
@@ -8,7 +8,7 @@ use Rattle.csv.specs.declared.reader.Reader.{Reader}
 use Rattle.csv.specs.declared.reader.Trim.TheVariants as trim
 use Rattle.zone_lists.specs.Fields.{Record}
 
--- a reader of a text that is at hand as a whole
+-- a reader of a text that lies in memory as a whole
 abbrev pub TextReader : Type 0
 TextReader = Reader (Bor (List ℕ))
 
@@ -25,7 +25,7 @@ records_in state (Some bytes) = records_from default_config (length bytes + 1) s
 abbrev pub records_left : TextReader → List Record
 records_left reader = records_in (reader_state reader) (bytes_left reader)
 
--- the next read of a reader is of one record, as it stands, in the format of RFC 4180
+-- the next read of a reader reads one record, as it stands, in the format of RFC 4180
 pub record ReadsRecords (reader : TextReader) : Type 0 where
   pub ready : Ready reader
   pub config : reader_config reader ≡ default_config

@@ -23,10 +23,10 @@ received_field field = column_field received_read field
 abbrev pub received_list : ListKind (List ℕ)
 received_list = column_list (codes "SYSMOD") 20000 received_read
 
--- each thing that is wrong with a record of such a list by itself
+-- each fault of a record of such a list by itself
 abbrev pub IsReceivedFault : ℕ → Record → ListFault → Type 0
 IsReceivedFault n fields fault = IsColumnFault BadId (λ text. id_of text ≡ None) n fields fault
 
--- what a text stands for as such a list: the ids in order, or its first fault
+-- the reading of a text as such a list: the ids in order, or its first fault
 abbrev pub received_rows_of : List ℕ → Result (List (List ℕ)) ListFault
 received_rows_of text = answer received_list (records_of text)

@@ -64,7 +64,7 @@ zone_list = record {
   contradicts = other_state;
 }
 
--- each thing that is wrong with a record of a zone's list by itself
+-- each fault of a record of a zone's list by itself
 abbrev pub IsZoneFault : ℕ → Record → ListFault → Type 0
 IsZoneFault n (id ∷ state ∷ []) fault =
     ((fault ≡ BadId n) × (id_of (trimmed id) ≡ None)) ⊎ ((fault ≡ BadState n) × (state_of (trimmed state) ≡ None))
@@ -72,7 +72,7 @@ IsZoneFault n [] fault = fault ≡ BadRecord n
 IsZoneFault n (only ∷ []) fault = fault ≡ BadRecord n
 IsZoneFault n (first ∷ second ∷ third ∷ more) fault = fault ≡ BadRecord n
 
--- what a text stands for as a zone's list: the rows in order, or its first fault
+-- the reading of a text as a zone's list: the rows in order, or its first fault
 abbrev pub zone_rows_of : List ℕ → Result (List ZoneRow) ListFault
 zone_rows_of text = answer zone_list (records_of text)
 

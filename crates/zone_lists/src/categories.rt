@@ -18,17 +18,17 @@ use csv::ByteRecord;
 use std::alloc::Global;
 use std::collections::BTreeSet;
 
-/// How many records a list of patterns may have after its header.
+/// The most records that a list of patterns may have after its header.
 pub const PATTERN_RECORDS: u32 = 64;
 
-/// The patterns of a list of which the header is `CATEGORY` and each record a pattern: ascending
-/// by their bytes, each once.
+/// Reads the patterns of a list whose header is `CATEGORY` and each record a pattern: ascending by their
+/// bytes, each once.
 ///
 /// # Errors
 ///
-/// The first fault of the list, by record, and in a record in this order: `TooMany` at record
-/// [`PATTERN_RECORDS`] + 1, `BadRecord` if it has not one field, `BadPattern`. `Header` comes first of all.
-/// `Memory` may come in place of any answer.
+/// The first fault of the list. Of the faults of one record, the first in this order: `TooMany` at record
+/// [`PATTERN_RECORDS`] + 1, `BadRecord` if it has not one field, `BadPattern`. `Header` comes before all
+/// others. `Memory` may come in place of any answer.
 #[tactic(auto, using(crate::proofs::KeyFacts::each_pattern, crate::proofs::OwnFaultFacts::first_of_patterns))]
 pub fn patterns(alloc: Global, text: &[u8]) -> Result<Vec<Pattern>, ListFault>
     ensures rows { IfOk result (λ patterns. patterns_of text.now ≡ Ok patterns.items) }
@@ -43,7 +43,7 @@ pub fn patterns(alloc: Global, text: &[u8]) -> Result<Vec<Pattern>, ListFault>
     Ok(rows)
 }
 
-// The patterns that were listed so far.
+// The patterns that were read so far.
 #[derive(Drop)]
 struct PatternSet {
     alloc: Global,

@@ -1,4 +1,4 @@
-//! What is wrong with a list.
+//! The faults of a list.
 ghost use Rattle.zone_lists.specs.ListFault as list;
 
 use faults::{AnyFault, Fault, NoMemory};
@@ -37,8 +37,8 @@ pub enum ListFault {
 impl Fault for ListFault {
     ghost told = { list.told };
 
-    /// Its number is from 31 to 38, and its place the number of the record with the fault. A header, a list that is too
-    /// long and want of memory have none.
+    /// Its number is from 31 to 38, and its place is the number of the record with the fault. A header, a list that is
+    /// too long and want of memory have none.
     fn told(self) -> AnyFault {
         match self {
             ListFault::Header => AnyFault::of_input(31),
@@ -53,7 +53,7 @@ impl Fault for ListFault {
     }
 }
 
-// A reader of bytes that lie in memory refuses nothing but to grow.
+// Reading bytes that lie in memory can fail only for want of memory.
 impl From<csv::Error> for ListFault {
     ghost use Rattle.std.specs.Prelude.{◌≡◌};
     ghost use Rattle.zone_lists.specs.declared.fault.ListFault.TheVariants.{Memory};

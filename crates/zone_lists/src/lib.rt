@@ -1,18 +1,19 @@
 //! The lists that a client sends as CSV: the SYSMODs of a zone, the SYSMODs that it has received,
 //! and the fix categories that it asks for.
 //!
-//! A list is read as RFC 4180 has it, by `csv`, after a UTF-8 mark at its very beginning. Spaces
-//! and tabs at both ends of a field are no part of it, also inside quotes. The first record is the
-//! header. The records after it are numbered from 1, and an empty line is no record. An answer
-//! ascends and has each entry once.
+//! A list is read by `csv` as RFC 4180 has it, after a UTF-8 mark at its very beginning. Spaces and
+//! tabs at both ends of a field are no part of it, also inside quotes. The first record is the header.
+//! The records after it are numbered from 1, and an empty line is no record. An answer ascends and has
+//! each entry once.
 //!
 //! - [`zone_rows`]: the SYSMODs of a zone and their states, as [`ZoneRow`] and [`ZoneState`]
 //! - [`received_rows`]: SYSMODs
 //! - [`patterns`]: fix categories, or beginnings of some, as [`Pattern`]
-//! - [`ListFault`]: what is wrong with a list, by its first fault
-//! - [`ZONE_RECORDS`], [`RECEIVED_RECORDS`], [`PATTERN_RECORDS`]: how long a list may be
+//! - [`ListFault`]: the first fault of a list
+//! - [`ZONE_RECORDS`], [`RECEIVED_RECORDS`], [`PATTERN_RECORDS`]: the most records that a list may
+//!   have
 //!
-//! A list of another kind, with columns of its own, is read by the same loop:
+//! The same loop reads a list of another kind, with columns of its own:
 //!
 //! - [`Entries`]: the entries of one kind of list, gathered from its records; [`read_list`] reads them
 //! - [`one_field`], [`two_fields`], [`is_name`], [`are_names`]: the fields of a record

@@ -11,16 +11,16 @@ use std::alloc::Global;
 
 /// The entries of one kind of list, gathered from its records one after another.
 pub trait Entries: Drop {
-    /// What a record stands for.
+    /// The entry that a record stands for.
     type Entry;
 
     /// The kind of list.
     ghost kind: { Spec.ListKind Self.Entry };
 
-    /// These entries, in the order in which they came, were gathered so far.
+    /// These entries were gathered so far, in the order in which they came.
     ghost Has: { Self → List Self.Entry → Type 0 };
 
-    /// How many records a list may have after its header.
+    /// The most records that a list may have after its header.
     fn limit() -> u32
         ensures { result ≡ kind.limit };
 
@@ -36,8 +36,8 @@ pub trait Entries: Drop {
     ///
     /// # Errors
     ///
-    /// What is wrong with the record by itself, told with its number `n`; `Repeated` if its entry
-    /// contradicts an earlier one; `Memory`. After an error what was gathered is of no use.
+    /// The fault of the record by itself, with its number `n`; `Repeated` if its entry contradicts an
+    /// earlier one; `Memory`. After an error what was gathered is of no use.
     fn add(&mut self, row: &ByteRecord, n: u32) -> Result<(), ListFault>
         ensures added { OnOk result ((earlier : List Self.Entry) → Has self.old earlier
             → (entry : Self.Entry) × Spec.StandsAfter kind earlier (fields_of row.now) entry
@@ -47,12 +47,12 @@ pub trait Entries: Drop {
             → Spec.own_fault kind n earlier (kind.entry (fields_of row.now)) ≡ Some fault)) };
 }
 
-/// The entries of a list.
+/// Reads the entries of a list.
 ///
 /// # Errors
 ///
-/// The first fault of the list: `Header`; then by record, and in a record in this order, `TooMany`
-/// past the limit, what is wrong with it by itself, `Repeated`. `Memory` may come in place of any answer.
+/// The first fault of the list: `Header`; then by record, and in a record in this order, `TooMany` past
+/// the limit, its fault by itself, `Repeated`. `Memory` may come in place of any answer.
 pub fn read_list<E: Entries>(alloc: Global, text: &[u8]) -> Result<E, ListFault>
     ensures entries { IfOk result (λ list. (all : List E.Entry) × E.Has list all
         × (Spec.answer E.kind (Spec.records_of text.now) ≡ Ok (Spec.in_order E.kind all))) }

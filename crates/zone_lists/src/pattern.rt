@@ -14,8 +14,8 @@ use std::marker::Model;
 
 /// A fix category, or the beginning of some, perhaps empty, and a final `*`.
 ///
-/// It has 1 to 64 bytes in all, of those that a category may have; `*` stands nowhere but at the end.
-/// Patterns are ordered by their bytes.
+/// It has 1 to 64 bytes in all, each of which a category may have; `*` stands only at the end. Patterns are ordered by
+/// their bytes.
 #[derive(Debug, Drop)]
 pub struct Pattern {
     text: Vec<u8>,
@@ -33,7 +33,7 @@ impl Model for Pattern {
 }
 
 impl Pattern {
-    /// The pattern with this text, or `None` if the text is none.
+    /// The pattern with this text, or `None` if it is none.
     ///
     /// # Errors
     ///
@@ -56,7 +56,7 @@ impl Pattern {
         &self.text
     }
 
-    /// The same pattern once more.
+    /// Copies the pattern.
     ///
     /// # Errors
     ///
@@ -68,8 +68,8 @@ impl Pattern {
         Ok(Pattern { text })
     }
 
-    /// Whether a category is the pattern's or, for a final `*`, begins as the pattern does before
-    /// it; ASCII letters are equal to their other case.
+    /// Whether a category equals the pattern or, if a `*` ends that, begins with what stands before it. ASCII letters
+    /// are equal to their other case.
     pub fn matches(&self, category: &[u8]) -> bool
         ensures { result ≡ Spec.does_match self.now category.now }
     {
@@ -94,7 +94,7 @@ fn has_inner_star(text: &[u8]) -> bool
     inner.contains(&b'*')
 }
 
-// What stands before a final `*`.
+// The text before a final `*`.
 fn open_stem(text: &[u8]) -> Option<&[u8]>
     ensures { option_map (λ stem. stem.now) result ≡ Spec.open_stem text.now }
 {

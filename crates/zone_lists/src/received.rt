@@ -18,17 +18,16 @@ use mcs_reader::Id;
 use std::alloc::Global;
 use std::collections::BTreeSet;
 
-/// How many records a list of received SYSMODs may have after its header.
+/// The most records that a list of received SYSMODs may have after its header.
 pub const RECEIVED_RECORDS: u32 = 20_000;
 
-/// The SYSMODs of a list of which the header is `SYSMOD` and each record an id: ascending, each
-/// once.
+/// Reads the SYSMODs of a list whose header is `SYSMOD` and each record an id: ascending, each once.
 ///
 /// # Errors
 ///
-/// The first fault of the list, by record, and in a record in this order: `TooMany` at record
-/// [`RECEIVED_RECORDS`] + 1, `BadRecord` if it has not one field, `BadId`. `Header` comes first of all. `Memory`
-/// may come in place of any answer.
+/// The first fault of the list. Of the faults of one record, the first in this order: `TooMany` at record
+/// [`RECEIVED_RECORDS`] + 1, `BadRecord` if it has not one field, `BadId`. `Header` comes before all others.
+/// `Memory` may come in place of any answer.
 #[tactic(auto, using(crate::proofs::KeyFacts::each_received, crate::proofs::OwnFaultFacts::first_of_received))]
 pub fn received_rows(alloc: Global, text: &[u8]) -> Result<Vec<Id>, ListFault>
     ensures rows { IfOk result (λ ids. received_rows_of text.now ≡ Ok ids.items) }
@@ -44,7 +43,7 @@ pub fn received_rows(alloc: Global, text: &[u8]) -> Result<Vec<Id>, ListFault>
     Ok(rows)
 }
 
-// The ids that were listed so far.
+// The ids that were read so far.
 #[derive(Drop)]
 struct ReceivedIds {
     ids: BTreeSet<Id>,

@@ -23,10 +23,10 @@ use mcs_reader::Id;
 use std::alloc::Global;
 use std::collections::BTreeMap;
 
-/// How many records a zone's list may have after its header.
+/// The most records that a zone's list may have after its header.
 pub const ZONE_RECORDS: u32 = 40_000;
 
-/// How a SYSMOD stands in a zone.
+/// The state of a SYSMOD in a zone.
 #[derive(Clone, Copy, Debug, PartialEq, Eq, PartialOrd, Ord, Hash)]
 pub enum ZoneState {
     /// Installed in a target zone.
@@ -42,18 +42,18 @@ pub enum ZoneState {
 pub struct ZoneRow {
     /// The SYSMOD, which stands in an answer once.
     pub sysmod: Id,
-    /// What the zone has of it.
+    /// Its state in the zone.
     pub state: ZoneState,
 }
 
-/// The rows of a zone's list, of which the header is `SYSMOD,STATE` and each record an id and
-/// `APPLIED`, `ACCEPTED` or `SUPERSEDED`: ascending by SYSMOD, each once.
+/// Reads the rows of a zone's list. Its header is `SYSMOD,STATE`, and each record an id and `APPLIED`, `ACCEPTED` or
+/// `SUPERSEDED`. The rows ascend by SYSMOD, each once.
 ///
 /// # Errors
 ///
-/// The first fault of the list, by record, and in a record in this order: `TooMany` at record [`ZONE_RECORDS`] + 1,
-/// `BadRecord` if it has not two fields, `BadId`, `BadState`, `Repeated`. `Header` comes first of all. `Memory` may
-/// come in place of any answer.
+/// The first fault of the list. Of the faults of one record, the first in this order: `TooMany` at record
+/// [`ZONE_RECORDS`] + 1, `BadRecord` if it has not two fields, `BadId`, `BadState`, `Repeated`. `Header` comes
+/// before all others. `Memory` may come in place of any answer.
 pub fn zone_rows(alloc: Global, text: &[u8]) -> Result<Vec<ZoneRow>, ListFault>
     ensures rows { IfOk result (λ rows. zone_rows_of text.now ≡ Ok rows.items) }
     ensures fault { IfErr result (IsRefusal ListFault.Memory (λ fault. zone_rows_of text.now ≡ Err fault)) }
@@ -78,7 +78,7 @@ fn rows_of(alloc: Global, states: BTreeMap<Id, ZoneState>) -> Result<Vec<ZoneRow
         .collect(alloc)
 }
 
-// The states of the SYSMODs that were listed so far.
+// The states of the SYSMODs that were read so far.
 #[derive(Drop)]
 struct ZoneStates {
     states: BTreeMap<Id, ZoneState>,
