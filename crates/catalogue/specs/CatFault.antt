@@ -17,7 +17,7 @@ told (IfFmid line) = at_place 28 line
 told (Held fault) = holddata.told fault
 told Memory = of_machine 24
 
--- what a hold's fault is here: want of memory stays that
+-- the fault of a statement by that of its hold; want of memory stays want of memory
 abbrev pub cat_fault_of : HoldFault → CatFault
 cat_fault_of hold.Memory = Memory
 cat_fault_of (hold.NoKind line) = Held (hold.NoKind line)

@@ -1,4 +1,4 @@
--- What a publication consists of.
+-- The changes of a publication.
 use Rattle.std.specs.Prelude.{List, Option, Some, None}
 use Rattle.std.specs.List.{filter_map}
 use Rattle.holddata.specs.declared.hold.HoldChange.{HoldChange}
@@ -11,7 +11,7 @@ abbrev pub record_in : Change → Option Sysmod
 record_in (Whole sysmod) = Some sysmod
 record_in (OfHold hold) = None
 
--- what a change does to the holds, if it does
+-- the change that it makes of the holds, if it makes one
 abbrev pub hold_change_in : Change → Option HoldChange
 hold_change_in (Whole sysmod) = None
 hold_change_in (OfHold hold) = Some hold
@@ -20,6 +20,6 @@ hold_change_in (OfHold hold) = Some hold
 abbrev pub records_in : List Change → List Sysmod
 records_in changes = filter_map record_in changes
 
--- what changes do to the holds, in order
+-- the changes of the holds among changes, in order
 abbrev pub hold_changes_in : List Change → List HoldChange
 hold_changes_in changes = filter_map hold_change_in changes

@@ -1,4 +1,4 @@
--- What is published: the catalogue of SYSMODs and the hold book, as plain data.
+-- The published content, as plain data: the catalogue of SYSMODs and the hold book.
 use Rattle.std.specs.Prelude.{ℕ, ◌==◌, Bool, List, [], map, filter, find, Option, Contains, IsSomeAnd}
 use Rattle.std.specs.List.{list_any}
 use Rattle.holddata.specs.declared.hold.Hold.{Hold}
@@ -22,7 +22,7 @@ nothing = record { sysmods = []; holds = [] }
 abbrev pub ids_in : List Sysmod → List (List ℕ)
 ids_in sysmods = map (λ sysmod. sysmod.id) sysmods
 
--- whether this is the record of an id
+-- whether a record is that of an id
 abbrev pub is_of : List ℕ → Sysmod → Bool
 is_of id sysmod = same_id sysmod.id id
 

@@ -20,7 +20,7 @@ same_id = bytes_eq
 abbrev pub Ascend : List (List ℕ) → Type 0
 Ascend ids = IsStrictlySortedBy id_cmp ids
 
--- more ids put among ids in order, each where it belongs unless it is there
+-- more ids put among ids in order, each in its place unless it is there
 abbrev pub put_among : List (List ℕ) → List (List ℕ) → List (List ℕ)
 put_among ids more = fold (insert_key id_cmp) ids more
 

@@ -9,7 +9,7 @@ use Rattle.catalogue.specs.Content.{Content, IsInOrder, ids_in, sup_names}
 use Rattle.catalogue.specs.Ids.{id_cmp}
 use Rattle.catalogue.specs.View.{IsLawful, IsOpen, View}
 
--- Lists hold what was published always, and fail never; what they hold is in order, and is all that a stop may leave.
+-- Lists always hold what was published, and never fail. They hold it in order, and a stop may leave just that.
 abbrev pub lists_view : View Content Content
 lists_view = record {
   stands = λ content this. content ≡ this;
@@ -41,11 +41,11 @@ lists_in_order content this ordered is_open is = subst IsInOrder is ordered
 abbrev pub IsKeyed : List (List ℕ × Sysmod) → Type 0
 IsKeyed entries = ids_in (values_of entries) ≡ keys_of entries
 
--- what is listed under an id
+-- the ids listed under an id
 abbrev pub listed : Option (Vec (List ℕ)) → List (List ℕ)
 listed None = []
 listed (Some ids) = ids.items
 
--- under each id stand those of the records whose SUP names it, in their order
+-- each id has those of the records whose SUP names it, in their order
 abbrev pub IsIndex : BTreeMap (List ℕ) (Vec (List ℕ)) → List Sysmod → Type 0
 IsIndex index sysmods = (id : List ℕ) → listed (get id_cmp index id) ≡ ids_in (filter (sup_names id) sysmods)

@@ -1,4 +1,5 @@
--- No part of what is promised: private contracts cite it. How the record of a header is kept until the last of its `++VER` and `++IF` is read.
+-- No part of what is promised: private contracts cite it. The record of a header, kept until the last of its `++VER` and
+-- `++IF` statements is read.
 use Rattle.std.specs.Prelude.{Option, option_map}
 use Rattle.catalogue.specs.declared.header.Open.{Open}
 use Rattle.catalogue.specs.declared.sysmod.Sysmod.{Sysmod}

@@ -1,4 +1,4 @@
--- What a publication leaves, and what all publications so far leave.
+-- The content that a publication leaves, and that all publications so far leave.
 use Rattle.std.specs.Prelude.{◌≡◌, ℕ, List, ◌++◌, map, find, reverse, Option, if◌then◌else◌}
 use Rattle.std.specs.List.{filter_map, list_any}
 use Rattle.std.specs.Option.{option_or}
@@ -20,8 +20,8 @@ last_of sysmods id = find (is_of id) (reverse sysmods)
 abbrev pub catalogue_of : List Sysmod → List Sysmod
 catalogue_of sysmods = filter_map (last_of sysmods) (in_order (ids_in sysmods))
 
--- the content after a publication: for each id the last record among the old ones and those that are published,
--- and the book that the old holds and then the changes to them leave
+-- the content after a publication: for each id the last record among the old and the published ones, and the book that the
+-- old holds and then the changes of them leave
 abbrev pub after : Content → List Change → Content
 after content changes = record {
   sysmods = catalogue_of (content.sysmods ++ records_in changes);
@@ -32,8 +32,8 @@ after content changes = record {
 abbrev pub content_of : List Change → Content
 content_of changes = after nothing changes
 
--- The same by id and by key: a record that is published stands in place of the old one, whole; an id that the
--- publication doesn't name keeps its record, and a key that it doesn't name its hold.
+-- The same by id and by key. A published record replaces the whole old one. An id that the publication doesn't name keeps
+-- its record, and a key that it doesn't name keeps its hold.
 pub record IsAfter (old : Content) (changes : List Change) (new : Content) : Type 0 where
   pub in_order : IsInOrder new
   pub records : (id : List ℕ) → record_of new id ≡ option_or (last_of (records_in changes) id) (record_of old id)

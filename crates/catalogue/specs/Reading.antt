@@ -1,4 +1,4 @@
--- What statements publish, and the faults that they may have (IBM z/OS SMP/E Reference, `++FUNCTION`, `++PTF`,
+-- The changes that statements publish, and the faults that they may have (IBM z/OS SMP/E Reference, `++FUNCTION`, `++PTF`,
 -- `++APAR`, `++USERMOD`, `++VER`, `++IF`). Holds and releases are read as HOLDDATA is.
 use Rattle.std.specs.Prelude.{◌≡◌, ℕ, ◌||◌, ◌++◌, not, map, Bool, true, false, List, [], ◌∷◌, codes, Option, Some, None, is_none, is_some, option_map, if◌then◌else◌}
 use Rattle.std.specs.List.{filter_map, flat_map, fold, list_any}
@@ -23,11 +23,11 @@ use Rattle.catalogue.specs.Ids.{in_order, put_among}
 
 -- ---- records
 
--- what a statement is in a source of SYSMODs
+-- the part of a statement in a source of SYSMODs
 pub data Part : Type 0 where
-  -- it begins a SYSMOD
+  -- it begins a SYSMOD: it is a header
   Header : SysmodKind → Part
-  -- it says more of the SYSMOD that was begun
+  -- it says more of the SYSMOD whose header stands before it
   More : Part
   -- it says what that SYSMOD needs if a function is installed
   OnCondition : Part
@@ -77,7 +77,7 @@ ifs_in_front (statement ∷ statements) = ifs_in (part_of statement) statement (
 abbrev pub ids_joined : List ℕ → List Statement → List (List ℕ)
 ids_joined name vers = in_order (flat_map (ids_given name) vers)
 
--- what an `++IF` requires: each id that its REQ gives, if the one function that its FMID gives is installed
+-- the requisites of an `++IF`: each id that its REQ gives, if the one function that its FMID gives is installed
 abbrev pub conds_under : Option (List ℕ) → List (List ℕ) → List CondNeed
 conds_under None needs = []
 conds_under (Some fmid) needs = required_under fmid needs
@@ -85,7 +85,7 @@ conds_under (Some fmid) needs = required_under fmid needs
 abbrev pub conds_given : Statement → List CondNeed
 conds_given statement = conds_under (the_id (holddata.given statement (codes "FMID"))) (in_order (ids_given (codes "REQ") statement))
 
--- what `++IF` statements require, all together, in ascending order, each once
+-- the requisites of `++IF` statements, all together, in ascending order, each once
 abbrev pub conds_joined : List Statement → List CondNeed
 conds_joined ifs = put_conds [] (flat_map conds_given ifs)
 
@@ -101,14 +101,14 @@ record_by kind id vers ifs = record {
   sup = ids_joined (codes "SUP") vers;
 }
 
--- what one statement publishes where it stands, with the `++VER` and `++IF` statements that belong to it
+-- the changes that one statement publishes in its place, with the `++VER` and `++IF` statements that belong to it
 abbrev pub changes_by : Part → Statement → List Statement → List Statement → List Change
 changes_by (Header kind) statement vers ifs = option_to_list (option_map (λ id. Whole (record_by kind id vers ifs)) statement.subject)
 changes_by More statement vers ifs = []
 changes_by OnCondition statement vers ifs = []
 changes_by OnHold statement vers ifs = option_to_list (option_map OfHold (holddata.change_of statement))
 
--- what statements publish, in order, if none has a fault
+-- the changes that statements publish, in order, if none has a fault
 abbrev pub changes_of : List Statement → List Change
 changes_of [] = []
 changes_of (statement ∷ statements) =
@@ -145,11 +145,11 @@ has_function statement = is_some (sole (holddata.given statement (codes "FMID"))
 abbrev pub requires_no_id : Statement → Bool
 requires_no_id statement = gives_no_id statement (codes "FMID") || gives_no_id statement (codes "REQ")
 
--- the faults of an `++IF` behind a header
+-- the faults of an `++IF` after a header
 abbrev pub if_faults : Statement → List CatFault
 if_faults statement = fault_if (not (has_function statement)) (IfFmid statement.line) ++ fault_if (requires_no_id statement) (BadId statement.line)
 
--- the faults of a statement, that first which it is refused by; `begun` is whether a header stands before it
+-- the faults of a statement, first the one for which it is refused; `begun` is whether a header stands before it
 abbrev pub faults_by : Part → Bool → Statement → List CatFault
 faults_by (Header kind) begun statement = fault_if (is_none statement.subject) (BadId statement.line)
 faults_by More begun statement = fault_if (not begun) (VerOutside statement.line) ++ fault_if (has_bad_id statement) (BadId statement.line)
@@ -167,8 +167,8 @@ first_fault begun (statement ∷ statements) =
 
 -- ---- one statement at a time
 
--- what was read so far: what stands before the last header, the record of that header, if there is one, as far as it
--- was read, and what its holds do that stand after it
+-- what was read so far: the changes before the last header, the record of that header, if there is one, as far as it was
+-- read, and the changes of the holds after it
 pub record Begun : Type 0 where
   pub before : List Change
   pub open_record : Option Sysmod
@@ -194,8 +194,8 @@ with_ver ver sysmod = record sysmod {
 abbrev pub with_if : Statement → Sysmod → Sysmod
 with_if condition sysmod = record sysmod { conds = put_conds sysmod.conds (conds_given condition) }
 
--- one more statement is read: a header ends what was read so far, a VER and an IF belong to the open record, a hold
--- stands after
+-- one more statement is read: a header ends what was read so far, a VER and an IF belong to the open record, a hold comes
+-- after
 abbrev pub with_part : Part → Statement → Begun → Begun
 with_part (Header kind) statement begun = record {
   before = changes_in begun;
@@ -209,7 +209,7 @@ with_part OnHold statement begun = record begun { after = begun.after ++ option_
 abbrev pub with_statement : Begun → Statement → Begun
 with_statement begun statement = with_part (part_of statement) statement begun
 
--- of statements without faults a record is open exactly if a header is among them
+-- among statements without faults a record is open exactly if a header is among them
 abbrev pub HeadersOpen : Type 0
 HeadersOpen = (statements : List Statement) → first_fault false statements ≡ None
     → is_some (fold with_statement nothing_begun statements).open_record ≡ list_any (λ statement. is_header (part_of statement)) statements

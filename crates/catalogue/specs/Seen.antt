@@ -1,4 +1,4 @@
--- What is read of one SYSMOD at once.
+-- One SYSMOD as published, read at once.
 use Rattle.std.specs.Prelude.{ℕ, List, Option}
 use Rattle.holddata.specs.declared.hold.Hold.{Hold}
 use Rattle.catalogue.specs.Content.{Content, holds_on, record_of}
@@ -9,6 +9,6 @@ pub record SeenLists : Type 0 where
   pub sysmod : Option Sysmod
   pub holds : List Hold
 
--- what a content has of an id
+-- the record and the holds that a content has of an id
 abbrev pub seen_in : Content → List ℕ → SeenLists
 seen_in content id = record { sysmod = record_of content id; holds = holds_on content id }

@@ -1,4 +1,4 @@
--- What a publication touches: every id of which the record, the direct superseders or the ERROR holds may differ after it.
+-- The ids that a publication touches: those whose record, direct superseders or ERROR holds may differ after it.
 use Rattle.std.specs.Prelude.{◌≡◌, ℕ, List, [], ◌∷◌, ◌++◌, Option, Some, None, Contains}
 use Rattle.std.specs.List.{flat_map}
 use Rattle.holddata.specs.declared.key.Kind.{Kind}
@@ -12,24 +12,25 @@ use Rattle.catalogue.specs.Content.{Content, IsInOrder, error_reasons, record_of
 use Rattle.catalogue.specs.Ids.{in_order}
 use Rattle.catalogue.specs.Publication.{after}
 
--- what SUP of a record names
+-- the ids that SUP of a record names
 abbrev pub sup_of : Option Sysmod → List (List ℕ)
 sup_of None = []
 sup_of (Some sysmod) = sysmod.sup
 
--- a hold change touches the SYSMOD of an ERROR hold, whether it puts or releases it, and none for another kind
+-- a change of an ERROR hold touches its SYSMOD, whether it puts or releases the hold; a change of another kind touches none
 abbrev pub touched_by_key : Kind → HoldKey → List (List ℕ)
 touched_by_key ErrorHold key = key.sysmod ∷ []
 touched_by_key SystemHold key = []
 touched_by_key UserHold key = []
 touched_by_key FixcatHold key = []
 
--- the ids that one change touches: of a SYSMOD itself, what its SUP named before the publication, and what it names now
+-- the ids that one change touches: a SYSMOD itself, the ids that its SUP named before the publication, and those that it
+-- names now
 abbrev pub touched_by : Content → Change → List (List ℕ)
 touched_by content (Whole sysmod) = sysmod.id ∷ (sup_of (record_of content sysmod.id) ++ sysmod.sup)
 touched_by content (OfHold change) = touched_by_key (key_of change).kind (key_of change)
 
--- a publication over a content touches what one of its changes touches
+-- a publication over a content touches the ids that one of its changes touches
 abbrev pub IsTouched : Content → List Change → List ℕ → Type 0
 IsTouched content changes id = Contains (flat_map (touched_by content) changes) id
 
@@ -37,8 +38,8 @@ IsTouched content changes id = Contains (flat_map (touched_by content) changes) 
 abbrev pub touched_ids : Content → List Change → List (List ℕ)
 touched_ids content changes = in_order (flat_map (touched_by content) changes)
 
--- two contents say the same of each id outside a list: its record, what supersedes it, and the reasons of its
--- ERROR holds
+-- two contents say the same of each id outside a list: its record, its direct superseders, and the reasons of its ERROR
+-- holds
 pub record AgreeOutside (ids : List (List ℕ)) (old new : Content) : Type 0 where
   pub records : (id : List ℕ) → (Contains ids id → ⊥) → record_of new id ≡ record_of old id
   pub above : (id : List ℕ) → (Contains ids id → ⊥) → superseders new id ≡ superseders old id

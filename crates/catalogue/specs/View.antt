@@ -1,17 +1,17 @@
--- How a source is looked at, and what every call of one keeps to. A source of the published content is looked at so,
--- a store with all its tables, and the bureau over both.
+-- How contracts look at a source, and what every call of one keeps to. A source of the published content, a store with all
+-- its tables, and the bureau over both are looked at in this way.
 use Rattle.std.specs.Prelude.{◌≡◌, ◌<◌, ◌≤◌, ◌⊎◌, ℕ, Result, IsErrOf}
 use Rattle.std.proofs.Common.{◌∙◌, ap, sym}
 
 -- A source as contracts see it.
 pub record View (Source Held : Type 0) : Type 1 where
-  -- it may be said to hold this; a source that is open holds one thing alone
+  -- it may be said to hold this; an open source holds one thing alone
   pub stands : Source → Held → Type 0
   -- what lies below has returned what was written to it
   pub is_clean : Source → Type 0
   -- what lies below was made by this product
   pub is_ours : Source → Type 0
-  -- how often what lies below has failed
+  -- the number of failures of what lies below
   pub failures : Source → ℕ
   -- a stop at this moment may leave this
   pub may_leave : Source → Held → Type 0
@@ -38,20 +38,21 @@ module _ {Source Held : Type 0} (view : View Source Held) where
   abbrev pub IsOpen : Source → Type 0
   IsOpen source = view.failures source ≡ 0
 
-  -- How a source goes on in a call. What is known of the disk is known afterwards, of all that happened so far; that
-  -- the file is ours stays true; failures are never forgotten, so a source that was closed stays closed.
+  -- How a call takes a source from one state to the next. If the disk was known to be clean before, it is known to be
+  -- afterwards, of all that happened so far. A file that is ours stays ours. Failures are never forgotten, so a closed
+  -- source stays closed.
   pub record Goes (old new : Source) : Type 0 where
     pub clean : view.is_clean new → view.is_clean old
     pub ours : view.is_ours old → view.is_clean new → view.is_ours new
     pub failures_rise : view.failures old ≤ view.failures new
 
-  -- What a read leaves as it was: what is held, and what a stop may leave.
+  -- A read leaves this as it was: what is held, and what a stop may leave.
   pub record Keeps (old new : Source) : Type 0 where
     pub goes : Goes old new
     pub stays : view.is_ours old → view.is_clean new → (this : Held) → view.stands old this → view.stands new this
     pub leaves : view.is_ours old → view.is_clean new → (this : Held) → view.may_leave new this → view.may_leave old this
 
-  -- What a call tells: a fact of what the source holds, if the file was ours and the disk has proved clean.
+  -- The answer of a call is a fact of what the source holds, if the file was ours and the disk has proved clean.
   pub record Tells (old new : Source) (Fact : Held → Type 0) : Type 0 where
     pub told : view.is_ours old → view.is_clean new → (this : Held) → view.stands old this → Fact this
 
@@ -59,28 +60,29 @@ module _ {Source Held : Type 0} (view : View Source Held) where
   abbrev pub HasFailed : Source → Source → Type 0
   HasFailed old new = (view.failures old < view.failures new) ⊎ (view.failures new ≡ most_failures)
 
-  -- What may ask the source leaves what it holds. It answers a fault of the device only if one came, and nothing else closes
-  -- the source.
+  -- A call that may ask the source leaves what it holds. It answers a fault of the device only if one came, and nothing else
+  -- closes the source.
   pub record MayAsk {Answer Fault : Type 0} (device : Fault) (old new : Source) (answer : Result Answer Fault) : Type 0 where
     pub keeps : view.keeps old new
     pub cause : IsErrOf answer device → HasFailed old new
     pub stays_open : (IsErrOf answer device → ⊥) → IsOpen old → IsOpen new
 
-  -- What asks the source does so too, and of a source that is closed it answers nothing but a fault of the device.
+  -- A call that does ask the source keeps to that too, and if the source is closed it answers nothing but a fault of the
+  -- device.
   pub record Asks {Answer Fault : Type 0} (device : Fault) (old new : Source) (answer : Result Answer Fault) : Type 0 where
     pub keeps : view.keeps old new
     pub cause : IsErrOf answer device → HasFailed old new
     pub is_open : (IsErrOf answer device → ⊥) → IsOpen new
 
-  -- What a view means by keeping: to leave what is held. Nothing changes if nothing is called, and what one call keeps and
-  -- then another, both together keep. A source that is open holds one thing.
+  -- A view's `keeps` means: to leave what is held. A call of nothing changes nothing, and two calls that each keep what is
+  -- held keep it together. A source that is open holds one thing.
   pub record IsLawful : Type 0 where
     pub keeps : (old new : Source) → view.keeps old new → Keeps old new
     pub itself : (source : Source) → view.keeps source source
     pub on : (first second third : Source) → view.keeps first second → view.keeps second third → view.keeps first third
     pub one : (source : Source) → IsOpen source → (this other : Held) → view.stands source this → view.stands source other → this ≡ other
 
--- a part of what is held keeps to what the whole keeps to
+-- a part of what is held keeps to the laws of the whole
 pub part_lawful : {Source Whole Part : Type 0} (part : Whole → Part) (view : View Source Whole) → IsLawful view → IsLawful (part_of part view)
 part_lawful part view lawful = record {
   keeps = λ old new kept.

@@ -1,4 +1,4 @@
-//! Which operands say something of what is published.
+//! The operands that say something of what is published.
 ghost use Rattle.std.specs.Prelude.{◌≡◌, ℕ, Bool, List, IsTrue, map};
 ghost use Rattle.mcs_reader.specs.Asking.{asking};
 ghost use Rattle.mcs_reader.specs.Bytes.{bytes_of_each};
@@ -7,7 +7,7 @@ ghost use Rattle.holddata.specs.Asked.{are_among};
 ghost use Rattle.catalogue.specs.Asked.{publication_operands};
 ghost use Rattle.catalogue.specs.Reading.{Begun, changes_of, faults_of, first_fault, with_statement};
 
-// What most statements give stands first.
+// The operands that most statements have stand first.
 const NAMES: [&[u8]; 15] = [
     b"REASON",
     b"FMID",
@@ -27,8 +27,8 @@ const NAMES: [&[u8]; 15] = [
 ];
 
 /// The names of the operands that say something of what is published: those of [`holddata::hold_operands`], of a
-/// `++VER` FMID, PRE, REQ and SUP, and of an `++IF` FMID and REQ. If statements are read with these, and maybe with
-/// more, they publish what they publish with all of their operands, and have the same faults.
+/// `++VER` FMID, PRE, REQ and SUP, and of an `++IF` FMID and REQ. Statements that are read with these, and maybe
+/// with more, publish the same and have the same faults as with all of their operands.
 pub fn publication_operands() -> &'static [&'static [u8]]
     ensures names { bytes_of_each result.now ≡ publication_operands }
     ensures changes { (names : List (List ℕ)) (statements : List Statement) →

@@ -1,4 +1,4 @@
-//! What a publication consists of.
+//! The changes of a publication.
 ghost use Rattle.std.specs.Prelude.{◌≡◌, IfOk};
 
 use crate::{NoMemory, Sysmod};
@@ -14,7 +14,7 @@ pub enum Change {
 }
 
 impl Change {
-    /// The same change once more.
+    /// Copies the change.
     pub fn copy(&self) -> Result<Self, NoMemory>
         ensures { IfOk result (λ copy. copy ≡ self.now) }
     {

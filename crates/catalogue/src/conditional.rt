@@ -14,7 +14,7 @@ use std::marker::Model;
 pub struct CondNeed {
     /// The function on which it depends (operand FMID).
     pub fmid: Id,
-    /// What has to be installed if the function is (operand REQ).
+    /// The SYSMOD that is required if the function is installed (operand REQ).
     pub need: Id,
 }
 
@@ -37,7 +37,7 @@ impl Model for CondNeeds {
 }
 
 impl CondNeeds {
-    /// None. It takes no memory.
+    /// None.
     pub fn new(alloc: Global) -> Self
         ensures { result ≡ [] }
     {
@@ -46,7 +46,7 @@ impl CondNeeds {
         }
     }
 
-    /// Those of a list, or `None` if they don't ascend or one comes twice. It takes no memory.
+    /// The requisites of a list, or `None` if they don't ascend or one comes twice. It takes no memory.
     pub fn from_ascending(conds: Vec<CondNeed>) -> Option<Self>
         ensures conds { IfSome result (λ list. list ≡ conds.items) }
         ensures ascending { (is_some result ≡ true) ↔ CondsAscend conds.items }
@@ -57,7 +57,7 @@ impl CondNeeds {
         Some(CondNeeds { items: conds })
     }
 
-    /// Those of a set.
+    /// The requisites of a set.
     pub(crate) fn from_set(alloc: Global, set: BTreeSet<CondNeed>) -> Result<Self, NoMemory>
         ensures { IfOk result (λ conds. conds ≡ set.keys) }
     {
@@ -66,7 +66,7 @@ impl CondNeeds {
         })
     }
 
-    /// They in ascending order, each once.
+    /// The requisites in ascending order, each once.
     pub fn as_slice(&self) -> &[CondNeed]
         ensures value { result.now ≡ self.now }
         ensures ascends { CondsAscend self.now }
@@ -74,7 +74,7 @@ impl CondNeeds {
         self.items.as_slice()
     }
 
-    /// The same once more.
+    /// Copies them.
     pub fn copy(&self) -> Result<Self, NoMemory>
         ensures { IfOk result (λ copy. copy ≡ self.now) }
     {
@@ -91,7 +91,7 @@ fn ascend(conds: &[CondNeed]) -> bool
     conds.is_sorted_by(|cond, next| cond.cmp(next).is_lt())
 }
 
-// Those of a set in order.
+// The requisites of a set in order.
 fn listed(alloc: Global, conds: BTreeSet<CondNeed>) -> Result<Vec<CondNeed>, NoMemory>
     ensures conds { IfOk result (λ list. list.items ≡ conds.keys) }
     ensures ascend { IfOk result (λ list. CondsAscend list.items) }

@@ -11,8 +11,8 @@ use holddata::HoldFault;
 use std::alloc::AllocFailed;
 use thiserror::Error;
 
-/// Why statements publish nothing. Lines are numbered from 1, and each line here is the one on which
-/// the statement with the fault begins.
+/// Why statements publish nothing. Lines are numbered from 1. Each line here is the one on which the statement with the
+/// fault begins.
 #[derive(Clone, Copy, Debug, PartialEq, Eq, Error)]
 pub enum CatFault {
     /// A `++VER` stands before every header.
@@ -38,8 +38,8 @@ pub enum CatFault {
 impl Fault for CatFault {
     ghost told = { cat_fault.told };
 
-    /// Its number is 21, 22, 24, 27 or 28, and its place the line on which the statement with the fault begins. A hold's
-    /// fault is told as its own. Want of memory has no line.
+    /// Its number is 21, 22, 24, 27 or 28, and its place is the line on which the statement with the fault begins. A
+    /// hold's fault is told as its own. Want of memory has no line.
     fn told(self) -> AnyFault {
         match self {
             CatFault::VerOutside(line) => AnyFault::at_place(21, line),

@@ -1,4 +1,4 @@
-//! A SYSMOD that was begun.
+//! A SYSMOD whose header was read, and not yet all of its statements.
 ghost use Rattle.std.specs.Prelude.{◌≡◌, ◌++◌, [], true, false, IfOk, OnOk, IfErr};
 ghost use Rattle.faults.specs.Refusal.{IsRefusal};
 ghost use Rattle.mcs_reader.specs.Bytes.{bytes_of_each};
@@ -127,7 +127,7 @@ fn ids_named(
     Ok(listed(alloc, ids)?)
 }
 
-// Puts what is required if a function is installed among the others.
+// Adds the requisites that need this function.
 fn put_conds(conds: &mut BTreeSet<CondNeed>, fmid: Id, needs: &[Id]) -> Result<(), NoMemory>
     ensures { OnOk result (conds.new.keys ≡ spec.put_conds conds.old.keys (required_under fmid needs.now)) }
 {
@@ -137,7 +137,7 @@ fn put_conds(conds: &mut BTreeSet<CondNeed>, fmid: Id, needs: &[Id]) -> Result<(
     Ok(())
 }
 
-// Puts the ids that operands of this name give among the others.
+// Adds the ids that operands of this name give.
 fn put_named(
     ids: &mut BTreeSet<Id>,
     line: u32,
@@ -168,7 +168,7 @@ fn values_named<'a, 'b>(operand: &'a Operand<'b>, name: &[u8]) -> &'a [&'b [u8]]
     }
 }
 
-// Puts the ids of values among the others.
+// Adds the ids of values.
 fn put_values(ids: &mut BTreeSet<Id>, line: u32, values: &[&[u8]]) -> Result<(), CatFault>
     ensures ids { OnOk result (ids.new.keys
         ≡ put_among ids.old.keys (filter_map id_of (bytes_of_each values.now))) }

@@ -26,7 +26,7 @@ impl Model for Ids {
 }
 
 impl Ids {
-    /// No ids. It takes no memory.
+    /// No ids.
     pub fn new(alloc: Global) -> Self
         ensures { result ≡ [] }
     {
@@ -63,7 +63,7 @@ impl Ids {
         self.items.as_slice()
     }
 
-    /// Gives the list back. It takes no memory.
+    /// Returns the list.
     pub fn into_vec(self) -> Vec<Id>
         ensures value { result.items ≡ self }
         ensures ascends { Ascend self }
@@ -71,7 +71,7 @@ impl Ids {
         self.items
     }
 
-    /// The same ids once more.
+    /// Copies the ids.
     pub fn copy(&self) -> Result<Self, NoMemory>
         ensures { IfOk result (λ copy. copy ≡ self.now) }
     {

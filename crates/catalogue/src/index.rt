@@ -1,4 +1,4 @@
-//! By whom each SYSMOD is superseded.
+//! The SYSMODs that supersede each SYSMOD.
 ghost use Rattle.std.specs.Prelude.{◌≡◌, ◌++◌, ℕ, [], ◌∷◌, List, IfOk, OnOk, if◌then◌else◌};
 ghost use Rattle.std.specs.BTreeMap.{get, values};
 ghost use Rattle.catalogue.specs.Content.{sup_names};
@@ -10,7 +10,7 @@ use mcs_reader::Id;
 use std::alloc::Global;
 use std::collections::BTreeMap;
 
-/// Under each id the SYSMODs whose SUP names it, ascending.
+/// Each id with the SYSMODs whose SUP names it, ascending.
 pub(crate) type Index = BTreeMap<Id, Vec<Id>>;
 
 /// The index of all records.
@@ -24,7 +24,7 @@ pub(crate) fn index_of(alloc: Global, sysmods: &BTreeMap<Id, Sysmod>) -> Result<
     Ok(index)
 }
 
-/// The ids that stand under an id.
+/// The ids listed under an id.
 pub(crate) fn listed_under(alloc: Global, index: &Index, id: &Id) -> Result<Vec<Id>, NoMemory>
     ensures { IfOk result (λ ids. ids.items ≡ listed (get id_cmp index.now id.now)) }
 {

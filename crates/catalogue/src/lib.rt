@@ -1,18 +1,18 @@
-//! The catalogue: which SYSMODs there are, what of it is published, and what a publication touches.
+//! The catalogue: the SYSMODs that are published, with their holds, and the ids that a publication touches.
 //!
-//! - [`Published`]: what every layer above reads the published content by, whether it is kept in lists or in a file;
-//!   [`SourceFault`]: why it tells nothing
+//! - [`Published`]: how every layer above reads the published content, whether lists or a file keep it;
+//!   [`SourceFault`]: why it doesn't answer
 //! - [`ListPublished`]: the content in lists
-//! - [`Seen`]: what is published of one SYSMOD, its record and the holds on it
+//! - [`Seen`]: one SYSMOD as published: its record and the holds on it
 //! - [`Sysmod`], [`SysmodKind`], [`Ids`], [`CondNeeds`]: a record of the catalogue and its parts
 //! - [`Change`]: a record that is put or a change to the holds; a list of them is a publication
 //! - [`read_changes`]: the changes that statements make, or their [`CatFault`]; [`ChangeReader`]: one statement at a
 //!   time
-//! - [`publication_operands`]: the operands that are read, for those who ask for these alone
+//! - [`publication_operands`]: the names of the operands that are read
 //! - [`touched`]: the ids that a publication touches
 //! - [`NoMemory`]: memory ran out
 //!
-//! `specs/` says what the content is: begin with its `Content`, `Publication` and `Touched`.
+//! `specs/` defines the content: begin with its `Content`, `Publication` and `Touched`.
 //!
 //! ```
 //! use catalogue::{ListPublished, Published, read_changes, touched};

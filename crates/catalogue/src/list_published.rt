@@ -48,7 +48,7 @@ impl Model for ListPublished {
 }
 
 impl ListPublished {
-    /// Nothing is published. It takes no memory.
+    /// Nothing is published.
     pub fn new(alloc: Global) -> Self
         ensures empty { result ≡ nothing }
         ensures in_order { IsInOrder result }
@@ -61,21 +61,21 @@ impl ListPublished {
         }
     }
 
-    /// How many SYSMODs are catalogued. It takes no memory.
+    /// The number of SYSMODs that are catalogued.
     pub fn sysmod_count(&self) -> usize
         ensures { result ≡ length self.now.sysmods }
     {
         self.sysmods.len()
     }
 
-    /// How many holds there are. It takes no memory.
+    /// The number of holds.
     pub fn hold_count(&self) -> usize
         ensures { result ≡ length self.now.holds }
     {
         self.book.len()
     }
 
-    /// The hold book. It takes no memory.
+    /// The hold book.
     pub fn book(&self) -> &HoldBook
         ensures value { result.now ≡ self.now.holds }
         ensures in_order { IsInKeyOrder self.now.holds }
@@ -83,12 +83,12 @@ impl ListPublished {
         &self.book
     }
 
-    /// Makes the changes: for each id its last record stands from now on, whole, and holds are put and
+    /// Makes the changes: the last record of each id replaces the whole record that it had, and holds are put and
     /// released.
     ///
     /// # Errors
     ///
-    /// `NoMemory` if memory ran out: the content is as it was.
+    /// `NoMemory` if memory ran out. The content is as it was.
     pub fn publish(&mut self, changes: &[Change]) -> Result<(), NoMemory>
         ensures after { OnOk result (self.new ≡ after self.old changes.now) }
         ensures is_after { OnOk result (IsAfter self.old changes.now self.new) }
@@ -144,7 +144,7 @@ impl Published for ListPublished {
         ensures ascend { IfOk result (λ ids. Ascend ids.items) }
         ensures memory { IfErr result (λ fault. fault ≡ Memory) }
 
-        // They are those that supersede it, all of them catalogued.
+        // They are the catalogued SYSMODs that supersede it.
         ensures each { (content : Content) (id superseder : List ℕ) → IsInOrder content
             → Contains (superseders content id) superseder ↔ Supersedes content superseder id }
         ensures catalogued { (content : Content) (id superseder : List ℕ)

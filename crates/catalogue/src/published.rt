@@ -1,4 +1,4 @@
-//! Where the published content is read.
+//! Sources of the published content.
 ghost use Rattle.std.specs.Prelude.{◌≡◌, IfOk, map};
 ghost use Rattle.holddata.specs.HoldBook.{IsInKeyOrder};
 ghost use Rattle.catalogue.specs.Content.{Content, IsInOrder, ids_of, record_of, superseders, holds_on};
@@ -14,11 +14,11 @@ use std::alloc::Global;
 
 /// A source of the published content: lists, or a file.
 ///
-/// What is told of the content is told if the file was this product's own as the call began and the disk has
-/// returned what was written, up to the call's end; of lists that is always true. Lists ascend in any case, each
+/// A call promises what it tells only if the file was this product's own as the call began, and if the disk has
+/// returned what was written, up to the call's end. Of lists that is always true. Lists ascend in any case, each
 /// entry once: rows that don't are a fault of the device.
 pub trait Published {
-    /// How the source is looked at, and what is published.
+    /// The view of the source, and what is published.
     ghost content_view: { View Self Content };
 
     /// The ids of all SYSMODs that are catalogued, ascending.
@@ -65,8 +65,8 @@ pub trait Published {
             (λ content. holds.items ≡ holds_on content id.now)) }
         ensures in_key_order { IfOk result (λ holds. IsInKeyOrder holds.items) };
 
-    /// What is published of each of some SYSMODs, in the order of the list. A source that can read many at once does
-    /// so; otherwise one is read after the other.
+    /// Reads what is published of each of some SYSMODs, in the order of the list. A source that can read many at
+    /// once does so; any other reads one after the other.
     ///
     /// # Errors
     ///
@@ -85,10 +85,10 @@ pub trait Published {
         Ok(found)
     }
 
-    /// What the view keeps to.
+    /// The laws of the view.
     ghost lawful: { IsLawful content_view };
 
-    /// In a source that this product made, what is published is in order.
+    /// If this product made the source, what is published is in order.
     ghost in_order: { (source : Self) (content : Content) → content_view.is_ours source →
         IsOpen content_view source → content_view.stands source content → IsInOrder content };
 }

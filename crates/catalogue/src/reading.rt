@@ -14,16 +14,16 @@ use mcs_reader::{Statement, Verb};
 use std::alloc::Global;
 use std::marker::Model;
 
-/// What statements publish, in order (IBM z/OS SMP/E Reference, `++FUNCTION`, `++PTF`, `++APAR`, `++USERMOD`,
-/// `++VER`, `++IF`): a header gives one record where it stands, with the lists of all `++VER` and `++IF` statements up to
-/// the next header joined; holds and releases stand where they stand.
+/// Reads what statements publish, in order (IBM z/OS SMP/E Reference, `++FUNCTION`, `++PTF`, `++APAR`, `++USERMOD`,
+/// `++VER`, `++IF`). Each header gives one record in its place, with the joined lists of all `++VER` and `++IF`
+/// statements up to the next header. Holds and releases keep their places.
 ///
 /// # Errors
 ///
-/// The first statement with a fault decides, and in it the fault that stands first here: `VerOutside` if no header
-/// stands before a `++VER`, `IfOutside` if none stands before an `++IF`, `IfFmid` if an `++IF` has not just one value
-/// of FMID, `BadId` if FMID, PRE, REQ or SUP has a value that is no id, `Held` for a fault of a hold or a release.
-/// `Memory` may come in place of any answer.
+/// The first statement with a fault decides. Of its faults the first of these is told: `VerOutside` if no header stands
+/// before a `++VER`, `IfOutside` if none stands before an `++IF`, `IfFmid` if an `++IF` has not just one value of FMID,
+/// `BadId` if FMID, PRE, REQ or SUP has a value that is no id, `Held` for a fault of a hold or a release. `Memory` may
+/// come in place of any answer.
 pub fn read_changes(alloc: Global, statements: &[Statement]) -> Result<Vec<Change>, CatFault>
     ensures changes { IfOk result (λ changes. changes.items ≡ changes_of statements.now) }
     ensures no_fault { OnOk result (first_fault false statements.now ≡ None) }
@@ -36,8 +36,8 @@ pub fn read_changes(alloc: Global, statements: &[Statement]) -> Result<Vec<Chang
     Ok(reader.finish()?)
 }
 
-/// Changes of statements that are taken one at a time, of which none is kept. A contract sees what was read
-/// so far.
+/// Reads changes from statements that it takes one at a time; it keeps no statement. A contract sees what was read so
+/// far.
 #[derive(Drop)]
 pub struct ChangeReader {
     alloc: Global,
@@ -60,7 +60,7 @@ impl Model for ChangeReader {
 }
 
 impl ChangeReader {
-    /// Nothing was read. It takes no memory.
+    /// Nothing was read.
     pub fn new(alloc: Global) -> Self
         ensures { result ≡ nothing_begun }
     {
@@ -94,7 +94,7 @@ impl ChangeReader {
         }
     }
 
-    /// The changes of all statements that were taken.
+    /// Returns the changes of all statements that were taken.
     ///
     /// # Errors
     ///
@@ -162,7 +162,7 @@ impl ChangeReader {
         })
     }
 
-    // A hold or a release stands after what was read.
+    // A hold or a release comes after what was read.
     fn hold(self, statement: &Statement) -> Result<Self, CatFault>
         ensures read { IfOk result (λ now. now ≡ with_part OnHold statement.now self) }
         ensures no_fault { OnOk result (faults_by OnHold (is_some self.open_record) statement.now ≡ []) }
@@ -182,7 +182,7 @@ impl ChangeReader {
     }
 }
 
-// All changes that were read, the open record where its header stands.
+// All changes that were read, with the open record in the place of its header.
 fn closed(
     alloc: Global,
     before: Vec<Change>,

@@ -1,10 +1,10 @@
-//! What is read of one SYSMOD at once.
+//! One SYSMOD as published, read at once.
 
 use crate::Sysmod;
 use holddata::Hold;
 use std::marker::Model;
 
-/// What is published of one SYSMOD. A contract sees it with its lists.
+/// One SYSMOD as published. A contract sees it with its lists.
 #[derive(Debug, Drop)]
 pub struct Seen {
     /// Its record, or `None` if it isn't catalogued.

@@ -4,8 +4,8 @@ ghost use Rattle.std.specs.Prelude.{◌≡◌, IfOk};
 use crate::{CondNeeds, Ids, NoMemory};
 use mcs_reader::Id;
 
-/// What a SYSMOD is: the verb of its header (IBM z/OS SMP/E Reference, `++FUNCTION`, `++PTF`, `++APAR`,
-/// `++USERMOD`).
+/// The kind of a SYSMOD: the verb of its header (IBM z/OS SMP/E Reference, `++FUNCTION`, `++PTF`,
+/// `++APAR`, `++USERMOD`).
 #[derive(Clone, Copy, Debug, PartialEq, Eq, PartialOrd, Ord, Hash)]
 pub enum SysmodKind {
     /// `++FUNCTION`: a product, or a part of one.
@@ -18,29 +18,29 @@ pub enum SysmodKind {
     Usermod,
 }
 
-/// What is published of a SYSMOD: what its header and all its `++VER` and `++IF` statements say together.
+/// The record of a SYSMOD: what its header and all its `++VER` and `++IF` statements say together.
 ///
-/// The lists ascend, each id once, by their type.
+/// The types of the lists keep their ids ascending, each once.
 #[derive(Debug, Drop)]
 pub struct Sysmod {
     /// The SYSMOD.
     pub id: Id,
-    /// Which header it has.
+    /// The kind, by its header.
     pub kind: SysmodKind,
     /// The functions to which it applies (operand FMID).
     pub fmids: Ids,
-    /// What has to be installed before it (operand PRE).
+    /// The SYSMODs that have to be installed before it (operand PRE).
     pub pre: Ids,
-    /// What has to be installed with it (operand REQ).
+    /// The SYSMODs that have to be installed with it (operand REQ).
     pub req: Ids,
-    /// What else has to be installed with it, if a function is (its `++IF` statements).
+    /// The SYSMODs that have to be installed with it if a function is installed (its `++IF` statements).
     pub conds: CondNeeds,
-    /// What it supersedes: the SYSMODs that it stands for, APARs among them (operand SUP).
+    /// The SYSMODs that it supersedes, APARs among them (operand SUP).
     pub sup: Ids,
 }
 
 impl Sysmod {
-    /// The same record once more.
+    /// Copies the record.
     pub fn copy(&self) -> Result<Self, NoMemory>
         ensures { IfOk result (λ copy. copy ≡ self.now) }
     {

@@ -1,4 +1,4 @@
-//! What a publication touches.
+//! The ids that a publication touches.
 ghost use Rattle.std.specs.Prelude.{◌≡◌, ◌↔◌, ℕ, List, Contains, IfOk, OnOk};
 ghost use Rattle.holddata.specs.declared.hold.HoldChange.{HoldChange};
 ghost use Rattle.holddata.specs.HoldChange.{key_of};
@@ -16,13 +16,13 @@ use mcs_reader::Id;
 use std::alloc::Global;
 use std::collections::BTreeSet;
 
-/// The ids of which the record, the direct superseders or the ERROR holds may differ after a publication
-/// of these changes: each SYSMOD that is published, what its SUP names before the publication and in it,
-/// and the SYSMODs whose ERROR holds are put or released. They ascend, each once.
+/// Finds the ids whose record, direct superseders or ERROR holds may differ after a publication of these changes.
+/// They are each SYSMOD that is published, the ids that its SUP names before the publication and in it, and the
+/// SYSMODs whose ERROR holds are put or released. They ascend, each once.
 ///
 /// # Errors
 ///
-/// Those of [`Published::sysmod`], which is asked for the record of each SYSMOD that is published.
+/// Those of [`Published::sysmod`], which it asks for the record of each SYSMOD that is published.
 pub fn touched<P: Published>(
     alloc: Global,
     source: &mut P,
@@ -33,12 +33,11 @@ pub fn touched<P: Published>(
         (λ content. ids.items ≡ touched_ids content changes.now)) }
     ensures ascend { IfOk result (λ ids. Ascend ids.items) }
 
-    // They are all that is touched, and nothing else.
+    // They are exactly the touched ids.
     ensures each { IfOk result (λ ids. Tells P.content_view source.old source.new
         (λ content. (id : List ℕ) → Contains ids.items id ↔ IsTouched content changes.now id)) }
 
-    // Of every other id the publication leaves the record, the direct superseders and the reasons of its
-    // ERROR holds as they were.
+    // The publication leaves every other id's record, direct superseders and reasons of ERROR holds as they were.
     ensures touches_all { TouchesAll }
 {
     let mut ids = BTreeSet::new(alloc);
@@ -48,7 +47,7 @@ pub fn touched<P: Published>(
     Ok(listed(alloc, ids)?)
 }
 
-// Puts what one change touches among the ids.
+// Adds the ids that one change touches.
 fn touch_by<P: Published>(
     ids: &mut BTreeSet<Id>,
     source: &mut P,
@@ -67,7 +66,7 @@ fn touch_by<P: Published>(
     }
 }
 
-// Puts a SYSMOD and what its SUP named and names among the ids.
+// Adds a SYSMOD, and the ids that its SUP named and names.
 fn touch_record(
     ids: &mut BTreeSet<Id>,
     before: &Option<Sysmod>,
@@ -81,7 +80,7 @@ fn touch_record(
     touch_all(ids, sysmod.sup.as_slice())
 }
 
-// Puts what SUP of a record names among the ids.
+// Adds the ids that SUP of a record names.
 fn touch_sup(ids: &mut BTreeSet<Id>, sysmod: &Option<Sysmod>) -> Result<(), NoMemory>
     ensures { OnOk result (ids.new.keys ≡ put_among ids.old.keys (sup_of sysmod.now)) }
 {
@@ -100,7 +99,7 @@ fn touch_all(ids: &mut BTreeSet<Id>, more: &[Id]) -> Result<(), NoMemory>
     Ok(())
 }
 
-// Puts the SYSMOD of an ERROR hold among the ids.
+// Adds the SYSMOD of an ERROR hold.
 fn touch_held(ids: &mut BTreeSet<Id>, change: &HoldChange) -> Result<(), NoMemory>
     ensures { OnOk result (ids.new.keys
         ≡ put_among ids.old.keys (touched_by_key (key_of change.now).kind (key_of change.now))) }

@@ -1,4 +1,4 @@
--- No part of what is promised: private contracts cite it. By whom each SYSMOD is superseded.
+-- No part of what is promised: private contracts cite it. The SYSMODs that supersede each SYSMOD.
 use Rattle.std.specs.Prelude.{◌≡◌, ℕ, Bool, List, map, filter}
 use Rattle.std.specs.List.Sorted.{IsSortedByKey}
 use Rattle.catalogue.specs.declared.sysmod.Sysmod.{Sysmod}
@@ -10,7 +10,7 @@ use Rattle.flat_content.specs.declared.links.Link.{Link}
 abbrev pub is_to : List ℕ → Link → Bool
 is_to id link = same_id id link.superseded
 
--- the ids that links to an id have on their other side
+-- the ids on the other side of the links to an id
 abbrev pub linked : List ℕ → List Link → List (List ℕ)
 linked id links = map (λ link. link.superseder) (filter (is_to id) links)
 
@@ -22,6 +22,7 @@ links_to sup id = map (λ superseded. record { superseded = superseded; supersed
 abbrev pub IsSortedList : List Link → Type 0
 IsSortedList links = IsSortedByKey (λ link. link.superseded) id_cmp links
 
--- the links of records: to each id from those of the records whose SUP names it, in their order
+-- the links of records: to each id there are links from the records whose SUP names it, in their
+-- order
 abbrev pub AreOf : List Sysmod → List Link → Type 0
 AreOf sysmods links = (id : List ℕ) → linked id links ≡ ids_in (filter (sup_names id) sysmods)

@@ -9,7 +9,7 @@ use Rattle.flat_content.specs.declared.records.Head.{Head}
 use Rattle.flat_content.specs.declared.spans.Span.{Span}
 use Rattle.flat_content.specs.Spans.{AreConds, IsIds, part_at}
 
--- where the lists of a record stand: each begins where the one before it ends
+-- the spans of a record's lists: each begins at the end of the one before it
 abbrev pub fmids_of : Head → Span
 fmids_of head = record { start = head.start; end = head.fmids }
 

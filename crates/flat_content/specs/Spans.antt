@@ -6,7 +6,7 @@ use Rattle.catalogue.specs.Conditional.{CondsAscend}
 use Rattle.catalogue.specs.Ids.{Ascend}
 use Rattle.flat_content.specs.declared.spans.Span.{Span}
 
--- what stands at a span
+-- the entries in a span
 abbrev pub part_at : {X : Type 0} → List X → Span → List X
 part_at all span = slice_range all span.start span.end
 
@@ -14,14 +14,14 @@ part_at all span = slice_range all span.start span.end
 abbrev pub IsWithin : {X : Type 0} → List X → Span → Type 0
 IsWithin all span = (span.start ≤ span.end) × (span.end ≤ length all)
 
--- the ids that stand there ascend
+-- the ids in the span ascend
 abbrev pub IsIds : List (List ℕ) → Span → Type 0
 IsIds names span = IsWithin names span × Ascend (part_at names span)
 
--- the requisites under conditions that stand there ascend
+-- the requisites under conditions in the span ascend
 abbrev pub AreConds : List CondNeed → Span → Type 0
 AreConds conds span = IsWithin conds span × CondsAscend (part_at conds span)
 
--- what stood at a span stands there still
+-- the entries in a span are the same still
 abbrev pub Keeps : {X : Type 0} → List X → List X → Type 0
 Keeps old new = (span : Span) → IsWithin old span → IsWithin new span × (part_at new span ≡ part_at old span)

@@ -41,7 +41,7 @@ impl Model for FlatContent {
 }
 
 impl FlatContent {
-    /// The hold book. It takes no memory.
+    /// The hold book.
     pub fn book(&self) -> &HoldBook
         ensures value { result.now ≡ self.now.holds }
         ensures in_order { IsInKeyOrder self.now.holds }

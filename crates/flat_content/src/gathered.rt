@@ -1,4 +1,4 @@
-//! What changes publish, one after the other.
+//! The content that changes publish, one after the other.
 ghost use Rattle.std.specs.Prelude.{◌≡◌, ◌++◌, [], ◌∷◌, List, IfOk};
 ghost use Rattle.catalogue.specs.Content.{IsInOrder};
 ghost use Rattle.catalogue.specs.Publication.{content_of};
@@ -12,7 +12,7 @@ use holddata::HoldBook;
 use std::alloc::Global;
 use std::marker::Model;
 
-/// What was published so far. A contract sees the content.
+/// The content that was published so far. A contract sees the content.
 #[derive(Drop)]
 pub struct Gathered {
     // in the order in which they came, so that one more costs no search
@@ -33,7 +33,7 @@ impl Model for Gathered {
 }
 
 impl Gathered {
-    /// Nothing is published. It takes no memory.
+    /// Nothing is published.
     pub fn new(alloc: Global) -> Self
         ensures { result ≡ content_of [] }
     {
@@ -43,8 +43,8 @@ impl Gathered {
         }
     }
 
-    /// The same with more changes, in their order: a record in place of one with the same id, or a change to the holds.
-    /// They are taken over, not copied.
+    /// Adds more changes, in their order: a record replaces one with the same id, or a change of the holds is made. It
+    /// takes the changes over, and copies none.
     ///
     /// # Errors
     ///
@@ -60,7 +60,7 @@ impl Gathered {
         Ok(gathered)
     }
 
-    // The same with one more change.
+    // Adds one more change.
     fn with_one(self, change: Change) -> Result<Self, NoMemory>
         ensures { IfOk result (λ now. (earlier : List Change) →
             self ≡ content_of earlier → now ≡ content_of (earlier ++ change ∷ [])) }

@@ -10,7 +10,7 @@ use catalogue::NoMemory;
 use mcs_reader::Id;
 use std::cmp::Ordering;
 
-/// Puts heads in the order of their ids, of several of one id the last alone.
+/// Puts heads in the order of their ids, and of several with one id keeps the last.
 pub(crate) fn put_in_order(heads: &mut Vec<Head>) -> Result<(), NoMemory>
     ensures ascend { OnOk result (HeadsAscend heads.new.items) }
     ensures last { OnOk result ((id : List ℕ) →
@@ -18,7 +18,7 @@ pub(crate) fn put_in_order(heads: &mut Vec<Head>) -> Result<(), NoMemory>
     ensures kept { OnOk result ((head : Head)
         → Contains heads.new.items head → Contains heads.old.items head) }
 {
-    // The last of an id is the first from here on.
+    // The last head of an id is its first one from here on.
     heads.reverse();
     sort(heads)?;
     keep_first(heads);
@@ -51,7 +51,7 @@ fn sort(heads: &mut Vec<Head>) -> Result<(), NoMemory>
     heads.sort_by_key(|head| head.id)
 }
 
-// Of several heads of one id that follow one another it keeps the first.
+// Keeps the first of several heads of one id that follow one another.
 fn keep_first(heads: &mut Vec<Head>)
     requires { IsSortedByKey (λ head. head.id) id_cmp heads.old.items }
     ensures ascend { HeadsAscend heads.new.items }

@@ -1,7 +1,7 @@
-//! The published content in flat lists, for a report from files: about half of the memory that
-//! [`ListPublished`](catalogue::ListPublished) takes, and nothing is published once it stands.
+//! The published content in flat lists, for a report from files. It takes about half of the memory
+//! of [`ListPublished`](catalogue::ListPublished), and takes no more publications once it is made.
 //!
-//! - [`Gathered`]: what changes publish, one after the other
+//! - [`Gathered`]: the records and holds that changes publish, one after the other
 //! - [`FlatContent`]: the content that they leave
 //!
 //! ```

@@ -1,4 +1,4 @@
-//! By whom each SYSMOD is superseded, in one list.
+//! The SYSMODs that supersede each SYSMOD, in one list.
 ghost use Rattle.std.specs.Prelude.{◌≡◌, ◌≤◌, ◌++◌, ℕ, List, true, false, IfOk, OnOk, length, map};
 ghost use Rattle.std.specs.Ordering.{is_le, is_lt};
 ghost use Rattle.std.specs.List.{slice_range};
@@ -52,7 +52,7 @@ fn links_in_turn(records: &Records) -> Result<Vec<Link>, NoMemory>
     Ok(links)
 }
 
-// How many links records have. It decides only how much room is taken at once.
+// The number of links that records have. It decides only how much room is made at once.
 fn count(heads: &[Head]) -> usize {
     let mut count = 0usize;
     for head in heads {
@@ -98,7 +98,7 @@ fn between(links: &[Link], start: usize, end: usize) -> &[Link]
     &links[start..end]
 }
 
-// How many links are to ids before this one.
+// The number of links to ids before this one.
 fn count_before(links: &[Link], id: &Id) -> usize
     requires { IsSortedList links.now }
     ensures bound { result ≤ length links.now }
@@ -112,7 +112,7 @@ fn count_before(links: &[Link], id: &Id) -> usize
     )
 }
 
-// How many links are to ids before this one or to this one.
+// The number of links to ids before this one or to this one.
 fn count_up_to(links: &[Link], id: &Id) -> usize
     requires { IsSortedList links.now }
     ensures bound { result ≤ length links.now }

@@ -13,8 +13,8 @@ use mcs_reader::Id;
 use std::alloc::Global;
 use std::marker::Model;
 
-/// What is kept of a record: its id, and where its lists stand among those of all records. Its lists of ids follow one
-/// another, so where they start and where each ends is enough.
+/// What is kept of a record: its id, and the spans of its lists among those of all records. Its lists of ids follow
+/// one another, so the first start and the ends are enough.
 #[derive(Clone, Copy, Debug)]
 pub(crate) struct Head {
     pub(crate) id: Id,
@@ -55,7 +55,7 @@ impl Head {
         }
     }
 
-    /// Where what the record supersedes stands.
+    /// The span of the ids that the record supersedes.
     pub(crate) fn sup(&self) -> Span
         ensures { result ≡ sup_of self.now }
     {
@@ -88,7 +88,7 @@ impl Model for Records {
 }
 
 impl Records {
-    /// None. It takes no memory.
+    /// None.
     pub(crate) fn new(alloc: Global) -> Self
         ensures { result ≡ [] }
     {
@@ -100,7 +100,7 @@ impl Records {
         }
     }
 
-    /// The records with one more after them.
+    /// Adds one more record.
     pub(crate) fn with(self, sysmod: Sysmod) -> Result<Self, NoMemory>
         ensures { IfOk result (λ now. now ≡ self ++ sysmod ∷ []) }
     {
@@ -120,7 +120,7 @@ impl Records {
         })
     }
 
-    /// Of each id the last record, in the order of the ids, in as little room as they take.
+    /// Keeps the last record of each id, in the order of the ids, in as little room as they take.
     pub(crate) fn catalogue(self) -> Result<Self, NoMemory>
         ensures value { IfOk result (λ now. now ≡ catalogue_of self) }
         ensures ascend { IfOk result (λ now. Ascend (ids_in now)) }
@@ -173,7 +173,7 @@ fn ids_listed(alloc: Global, heads: &[Head]) -> Result<Vec<Id>, NoMemory>
     Ok(ids)
 }
 
-// What is kept of a record. Its lists are put after all others.
+// Keeps the head of a record, and puts its lists after all others.
 fn head_of(
     names: &mut Vec<Id>,
     all_conds: &mut Vec<CondNeed>,

@@ -6,7 +6,7 @@ use catalogue::{CondNeed, CondNeeds, Ids, NoMemory};
 use mcs_reader::Id;
 use std::alloc::Global;
 
-/// Where a list stands in the list of all.
+/// The span of a list in the list of all: where it starts, and where it ends.
 #[derive(Clone, Copy, Debug)]
 pub(crate) struct Span {
     pub(crate) start: u32,
@@ -14,7 +14,7 @@ pub(crate) struct Span {
 }
 
 impl Span {
-    /// How many entries stand there.
+    /// The number of its entries.
     pub(crate) fn len(self) -> usize
         ensures { result ≡ self.end - self.start }
     {
@@ -40,7 +40,7 @@ pub(crate) fn put(names: &mut Vec<Id>, ids: &Ids) -> Result<Span, NoMemory>
     Ok(Span { start, end })
 }
 
-/// The ids that stand at a span.
+/// The ids in a span.
 pub(crate) fn ids_in(names: &[Id], span: Span) -> &[Id]
     requires { IsWithin names.now span }
     ensures { result.now ≡ part_at names.now span }
@@ -48,7 +48,7 @@ pub(crate) fn ids_in(names: &[Id], span: Span) -> &[Id]
     &names[span.start as usize..span.end as usize]
 }
 
-/// The list that stands at a span.
+/// Copies the list in a span.
 pub(crate) fn copied(alloc: Global, names: &[Id], span: Span) -> Result<Ids, NoMemory>
     requires { IsIds names.now span }
     ensures { IfOk result (λ ids. ids ≡ part_at names.now span) }
@@ -76,7 +76,7 @@ pub(crate) fn put_conds(all: &mut Vec<CondNeed>, conds: &CondNeeds) -> Result<Sp
     Ok(Span { start, end })
 }
 
-/// The requisites under conditions that stand at a span.
+/// Copies the requisites under conditions in a span.
 pub(crate) fn conds_copied(
     alloc: Global,
     all: &[CondNeed],
@@ -99,7 +99,7 @@ fn conds_in(all: &[CondNeed], span: Span) -> &[CondNeed]
     &all[span.start as usize..span.end as usize]
 }
 
-// A place in the list of all.
+// An index in the list of all.
 fn place(at: usize) -> Result<u32, NoMemory>
     ensures { IfOk result (λ place. place ≡ at) }
 {

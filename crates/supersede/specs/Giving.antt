@@ -1,5 +1,5 @@
--- Which SYSMODs stand for others: what gives what, what is there in a zone, what may be installed there and what it needs
--- (IBM z/OS SMP/E Reference, `++VER`, operands SUP, FMID, PRE, REQ, `++IF`, operands FMID, REQ, and `++HOLD`, operand REASON).
+-- How SYSMODs stand for others: what gives what, what is there in a zone, what may be installed there and what it needs (IBM
+-- z/OS SMP/E Reference, `++VER`, operands SUP, FMID, PRE, REQ, `++IF`, operands FMID, REQ, and `++HOLD`, operand REASON).
 use Rattle.std.specs.Prelude.{ℕ, zero, suc, ◌&&◌, ◌||◌, ◌++◌, Bool, List, [], Option, Some, None, filter, is_some, length, map}
 use Rattle.std.specs.List.{list_any}
 use Rattle.zone_lists.specs.Installed.{is_installed, is_installed_state, is_listed}
@@ -54,22 +54,22 @@ is_candidate content rows id = list_any (λ fmid. is_installed rows fmid) (fmids
 
 -- ---- needs
 
--- what requisites under a condition name: whatever the zone, the need of each
+-- the ids that requisites under a condition name, whatever the zone
 abbrev pub each_need : List CondNeed → List (List ℕ)
 each_need conds = map (λ cond. cond.need) conds
 
--- and in a zone the needs of those whose function is installed there
+-- the needs of those whose function is installed in a zone
 abbrev pub needs_where : List ZoneRow → List CondNeed → List (List ℕ)
 needs_where rows conds = each_need (filter (λ cond. is_installed rows cond.fmid) conds)
 
--- what an id needs in every zone: its PRE, its REQ, and the reasons of the ERROR holds on it
+-- the ids that an id needs in every zone: its PRE, its REQ, and the reasons of the ERROR holds on it
 abbrev pub always_needs : Content → List ℕ → List (List ℕ)
 always_needs content id = requisites_of (record_of content id) ++ error_reasons content id
 
--- what an id may need, in whatever zone: that, and the need of each of its requisites under a condition
+-- the ids that an id may need, in whatever zone: those, and the need of each of its requisites under a condition
 abbrev pub may_need : Content → List ℕ → List (List ℕ)
 may_need content id = always_needs content id ++ each_need (conds_of (record_of content id))
 
--- what an id needs in a zone: what it always needs, and what it needs if a function is, if that is installed
+-- the ids that an id needs in a zone: those that it always needs, and those of its requisites whose function is installed
 abbrev pub needs_in : Content → List ZoneRow → List ℕ → List (List ℕ)
 needs_in content rows id = always_needs content id ++ needs_where rows (conds_of (record_of content id))

@@ -5,8 +5,8 @@ use Rattle.zone_lists.specs.Installed.{is_installed, is_listed}
 use Rattle.zone_lists.specs.declared.zones.ZoneRow.{ZoneRow}
 use Rattle.catalogue.specs.Content.{Content, IsCatalogued, Supersedes}
 
--- a list leads from one id to another: each of it is superseded by the one before, the first by the one id, and the
--- last is the other; with no steps both are one
+-- a list leads from one id to another: the one supersedes the first of the list, each of the list supersedes the
+-- next, and the last is the other; with an empty list both are one
 abbrev pub IsWay : Content → List ℕ → List (List ℕ) → List ℕ → Type 0
 IsWay content from [] to = from ≡ to
 IsWay content from (next ∷ later) to = Supersedes content from next × IsWay content next later to

@@ -1,4 +1,5 @@
--- No part of what is promised: private contracts cite it. How those that give a SYSMOD are gathered.
+-- No part of what is promised: private contracts cite it. How the SYSMODs that give one are
+-- gathered.
 use Rattle.std.specs.Prelude.{◌≡◌, ℕ, ◌++◌, Bool, true, not, List}
 use Rattle.std.specs.List.{list_any}
 use Rattle.catalogue.specs.Content.{Content}

@@ -1,5 +1,5 @@
--- No part of what is promised: private contracts cite it. The row of a SYSMOD in a zone. What a zone is, and what it says of
--- a SYSMOD, stands in `ZoneList` and `Installed` of zone_lists.
+-- No part of what is promised: private contracts cite it. The row of a SYSMOD in a zone. `ZoneList` and `Installed` of
+-- zone_lists say what a zone is, and what it says of a SYSMOD.
 use Rattle.std.specs.Prelude.{ℕ, List, [], ◌∷◌, Option, Some, None, if◌then◌else◌}
 use Rattle.std.specs.Str.{bytes_eq}
 use Rattle.zone_lists.specs.declared.zones.ZoneRow.{ZoneRow}

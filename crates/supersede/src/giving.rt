@@ -1,4 +1,4 @@
-//! Which SYSMODs give one.
+//! The SYSMODs that give one.
 ghost use Rattle.std.specs.Prelude.{◌≡◌, ◌↔◌, filter, List, ℕ, Contains, IfOk, OnOk};
 ghost use Rattle.catalogue.specs.Content.{ids_of};
 ghost use Rattle.catalogue.specs.Ids.{Ascend, put_among};
@@ -14,8 +14,8 @@ use mcs_reader::Id;
 use std::alloc::Global;
 use std::collections::BTreeSet;
 
-/// The catalogued SYSMODs that give this one, ascending: itself, and those that supersede it,
-/// themselves or through others (IBM z/OS SMP/E Reference, `++VER`, operand SUP). It asks for what it finds, and never
+/// Finds the catalogued SYSMODs that give this one, ascending: itself, and those that supersede it, themselves or
+/// through others (IBM z/OS SMP/E Reference, `++VER`, operand SUP). It asks the source for what it finds, and never
 /// for all that is catalogued.
 ///
 /// # Errors
@@ -27,7 +27,7 @@ pub fn givers<P: Published>(alloc: Global, source: &mut P, id: &Id) -> Result<Ve
         (λ content. ids.items ≡ givers_of content id.now)) }
     ensures ascend { IfOk result (λ ids. Ascend ids.items) }
 
-    // They are all that give it, and nothing else.
+    // They are exactly the SYSMODs that give it.
     ensures each { IfOk result (λ ids. Tells P.content_view source.old source.new
         (λ content. (giver : List ℕ) → Contains ids.items giver ↔ Gives content giver id.now)) }
 {
@@ -51,7 +51,7 @@ fn others(alloc: Global, ids: &[Id], id: &Id) -> Result<Vec<Id>, NoMemory>
     Ok(others)
 }
 
-// An id and the SYSMODs that supersede it, themselves or through others. Each is asked for once.
+// An id and the SYSMODs that supersede it, themselves or through others. The source is asked for each once.
 fn reach<P: Published>(alloc: Global, source: &mut P, id: &Id) -> Result<Vec<Id>, SourceFault>
     ensures asks { MayAsk P.content_view Device source.old source.new result }
     ensures reach { IfOk result (λ found. Tells P.content_view source.old source.new
@@ -72,7 +72,7 @@ fn reach<P: Published>(alloc: Global, source: &mut P, id: &Id) -> Result<Vec<Id>
     Ok(listed(alloc, found)?)
 }
 
-// Puts ids among those that were found, and those that are new at the end of the order.
+// Adds ids to those that were found, and the new ones to the end of the order.
 fn add_new(found: &mut BTreeSet<Id>, order: &mut Vec<Id>, ids: &[Id]) -> Result<(), NoMemory>
     ensures found { OnOk result (found.new.keys ≡ put_among found.old.keys ids.now) }
     ensures continues { OnOk result (Continues order.old.items order.new.items) }

@@ -1,8 +1,8 @@
-//! What supersedes what: the SYSMODs of a zone, and those that give a SYSMOD.
+//! Superseding: the SYSMODs of a zone, and those that give a SYSMOD.
 //!
 //! - [`Zone`]: the rows of a zone, in which SYSMODs are looked up
 //! - [`givers`]: the SYSMODs that give one
-//! - [`index_among`]: where a SYSMOD stands among others
+//! - [`index_among`]: the index of a SYSMOD among others
 //! - [`there`]: whether a SYSMOD is there in a zone, itself or by one that supersedes it
 //!
 //! ```

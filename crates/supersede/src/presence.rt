@@ -1,4 +1,4 @@
-//! What is there in a zone.
+//! Whether a SYSMOD is there in a zone.
 ghost use Rattle.std.specs.Prelude.{◌≡◌, ◌↔◌, ◌||◌, true};
 ghost use Rattle.std.specs.List.{list_any};
 ghost use Rattle.zone_lists.specs.Installed.{is_installed, is_listed};
@@ -9,9 +9,9 @@ ghost use Rattle.supersede.specs.Leading.{IsThere};
 use crate::zone::Zone;
 use mcs_reader::Id;
 
-/// Whether a SYSMOD is there in a zone: it is listed in it, in whatever state, or a SYSMOD that is installed
-/// in it is the same or supersedes it, itself or through others. `givers` are the SYSMODs that give it so.
-/// It takes no memory.
+/// Whether a SYSMOD is there in a zone: it is listed in it, in whatever state, or an installed SYSMOD is the
+/// same or supersedes it, itself or through others. `givers` are the catalogued SYSMODs that are the same or
+/// supersede it so.
 pub fn there(zone: &Zone, id: &Id, givers: &[Id]) -> bool
     ensures value { result
         ≡ (is_listed zone.now id.now || list_any (λ giver. is_installed zone.now giver) givers.now) }

@@ -6,8 +6,7 @@ ghost use Rattle.supersede.specs.Reach.{has};
 
 use mcs_reader::Id;
 
-/// Where a SYSMOD stands among SYSMODs that ascend, each once, if it does. It is found by halves, and takes
-/// no memory.
+/// The index of a SYSMOD among SYSMODs that ascend, each once, if it is among them. It searches by halves.
 pub fn index_among(ids: &[Id], id: &Id) -> Option<usize>
     requires { Ascend ids.now }
     ensures stands { is_some result ≡ has ids.now id.now }

@@ -13,7 +13,7 @@ use std::alloc::Global;
 use std::marker::Model;
 use zone_lists::{ZoneRow, ZoneState};
 
-/// The SYSMODs of a zone with their states, in which one is found by halves.
+/// The SYSMODs of a zone with their states. It finds one by halves.
 ///
 /// A contract sees a zone as the list of its rows, which ascend by SYSMOD, each once.
 #[derive(Debug, Drop)]
@@ -34,7 +34,7 @@ impl Model for Zone {
 }
 
 impl Zone {
-    /// The zone with these rows, as `zone_rows` gives them: ascending by SYSMOD, each once.
+    /// Copies these rows, which ascend by SYSMOD, each once, as `zone_rows` returns them.
     ///
     /// # Errors
     ///
@@ -47,7 +47,7 @@ impl Zone {
         Ok(Zone { rows })
     }
 
-    /// The zone with these rows, which are handed over. It takes no memory.
+    /// The zone with these rows, which it takes over. It takes no memory.
     pub fn from_rows(rows: Vec<ZoneRow>) -> Zone
         requires { RowsAscend rows.items }
         ensures { result ≡ rows.items }
@@ -63,7 +63,7 @@ impl Zone {
         self.rows.as_slice()
     }
 
-    /// The same zone once more.
+    /// Copies the zone.
     ///
     /// # Errors
     ///
@@ -112,7 +112,7 @@ fn state_in(rows: &[ZoneRow], id: &Id) -> Option<ZoneState>
     }
 }
 
-// Where the row of a SYSMOD is, or where it would stand.
+// The index of a SYSMOD's row, or the index at which it would stand.
 fn row_index(rows: &[ZoneRow], id: &Id) -> Result<usize, usize>
     ensures within { IsSearchInRange result (length rows.now) }
     ensures found { IsBinarySearchResult (λ row. slice_cmp nat_cmp row.sysmod id.now) rows.now result }
