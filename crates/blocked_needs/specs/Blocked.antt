@@ -1,5 +1,5 @@
--- What blocks the SYSMODs that are HELD, and what would give that (IBM z/OS SMP/E Reference, `++VER`, operands FMID, PRE, REQ
--- and SUP, and `++HOLD`, operand ERROR).
+-- The needs that block the SYSMODs that are HELD, and the SYSMODs that would give them (IBM z/OS SMP/E Reference, `++VER`,
+-- operands FMID, PRE, REQ and SUP, and `++HOLD`, operand ERROR).
 use Rattle.std.specs.Prelude.{◌≡◌, ℕ, Bool, true, false, List, [], ◌∷◌, Option, Some, None, Contains, length, zero, suc, find}
 use Rattle.std.specs.List.{cons_option, filter_map, flat_map}
 use Rattle.zone_lists.specs.declared.zones.ZoneRow.{ZoneRow}
@@ -13,11 +13,11 @@ use Rattle.verdicts.specs.Worlds.{world_of}
 use Rattle.verdicts.specs.declared.verdict.Status.TheVariants as status
 use Rattle.blocked_needs.specs.declared.blocked.BlockedNeed.{BlockedNeed}
 
--- what would give a need in a zone: the least of the published SYSMODs that give it and apply
+-- the SYSMOD that would give a need in a zone: the least of the published SYSMODs that give it and apply
 abbrev pub giver_of : Content → List ZoneRow → List ℕ → Option (List ℕ)
 giver_of content rows need = find (is_candidate content rows) (givers_of content need)
 
--- whether a published SYSMOD gives it at all
+-- whether any published SYSMOD gives it
 abbrev pub has_one : List (List ℕ) → Bool
 has_one [] = false
 has_one (id ∷ ids) = true
@@ -47,8 +47,8 @@ abbrev pub waits_within : Content → List ZoneRow → ℕ → List ℕ → List
 waits_within content rows zero id = id ∷ []
 waits_within content rows (suc steps) id = id ∷ flat_map (waits_within content rows steps) (cons_option (next_of content rows id) [])
 
--- The table of blocked needs for some SYSMODs: what blocks each of them, and each that would give what blocks another, ascending,
--- each once. More steps than there are records lead nowhere else.
+-- The table of blocked needs for some SYSMODs, ascending, each once: what blocks each of them, and what blocks each SYSMOD
+-- that would give what blocks another. More steps than there are records lead nowhere else.
 abbrev pub blocked_needs_of : Content → List ZoneRow → List (List ℕ) → List BlockedNeed
 blocked_needs_of content rows sysmods =
     filter_map (blocked_at content rows) (in_order (flat_map (waits_within content rows (length content.sysmods)) sysmods))
@@ -68,8 +68,8 @@ pub record IsRightRow (content : Content) (rows : List ZoneRow) (one : BlockedNe
   pub published : one.published ≡ is_published content one.need
   pub ungiven : (giver : List ℕ) → ¬ IsGoodGiver (world_of content rows) one.need giver
 
--- The table has a row of each of the SYSMODs that is HELD, and of each that a row names as giver; so whoever follows the givers
--- comes to a need that nothing which applies gives, or round to a SYSMOD that came before.
+-- The table has a row of each of the SYSMODs that is HELD, and of each such giver in a row. So whoever follows the givers
+-- comes to a need that no SYSMOD gives which applies, or back to a SYSMOD that came before.
 pub record AreBlockedNeeds (content : Content) (rows : List ZoneRow) (sysmods : List (List ℕ)) (found : List BlockedNeed) : Type 0 where
   pub are : found ≡ blocked_needs_of content rows sysmods
   pub right : (one : BlockedNeed) → Contains found one → IsRightRow content rows one

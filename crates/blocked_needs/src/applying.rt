@@ -1,4 +1,4 @@
-//! Which SYSMODs apply to a zone.
+//! The SYSMODs that apply to a zone.
 ghost use Rattle.std.specs.Prelude.{◌≡◌, IfOk, find};
 ghost use Rattle.std.specs.List.{list_any};
 ghost use Rattle.zone_lists.specs.Installed.{is_installed};

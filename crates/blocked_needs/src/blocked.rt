@@ -1,4 +1,4 @@
-//! What blocks one SYSMOD.
+//! The need that blocks one SYSMOD.
 ghost use Rattle.std.specs.Prelude.{◌≡◌, ◌++◌, [], IfOk, OnOk};
 ghost use Rattle.std.specs.List.{cons_option};
 ghost use Rattle.catalogue.specs.View.{MayAsk, Tells};
@@ -14,20 +14,21 @@ use std::alloc::Global;
 use supersede::{Zone, givers};
 use verdicts::{Judge, Verdict};
 
-/// What blocks a SYSMOD that is HELD.
+/// The need that blocks a SYSMOD that is HELD.
 #[derive(Clone, Copy, Debug, PartialEq, Eq)]
 pub struct BlockedNeed {
     /// The SYSMOD.
     pub sysmod: Id,
-    /// Its blocked need: the least of its needs that isn't there and that nothing which can be installed gives.
+    /// The blocked need: the least of its needs that isn't there and that no SYSMOD gives which can be
+    /// installed.
     pub need: Id,
     /// The least of the published SYSMODs that give the need and apply: one of their functions is installed.
     pub giver: Option<Id>,
-    /// Whether a SYSMOD that is published gives the need at all.
+    /// Whether any published SYSMOD gives the need.
     pub published: bool,
 }
 
-/// What blocks a SYSMOD, if it is HELD.
+/// Finds what blocks a SYSMOD, if it is HELD.
 pub(crate) fn blocked_at<P: Published, J: Judge<P>>(
     alloc: Global,
     source: &mut P,

@@ -18,11 +18,11 @@ use std::collections::BTreeMap;
 use supersede::Zone;
 use verdicts::Judge;
 
-// What blocks each SYSMOD that was looked at, if it is HELD.
+// Each SYSMOD that was looked at, with what blocks it if it is HELD.
 type Seen = BTreeMap<Id, Option<BlockedNeed>>;
 
-/// The table of blocked needs for some SYSMODs: what blocks each of them that is HELD, and each that would give what
-/// blocks another, ascending by SYSMOD, each once.
+/// Makes the table of blocked needs for some SYSMODs, ascending, each once. It has what blocks each of them that is
+/// HELD, and what blocks each SYSMOD that would give what blocks another.
 ///
 /// # Errors
 ///
@@ -86,7 +86,7 @@ fn is_seen(seen: &Seen, id: &Id) -> bool
     seen.contains_key(id)
 }
 
-// What blocks those that are HELD.
+// The rows of the SYSMODs that are HELD.
 fn rows_in(alloc: Global, seen: Seen) -> Result<Vec<BlockedNeed>, NoMemory>
     ensures { IfOk result (λ rows. rows.items ≡ filter_map (λ entry. entry.1) seen.entries) }
 {

@@ -1,4 +1,4 @@
-//! What blocks the SYSMODs that are HELD in a zone, and what would give that.
+//! The needs that block the SYSMODs that are HELD in a zone, and the SYSMODs that would give them.
 //!
 //! - [`blocked_needs`]: the table of blocked needs for some SYSMODs, as [`BlockedNeed`]s
 //!

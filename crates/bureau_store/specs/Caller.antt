@@ -1,4 +1,4 @@
--- Who calls, and by which token a caller is known.
+-- Who calls, and the token that identifies a caller.
 use Rattle.std.specs.Prelude.{◌≢◌, ℕ, Bool, true, false, List, map, find, codes, Option, Contains, if◌then◌else◌}
 use Rattle.std.specs.Option.{option_map}
 use Rattle.std.specs.Str.{bytes_eq}

@@ -1,4 +1,4 @@
--- What an accepted change does to the tables.
+-- The effect of an accepted change on the tables.
 use Rattle.std.specs.Prelude.{ℕ, List, if◌then◌else◌}
 use Rattle.std.specs.BTreeMap.{insert_entry}
 use Rattle.std.specs.Map.{remove_entry}
@@ -12,8 +12,8 @@ use Rattle.bureau_store.specs.Tables.{LastChange, Tables, Zones, name_order, pat
 use Rattle.bureau_store.specs.declared.caller.Caller.{Caller}
 use Rattle.bureau_store.specs.declared.caller.Caller.TheVariants.{Publisher, Client}
 
--- Statements are published; or of a client: a zone gets these rows, a zone is dropped, the received list is
--- this one, a zone gets these patterns.
+-- Statements are published; or, of a client: a zone gets these rows, a zone is dropped, the received list
+-- becomes this one, or a zone gets these patterns.
 pub data Effect : Type 0 where
   publication : List Change → Effect
   zone_put : List ℕ → List ZoneRow → Effect
@@ -45,7 +45,7 @@ received_after (zone_dropped zone) ids = ids
 received_after (received_put new) ids = new
 received_after (patterns_put zone patterns) ids = ids
 
--- what stands under one name changes, and nothing else
+-- the entry under one name changes, and no other
 abbrev pub at_client : {A : Type 0} → Caller → (A → A) → (List ℕ → A) → List ℕ → A
 at_client Publisher change old name = old name
 at_client (Client client) change old name = if bytes_eq client name then change (old name) else old name

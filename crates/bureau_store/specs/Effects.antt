@@ -1,4 +1,4 @@
--- An effect of the code as the effect that it is.
+-- The effect of the code as that of the definitions.
 use Rattle.zone_lists.specs.ZoneList.{RowsAscend}
 use Rattle.catalogue.specs.Ids.{Ascend}
 use Rattle.bureau_store.specs.Effect as store
@@ -9,7 +9,7 @@ use Rattle.bureau_store.specs.declared.caller.Caller.TheVariants.{Publisher, Cli
 use Rattle.bureau_store.specs.declared.effect.Effect.{Effect}
 use Rattle.bureau_store.specs.declared.effect.Effect.TheVariants.{Publication, ZonePut, ZoneDropped, ReceivedPut, PatternsPut}
 
--- what a change does to the tables
+-- the effect of a change on the tables
 abbrev pub effect_as : Effect → store.Effect
 effect_as (Publication changes) = publication changes.now
 effect_as (ZonePut client zone rows) = zone_put zone.now rows.now
@@ -17,7 +17,7 @@ effect_as (ZoneDropped client zone) = zone_dropped zone.now
 effect_as (ReceivedPut client ids) = received_put ids.now
 effect_as (PatternsPut client zone patterns) = patterns_put zone.now patterns.now
 
--- whose change has this effect
+-- the caller whose change has this effect
 abbrev pub maker_of : Effect → Caller
 maker_of (Publication changes) = Publisher
 maker_of (ZonePut client zone rows) = Client client.now
@@ -25,7 +25,7 @@ maker_of (ZoneDropped client zone) = Client client.now
 maker_of (ReceivedPut client ids) = Client client.now
 maker_of (PatternsPut client zone patterns) = Client client.now
 
--- what is put ascends
+-- the lists that are put ascend
 abbrev pub IsAscending : Effect → Type 0
 IsAscending (Publication changes) = Unit {0}
 IsAscending (ZonePut client zone rows) = RowsAscend rows.now

@@ -1,4 +1,4 @@
--- No part of what is promised: private contracts cite it. What is kept of a callers file while it is read.
+-- No part of what is promised: private contracts cite it. The callers that were read so far.
 use Rattle.std.specs.Prelude.{◌≡◌, ℕ, Bool, List, map, is_some}
 use Rattle.std.specs.BTreeMap.{is_at}
 use Rattle.std.specs.Cmp.Lexicographic.{slice_cmp}
@@ -18,8 +18,7 @@ row_of entry = record { name = entry.0; token = entry.1 }
 abbrev pub has_token : {Text : Type 0} → (Text → List ℕ) → List Text → List ℕ → Bool
 has_token text_of texts token = list_any (λ text. is_at (slice_cmp nat_cmp token) (text_of text)) texts
 
--- The callers that came: in order by name, and which names and which tokens came is what the map and the set
--- of tokens say.
+-- The callers that came, in order by name. The map and the set of tokens say which names and which tokens came.
 pub record HasCallers {Text : Type 0} (text_of : Text → List ℕ) (names : List (List ℕ × List ℕ)) (tokens : List Text) (came : List CallerRow) : Type 0 where
   pub listed : map row_of names ≡ in_order caller_list came
   pub by_name : (name : List ℕ) → list_any (λ row. bytes_eq name row.name) came ≡ is_some (lookup (is_at (slice_cmp nat_cmp name)) names)

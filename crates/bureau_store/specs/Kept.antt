@@ -12,14 +12,14 @@ use Rattle.bureau_store.specs.SetCallers.{token_of}
 use Rattle.bureau_store.specs.declared.caller.Caller.{Caller}
 use Rattle.bureau_store.specs.declared.caller.CallerRow.{CallerRow}
 
--- what a zone has, as a map of zones finds it
+-- the rows of a zone, as a map of zones finds it
 abbrev pub rows_at : List ℕ → Zones → List ZoneRow
 rows_at zone zones = rows_of (zone_named zone zones)
 
 abbrev pub patterns_at : List ℕ → Zones → List (List ℕ)
 patterns_at zone zones = patterns_of (zone_named zone zones)
 
--- what is kept for a client after a change that puts all that a zone has
+-- a client's tables after a change that puts the rows and patterns of a zone
 abbrev pub with_zone : List ℕ → ZoneTable → LastChange → ClientTable → ClientTable
 with_zone name zone last client = record client { last = last; zones = insert_entry name_order client.zones name zone }
 

@@ -1,4 +1,4 @@
--- What a store in lists keeps. Its tables, which contracts speak of, are `tables_of`.
+-- The lists that a store keeps. Contracts speak of its tables, which are `tables_of`.
 use Rattle.std.specs.Prelude.{◌≡◌, ℕ, List, [], Result, IfErr, unwrap_or, refl}
 use Rattle.std.proofs.Common.{◌∙◌, arith, ap, subst, sym}
 use Rattle.std.specs.Map.{lookup}
@@ -14,13 +14,13 @@ use Rattle.bureau_store.specs.declared.caller.CallerRow.{CallerRow}
 use Rattle.bureau_store.specs.declared.fault.StoreFault.{StoreFault}
 use Rattle.bureau_store.specs.declared.fault.StoreFault.TheVariants.{Memory}
 
--- what is kept for a client
+-- the tables of a client
 pub record ClientTable : Type 0 where
   pub last : LastChange
   pub zones : Zones
   pub received : List (List ℕ)
 
--- of a client that has sent nothing
+-- those of a client that has sent nothing
 abbrev pub nothing_sent : ClientTable
 nothing_sent = record { last = no_change; zones = []; received = [] }
 
@@ -30,7 +30,7 @@ pub record Lists : Type 0 where
   pub publisher : LastChange
   pub clients : List (List ℕ × ClientTable)
 
--- what is kept for the client of this name, among these
+-- the tables of the client of this name, among these
 abbrev pub client_in : List (List ℕ × ClientTable) → List ℕ → ClientTable
 client_in clients name = unwrap_or (lookup (bytes_eq name) clients) nothing_sent
 
@@ -48,7 +48,7 @@ tables_of lists = record {
   received = λ name. (client_in lists.clients name).received;
 }
 
--- what is kept for a client after one of its changes
+-- a client's tables after one of its changes
 abbrev pub client_after : Effect → LastChange → ClientTable → ClientTable
 client_after effect last client = record {
   last = last;
@@ -61,7 +61,7 @@ client_after effect last client = record {
 pub record IsOurs (lists : Lists) : Type 0 where
   pub in_order : AreInOrder (tables_of lists)
 
--- What a read of lists keeps to: they stay as they are, and are in order; and it is refused for want of memory alone.
+-- A read of lists leaves them as they are, and in order. It is refused only for want of memory.
 pub record ReadsLists {Answer Fault : Type 0} (Memory : Fault) (old new : Lists) (answer : Result Answer Fault) : Type 0 where
   pub same : new ≡ old
   pub ours : IsOurs old
@@ -80,7 +80,7 @@ lists_view = record {
 abbrev pub NeverOutgrown : Update → Lists → Lists → Type 0
 NeverOutgrown update old new = ⊥
 
--- a change is refused for want of memory alone
+-- a change is refused only for want of memory
 abbrev pub RefusesForMemory : Update → Lists → Lists → StoreFault → Type 0
 RefusesForMemory update old new fault = fault ≡ Memory
 

@@ -1,4 +1,4 @@
--- A store gets the callers of a callers file, and has no others then.
+-- A store gets the callers of a callers file, and then has no others.
 use Rattle.std.specs.Prelude.{◌≡◌, ◌⊎◌, ◌++◌, ◌&&◌, ◌||◌, ℕ, Bool, not, false, List, [], map, filter, find, length, Option, Result, IfErr, IfOk, IsErrOf, OnErr, OnOk, is_some, if◌then◌else◌}
 use Rattle.std.specs.List.{count_by}
 use Rattle.std.specs.Option.{option_map, unwrap_or}
@@ -29,7 +29,7 @@ name_of (Client name) = name
 
 -- ---- who comes, and who goes
 
--- a caller of this name is in the second list alone
+-- only the second list has a caller of this name
 abbrev pub is_only_in : List CallerRow → List CallerRow → List ℕ → Bool
 is_only_in others rows name = has_name rows name && not (has_name others name)
 
@@ -37,8 +37,8 @@ is_only_in others rows name = has_name rows name && not (has_name others name)
 abbrev pub comes_or_goes : List CallerRow → List CallerRow → List ℕ → Bool
 comes_or_goes old new name = is_only_in old new name || is_only_in new old name
 
--- The tables with these callers. Who was a caller before and is one now keeps all. Who is new begins with nothing, and who is
--- gone leaves nothing: no last change, no zone, nothing received. What is published stays.
+-- The tables with these callers. A caller that was there before and stays keeps all. A new one begins with nothing, and one
+-- that is gone leaves nothing: no last change, no zone, nothing received. The published content stays.
 abbrev pub with_callers : List CallerRow → Tables → Tables
 with_callers rows old = record {
   callers = rows;
@@ -62,7 +62,7 @@ names_that_change old new = names_only_in old new ++ names_only_in new old
 abbrev pub has_new_token : List CallerRow → CallerRow → Bool
 has_new_token old row = unwrap_or (option_map (λ token. not (bytes_eq token row.token)) (token_of old row.name)) false
 
--- how many callers there are now, how many of them are new, how many others are gone, and how many have another token
+-- the number of callers, of those that are new, of those that are gone, and of those that have another token
 abbrev pub counts_of : List CallerRow → List CallerRow → CallerCounts
 counts_of old new = record {
   callers = length new;
@@ -74,7 +74,7 @@ counts_of old new = record {
 -- ---- what a store keeps to
 
 module _ {Store : Type 0} (view : View Store Tables) where
-  -- What a change of the tables keeps to, if it is due: done, they are the next ones; refused, they are as they were.
+  -- A change of the tables that is due: done, the tables are the next ones; refused, they are as they were.
   pub record ChangesTo {Done : Type 0} (IsDueIn : Tables → Type 0) (next : Tables → Tables) (old new : Store) (answer : Result Done StoreFault) : Type 0 where
     pub goes : Goes view old new
     pub done : OnOk answer (view.is_ours old → view.is_clean new → (this : Tables) → IsDueIn this → view.stands old this → view.stands new (next this))
@@ -83,13 +83,13 @@ module _ {Store : Type 0} (view : View Store Tables) where
     pub refusal : IfErr answer IsOfCall
     pub cause : IsErrOf answer Device → HasFailed view old new
     pub is_open : (IsErrOf answer Device → ⊥) → IsOpen view new
-    -- what a stop may leave: what it might have left before, or, of a store that was open, the next tables
+    -- what a stop may leave: what it might have left before, or the next tables if the store was open
     pub crash : view.is_ours old → view.is_clean new → (this : Tables) → IsDueIn this → view.stands old this
         → (left : Tables) → view.may_leave new left → view.may_leave old left ⊎ (IsOpen view old × (left ≡ next this))
-    -- a stop after it leaves just the tables that the store holds
+    -- after it a stop leaves just the tables that the store holds
     pub settled : IsSettled view new
 
-  -- A store has these callers, and no others. It is told how many came and went, of the callers before.
+  -- A store has these callers, and no others. The answer says how many came and went since the callers before.
   pub record SetsCallers (rows : List CallerRow) (old new : Store) (answer : Result CallerCounts StoreFault) : Type 0 where
     pub changes : ChangesTo (λ this. Unit {0}) (with_callers rows) old new answer
     pub counts : IfOk answer (λ counts. Tells view old new (λ this. counts ≡ counts_of this.callers rows))

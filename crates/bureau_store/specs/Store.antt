@@ -1,4 +1,4 @@
--- What every store keeps to.
+-- The laws of every store.
 use Rattle.std.specs.Prelude.{◌≡◌, ◌⊎◌, ◌+◌, ℕ, List, [], Result, IfErr, IsErrOf, OnErr, OnOk, is_some, true}
 use Rattle.catalogue.specs.Content.{Content}
 use Rattle.catalogue.specs.View.{Asks, Goes, HasFailed, IsOpen, View}
@@ -16,7 +16,7 @@ greatest_number = 9223372036854775807
 
 -- ---- what is asked of a store
 
--- A change by a caller: what it does, and its number with the reply that is kept.
+-- A change by a caller: its effect, and its number with the reply that is kept.
 pub record Update : Type 0 where
   pub caller : Caller
   pub effect : Effect
@@ -50,7 +50,7 @@ pub record IsDue (update : Update) (this : Tables) : Type 0 where
 
 -- ---- how a store is looked at
 
--- What is published is part of the tables: a read of it keeps the tables, and tells of what stands there.
+-- The published content is part of the tables: a read of it keeps the tables, and tells what they have.
 pub record AreOfOneStore {Store : Type 0} (content : View Store Content) (tables : View Store Tables) : Type 0 where
   pub keeps : (old new : Store) → content.keeps old new → tables.keeps old new
   pub clean : (store : Store) → tables.is_clean store → content.is_clean store
@@ -60,8 +60,8 @@ pub record AreOfOneStore {Store : Type 0} (content : View Store Content) (tables
 
 -- ---- what a store answers
 
--- A read is refused for want of memory or of the device. Whether the device has room for more is asked only by
--- changes, and whether a file is a store, and of which version, only as it is opened.
+-- A read is refused for want of memory or for the device. Only a change asks whether the device has room for more. Only the
+-- opening asks whether a file is a store, and of which version.
 abbrev pub IsOfRead : StoreFault → Type 0
 IsOfRead Memory = Unit {0}
 IsOfRead Device = Unit {0}
@@ -77,7 +77,7 @@ IsOfCall Shape = ⊥
 IsOfCall Version = ⊥
 
 module _ {Store : Type 0} (view : View Store Tables) where
-  -- What a read of the tables keeps to.
+  -- The laws of a read of the tables.
   pub record Reads {Answer : Type 0} (old new : Store) (answer : Result Answer StoreFault) : Type 0 where
     pub asks : Asks view Device old new answer
     pub refusal : IfErr answer IsOfRead
@@ -86,8 +86,8 @@ module _ {Store : Type 0} (view : View Store Tables) where
   abbrev pub IsSettled : Store → Type 0
   IsSettled store = view.is_ours store → view.is_clean store → IsOpen view store → (this : Tables) → view.stands store this → (left : Tables) → view.may_leave store left → left ≡ this
 
-  -- What a change keeps to: done, the tables are changed as they should be; refused, they are as they were. A store that
-  -- is closed answers nothing but a fault of the device, so what is told as done was done by a store that is open.
+  -- The laws of a change: done, the tables are changed as they should be; refused, they are as they were. A closed store
+  -- answers nothing but a fault of the device, so an open store did what is told as done.
   pub record Makes {Done : Type 0} (HasOutgrown : Update → Store → Store → Type 0) (update : Update) (old new : Store) (answer : Result Done StoreFault) : Type 0 where
     pub goes : Goes view old new
     pub done : OnOk answer (view.is_ours old → view.is_clean new → (this : Tables) → IsDue update this → view.stands old this → view.stands new (updated update this))
@@ -97,7 +97,7 @@ module _ {Store : Type 0} (view : View Store Tables) where
     pub cause : IsErrOf answer Device → HasFailed view old new
     pub is_open : (IsErrOf answer Device → ⊥) → IsOpen view new
     pub size : IsErrOf answer Size → HasOutgrown update old new
-    -- what a stop may leave: what it might have left before, or, of a store that was open, the tables with this change
+    -- what a stop may leave: what it might have left before, or the tables with this change if the store was open
     pub crash : view.is_ours old → view.is_clean new → (this : Tables) → IsDue update this → view.stands old this →
         (left : Tables) → view.may_leave new left → view.may_leave old left ⊎ (IsOpen view old × (left ≡ updated update this))
     pub settled : IsSettled new

@@ -1,4 +1,4 @@
--- Why a store doesn't do what it is asked.
+-- Why a store refuses a call.
 use Rattle.faults.specs.Told.{of_input, of_machine}
 use Rattle.faults.specs.declared.any.AnyFault.{AnyFault}
 use Rattle.bureau_store.specs.declared.fault.StoreFault.{StoreFault}

@@ -1,5 +1,4 @@
--- The tables of the bureau. Each is a function of the name of the one whom it belongs to, so that what
--- others have is no part of it.
+-- The tables of the bureau. Each is a function of its owner's name, so that it has nothing of what others have.
 use Rattle.std.specs.Prelude.{ℕ, List, [], Option, Some, None}
 use Rattle.std.specs.Cmp.Lexicographic.{slice_cmp}
 use Rattle.std.specs.List.Sorted.{IsStrictlySortedBy}
@@ -30,11 +29,11 @@ pub record LastChange : Type 0 where
 pub record Tables : Type 0 where
   -- who may call, each with a token
   pub callers : List CallerRow
-  -- what is published
+  -- the published content
   pub content : Content
-  -- of each caller
+  -- the last change of each caller
   pub last : Caller → LastChange
-  -- of each client, by its name
+  -- the zones of each client, by its name
   pub zones : List ℕ → Zones
   pub received : List ℕ → List (List ℕ)
 
@@ -42,7 +41,7 @@ pub record Tables : Type 0 where
 abbrev pub no_change : LastChange
 no_change = record { number = 0; reply = [] }
 
--- a store that is new: there are callers, and nothing else
+-- a new store: it has callers, and nothing else
 abbrev pub opened : List CallerRow → Tables
 opened rows = record {
   callers = rows;
@@ -76,7 +75,8 @@ abbrev pub patterns_of : Option ZoneTable → List (List ℕ)
 patterns_of None = []
 patterns_of (Some table) = table.patterns
 
--- What is published is in order, and so are the names of each client's zones, so that a zone stands there once.
+-- The published content is in order, and so are the names of each client's zones, so that each zone is there
+-- once.
 pub record AreInOrder (tables : Tables) : Type 0 where
   pub content : catalogue.IsInOrder tables.content
   pub zones : (client : List ℕ) → NamesAscend (keys_of (tables.zones client))

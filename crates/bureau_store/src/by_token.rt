@@ -1,4 +1,4 @@
-//! Who calls: the callers by their tokens.
+//! The callers by their tokens.
 ghost use Rattle.std.specs.Prelude.{◌≡◌, List, ◌∷◌, IfOk, OnOk};
 ghost use Rattle.bureau_store.specs.Caller.{caller_named};
 ghost use Rattle.bureau_store.specs.Kept.{KnowsTokens};
@@ -11,7 +11,7 @@ use mcs_reader::Id;
 use std::alloc::Global;
 use std::collections::BTreeMap;
 
-/// The rows of callers once more.
+/// Copies the rows of callers.
 pub(crate) fn copy_rows(alloc: Global, rows: &[CallerRow]) -> Result<Vec<CallerRow>, NoMemory>
     ensures { IfOk result (λ copy. copy.items ≡ rows.now) }
 {
@@ -41,7 +41,7 @@ pub(crate) fn callers_by_token(
     Ok(by_token)
 }
 
-// Puts a caller before those that are known.
+// Puts a caller in place of one with the same token.
 fn put_token(by_token: &mut BTreeMap<Vec<u8>, Caller>, row: &CallerRow) -> Result<(), NoMemory>
     ensures { OnOk result ((rows : List CallerRow)
         → KnowsTokens (λ text. text.items) by_token.old.entries rows

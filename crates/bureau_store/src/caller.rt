@@ -1,4 +1,4 @@
-//! Who calls.
+//! The publisher and the clients.
 ghost use Rattle.std.specs.Prelude.{◌≡◌, IfOk};
 ghost use Rattle.bureau_store.specs.Caller.{name_text};
 
@@ -9,7 +9,7 @@ use std::marker::Model;
 /// Who calls: the publisher of SYSMODs and holds, or a client with zones of its own.
 #[derive(Clone, Copy, Debug, PartialEq, Eq)]
 pub enum Caller {
-    /// The one on whose statements all clients' reports stand.
+    /// The publisher, on whose statements all clients' reports rest.
     Publisher,
     /// A client, by its name, which isn't `PUBLISH`.
     Client(Id),
@@ -27,7 +27,7 @@ impl Caller {
     }
 }
 
-/// The token by which a caller is known. A contract sees its bytes.
+/// The token that identifies a caller. A contract sees its bytes.
 #[derive(Debug, Drop)]
 pub struct Token {
     text: Vec<u8>,
@@ -42,7 +42,7 @@ impl Model for Token {
 }
 
 impl Token {
-    /// The token of these bytes. It takes no memory.
+    /// The token of these bytes.
     pub fn new(bytes: Vec<u8>) -> Token
         ensures { result ≡ bytes.items }
     {
@@ -56,14 +56,14 @@ impl Token {
         self.text.as_slice()
     }
 
-    /// Gives the bytes back. It takes no memory.
+    /// Returns the bytes.
     pub fn into_vec(self) -> Vec<u8>
         ensures { result.items ≡ self }
     {
         self.text
     }
 
-    /// The same token once more.
+    /// Copies the token.
     pub fn copy(&self) -> Result<Token, NoMemory>
         ensures { IfOk result (λ copy. copy ≡ self.now) }
     {
@@ -72,7 +72,7 @@ impl Token {
     }
 }
 
-/// A row of the callers file: a caller's name, of which `PUBLISH` is the publisher's, and its token.
+/// A row of the callers file: a caller's name, which is `PUBLISH` for the publisher, and its token.
 #[derive(Debug, Drop)]
 pub struct CallerRow {
     /// The name.

@@ -24,7 +24,7 @@ use std::alloc::Global;
 use std::collections::{BTreeMap, BTreeSet};
 use zone_lists::{Entries, ListFault, are_names, read_list, two_fields};
 
-/// How many records a callers file may have after its header.
+/// The most records that a callers file may have after its header.
 pub const CALLER_RECORDS: u32 = 10_000;
 
 /// The callers of a file of which the header is `NAME,TOKEN` and each record an id and a token of 8 to
@@ -78,7 +78,7 @@ pub(crate) fn is_publisher(name: &Id) -> bool
     }
 }
 
-// The callers that came so far: tokens by name, and all tokens.
+// The callers that were read so far: tokens by name, and all tokens.
 #[derive(Drop)]
 struct Gathered {
     alloc: Global,
@@ -119,7 +119,7 @@ impl Entries for Gathered {
     }
 }
 
-// Puts a caller to those before it, unless its name or its token came before.
+// Adds a caller, unless its name or its token came before.
 fn put_caller(
     names: &mut BTreeMap<Id, Token>,
     tokens: &mut BTreeSet<Vec<u8>>,

@@ -13,14 +13,14 @@ use mcs_reader::Id;
 use std::alloc::Global;
 use std::collections::BTreeMap;
 
-/// What is kept for the client of this name, if anything is.
+/// The tables of the client of this name, if it has any.
 pub(crate) fn client_of<'a>(clients: &'a BTreeMap<Id, Client>, name: &Id) -> Option<&'a Client>
     ensures { unwrap_or (option_copied result) nothing_sent ≡ client_in clients.now.entries name.now }
 {
     clients.get(name)
 }
 
-/// Makes a change of one client's. If memory runs out, all clients have what they had.
+/// Makes a change for one client. If memory runs out, all clients have what they had.
 pub(crate) fn make_for(
     alloc: Global,
     clients: &mut BTreeMap<Id, Client>,

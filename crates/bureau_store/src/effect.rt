@@ -1,9 +1,9 @@
-//! What a change does to the tables.
+//! The effect of a change on the tables.
 use catalogue::Change;
 use mcs_reader::Id;
 use zone_lists::{Pattern, ZoneRow};
 
-/// What a change does to the tables, in the caller's own lists.
+/// The effect of a change on the tables, in the caller's own lists.
 #[derive(Clone, Copy)]
 pub enum Effect<'a> {
     /// The publisher publishes these changes.
@@ -21,7 +21,7 @@ pub enum Effect<'a> {
         client: &'a Id,
         zone: &'a Id,
     },
-    /// A client's list of received SYSMODs is this one.
+    /// A client's list of received SYSMODs becomes this one.
     ReceivedPut {
         client: &'a Id,
         ids: &'a [Id],

@@ -7,19 +7,19 @@ use std::alloc::AllocFailed;
 use thiserror::Error;
 use zone_lists::ListFault;
 
-/// Why a store doesn't do what it is asked.
+/// Why a store refuses a call.
 #[derive(Clone, Copy, Debug, PartialEq, Eq, Error)]
 pub enum StoreFault {
     /// Memory ran out.
     #[error("memory ran out")]
     Memory,
-    /// The device below failed, or has rows that no change makes. From then on every call is answered so.
+    /// The device below failed, or has rows that no change makes. From then on every call is refused so.
     #[error("the device of the store failed")]
     Device,
     /// The device has no room for more.
     #[error("the store is full")]
     Size,
-    /// The file has no tables of a store, or has some if there are to be none.
+    /// The file has no tables of a store, or has some although there are to be none.
     #[error("the file isn't a store as it is wanted")]
     Shape,
     /// The store was made by another version of this product.
@@ -70,7 +70,7 @@ pub enum CallerFault {
     /// The first record isn't `NAME,TOKEN`, or there is no record at all.
     #[error("the header of the callers file is missing or another one")]
     CallerHeader,
-    /// The record hasn't two fields, a name and a token, or one of them came before, or it is one too many.
+    /// The record hasn't two fields, a name and a token; or one of them came before; or it is one too many.
     #[error("record {0}: no caller with a name and a token of its own")]
     BadCaller(u32),
     /// None of the callers is `PUBLISH`.
@@ -84,7 +84,7 @@ pub enum CallerFault {
 impl Fault for CallerFault {
     ghost told = { callers.told };
 
-    /// Its number is from 46 to 49, and its place the number of the record that is no caller.
+    /// Its number is from 46 to 49, and its place is the number of the record that is no caller.
     fn told(self) -> AnyFault {
         match self {
             CallerFault::CallerHeader => AnyFault::of_input(46),

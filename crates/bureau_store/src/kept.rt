@@ -1,4 +1,4 @@
-//! What is kept for one caller.
+//! The tables of one client.
 ghost use Rattle.std.specs.Prelude.{◌≡◌, length, IfOk, OnOk, OnErr, option_copied};
 ghost use Rattle.std.specs.Map.{keys_of};
 ghost use Rattle.zone_lists.specs.ZoneList.{RowsAscend};
@@ -40,7 +40,7 @@ impl Last {
         Last { number, reply }
     }
 
-    /// The number and the reply once more.
+    /// Copies the number and the reply.
     pub(crate) fn to_pair(&self) -> Result<(u64, Vec<u8>), NoMemory>
         ensures { IfOk result (λ pair. record { number = pair.0; reply = pair.1.items } ≡ self.now) }
     {
@@ -80,7 +80,7 @@ impl Zone {
         Zone { rows, patterns }
     }
 
-    /// How many rows it has.
+    /// The number of its rows.
     pub(crate) fn row_count(&self) -> u64
         ensures { result ≡ length self.now.rows }
     {
@@ -104,7 +104,7 @@ impl Zone {
     }
 }
 
-/// What is kept for a client.
+/// The tables of a client.
 #[derive(Drop)]
 pub(crate) struct Client {
     alloc: Global,
@@ -161,7 +161,7 @@ impl Client {
         &self.zones
     }
 
-    /// What it has received.
+    /// The SYSMODs that it has received.
     pub(crate) fn received(&self) -> &[Id]
         ensures value { result.now ≡ self.now.received }
         ensures ascend { Ascend self.now.received }
@@ -169,7 +169,7 @@ impl Client {
         self.received.as_slice()
     }
 
-    /// Makes a change, which is the client's last from now on. If memory runs out, all is as it was.
+    /// Makes a change, which becomes the client's last. If memory runs out, all is as it was.
     pub(crate) fn make(&mut self, effect: &Effect<'_>, last: Last) -> Result<(), NoMemory>
         requires { IsAscending effect.now }
         ensures done { OnOk result (self.new ≡ client_after (effect_as effect.now) last self.old) }
@@ -228,7 +228,7 @@ impl Client {
         self.put_table(*zone, Zone::new(rows, patterns), last)
     }
 
-    // Puts all that a zone has.
+    // Puts the rows and patterns of a zone.
     fn put_table(&mut self, name: Id, zone: Zone, last: Last) -> Result<(), NoMemory>
         ensures done { OnOk result (self.new ≡ with_zone name zone last self.old) }
         ensures err { OnErr result (self.new ≡ self.old) }
@@ -247,7 +247,7 @@ pub(crate) fn zone_of<'a>(zones: &'a BTreeMap<Id, Zone>, zone: &Id) -> Option<&'
     zones.get(zone)
 }
 
-// The patterns of a zone, once more.
+// Copies the patterns of a zone.
 fn patterns_kept(
     alloc: Global,
     zones: &BTreeMap<Id, Zone>,
@@ -262,7 +262,7 @@ fn patterns_kept(
     }
 }
 
-/// Patterns once more.
+/// Copies patterns.
 pub(crate) fn copy_patterns(alloc: Global, patterns: &[Pattern]) -> Result<Vec<Pattern>, NoMemory>
     ensures { IfOk result (λ copy. copy.items ≡ patterns.now) }
 {
@@ -273,7 +273,7 @@ pub(crate) fn copy_patterns(alloc: Global, patterns: &[Pattern]) -> Result<Vec<P
     Ok(copy)
 }
 
-// The rows of a zone, once more.
+// Copies the rows of a zone.
 fn rows_kept(alloc: Global, zones: &BTreeMap<Id, Zone>, zone: &Id) -> Result<Vec<ZoneRow>, NoMemory>
     ensures rows { IfOk result (λ rows. rows.items ≡ rows_at zone.now zones.now.entries) }
     ensures ascend { IfOk result (λ rows. RowsAscend rows.items) }

@@ -1,13 +1,13 @@
-//! What the bureau keeps: the published content, and for each caller what that caller sent.
+//! The store: the published content, and for each caller what that caller sent.
 //!
-//! - [`Store`]: what every layer above keeps and reads all of it by, whether in lists or in a file
-//! - [`Effect`]: what a change does to what is kept
+//! - [`Store`]: how every layer above keeps and reads all of it, in lists or in a file
+//! - [`Effect`]: what a change does to the tables
 //! - [`ListStore`]: the store in lists
-//! - [`Caller`], [`CallerRow`], [`Token`]: who calls, and by which token a caller is known
-//! - [`callers`]: reads the file of them; [`CALLER_RECORDS`]: how many it may have
-//! - [`callers_that_change`]: who comes and who is gone with another file; [`CallerCounts`]: how many
-//! - [`StoreFault`], [`CallerFault`]: why a store doesn't do what it is asked, and why no callers file is read;
-//!   [`NoMemory`]: memory ran out
+//! - [`Caller`], [`CallerRow`], [`Token`]: who calls, and the token that identifies a caller
+//! - [`callers`]: reads the callers file; [`CALLER_RECORDS`]: the most callers that it may have
+//! - [`callers_that_change`]: the callers that come and that are gone with another file; [`CallerCounts`]: the
+//!   numbers of them
+//! - [`StoreFault`], [`CallerFault`]: why a store or a callers file is refused; [`NoMemory`]: memory ran out
 //!
 //! ```
 //! use bureau_store::{Caller, ListStore, Store, callers};

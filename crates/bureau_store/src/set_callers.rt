@@ -1,4 +1,4 @@
-//! Which callers come with a callers file, and which are gone.
+//! The callers that come with a callers file, and those that are gone.
 ghost use Rattle.std.specs.Prelude.{◌≡◌, List, ◌∷◌, false, map, filter, not, is_some, IfOk, OnOk};
 ghost use Rattle.std.specs.BTreeMap.{get};
 ghost use Rattle.std.specs.Cmp.Lexicographic.{slice_cmp};
@@ -15,21 +15,21 @@ use mcs_reader::Id;
 use std::alloc::Global;
 use std::collections::BTreeMap;
 
-/// How a store's callers are others than before.
+/// The difference between a store's callers and those before.
 #[derive(Clone, Copy, Debug, PartialEq, Eq)]
 pub struct CallerCounts {
-    /// How many callers there are.
+    /// The number of callers.
     pub callers: u64,
-    /// How many of them are new.
+    /// The number of them that are new.
     pub added: u64,
-    /// How many there were before that are gone.
+    /// The number of earlier callers that are gone.
     pub removed: u64,
-    /// How many stay and have another token.
+    /// The number of callers that stay and have another token.
     pub tokens: u64,
 }
 
-/// The names of all callers that come or go if these are the callers before and after: those that come, and then
-/// those that are gone. And how many they are.
+/// Returns the names of all callers that come or go if these are the callers before and after: first those that
+/// come, and then those that are gone. It also counts them.
 ///
 /// # Errors
 ///
@@ -69,7 +69,7 @@ fn tokens_by_name(alloc: Global, rows: &[CallerRow]) -> Result<BTreeMap<Id, Toke
     Ok(by_name)
 }
 
-// Puts a caller before those that are known.
+// Puts a caller in place of one with the same name.
 fn put_name(by_name: &mut BTreeMap<Id, Token>, row: &CallerRow) -> Result<(), NoMemory>
     ensures { OnOk result ((rows : List CallerRow)
         → KnowsNames by_name.old.entries rows → KnowsNames by_name.new.entries (row.now ∷ rows)) }
@@ -94,7 +94,7 @@ fn names_beside(
         .collect(alloc)
 }
 
-// How many rows have another token than the caller of that name in a map.
+// The number of rows that have another token than the caller of that name in a map.
 fn new_tokens(rows: &[CallerRow], by_name: &BTreeMap<Id, Token>) -> usize
     ensures { result ≡ count_by (λ row. unwrap_or (option_map (λ token. not (bytes_eq token row.token))
         (get (slice_cmp nat_cmp) by_name.now row.name)) false) rows.now }

@@ -1,4 +1,4 @@
-//! Where all that the bureau keeps is kept.
+//! The store of all that the bureau keeps.
 ghost use Rattle.std.specs.Prelude.{◌≡◌, ◌≤◌, length, map, nat_lt, option_map, IfErr, IfOk, IfSome, is_some};
 ghost use Rattle.holddata.specs.HoldBook.{IsInKeyOrder};
 ghost use Rattle.zone_lists.specs.ZoneList.{RowsAscend};
@@ -21,25 +21,27 @@ use zone_lists::{Pattern, ZoneRow};
 
 /// All that the bureau keeps, in lists or in a file.
 ///
-/// Reads leave the tables as they are, and a list of what isn't there is empty. Each change replaces what it names
-/// whole and sets the caller's last number and reply, at once; refused, the tables are unchanged. What a change does is
-/// said if it is due: one of the callers makes it, with that caller's next number, and the zone that it names is there.
-/// What is told of the tables is told if the file was this product's own as the call began and the disk has returned
-/// what was written, up to the call's end; of lists that is always true. Lists ascend in any case, each entry once.
+/// Reads leave the tables as they are, and return an empty list of what isn't there. A change replaces what it names
+/// whole, and sets the caller's last number and reply, both at once. A refused change leaves the tables as they were.
+/// Contracts say what a change does if it is due: one of the callers makes it, with that caller's next number, and the
+/// zone that it names is there. They say what a call tells if the file was this product's own as the call began, and if
+/// the disk has returned what was written, up to the call's end. Of lists that is always true. Lists ascend in any
+/// case, each entry once.
 ///
 /// # Errors
 ///
 /// `Memory` if memory ran out; `Device` if the device failed, now or before; of a change alone, `Size` if there was no
 /// room for it on the device. A refused call changes nothing.
 pub trait Store: Published {
-    /// How the store is looked at, with all its tables.
+    /// The view of the store, with all its tables.
     ghost tables_view: { View Self Tables };
 
-    /// Between these two, the change has outgrown the device: there was no room on it. In lists that never is.
+    /// Between these two states the change has outgrown the device: there was no room on it. In lists that never
+    /// happens.
     ghost outgrown: { Update → Self → Self → Type 0 };
 
-    /// Between these two, the change is refused with this fault: what each store says of it beyond what all do.
-    /// Lists refuse a change for want of memory alone.
+    /// Between these two states the change is refused with this fault: what each store says of it beyond what all do.
+    /// Lists refuse a change only for want of memory.
     ghost refuses: { Update → Self → Self → StoreFault → Type 0 };
 
     /// Whether the device has failed since the store was made. From then on every call is refused so. It takes no
@@ -54,21 +56,21 @@ pub trait Store: Published {
             (λ tables. found ≡ caller_with tables.callers token.now)) }
         ensures proper { IfOk result (λ found. IfSome found IsProper) };
 
-    /// The number of the caller's last change and the reply that is kept for it: 0 and nothing before the first.
+    /// The number of the caller's last change and the reply that is kept for it: 0 and an empty reply before the first.
     fn last(&mut self, caller: &Caller) -> Result<(u64, Vec<u8>), StoreFault>
         requires { IsProper caller.now }
         ensures reads { Reads tables_view self.old self.new result }
         ensures last { IfOk result (λ last. Tells tables_view self.old self.new
             (λ tables. record { number = last.0; reply = last.1.items } ≡ tables.last caller.now)) };
 
-    /// How many SYSMODs are catalogued and how many holds the book has.
+    /// The number of SYSMODs that are catalogued, and of holds in the book.
     fn counts(&mut self) -> Result<(u64, u64), StoreFault>
         ensures reads { Reads tables_view self.old self.new result }
         ensures counts { IfOk result (λ counts. Tells tables_view self.old self.new
             (λ tables. (counts.0 ≡ length tables.content.sysmods)
             × (counts.1 ≡ length tables.content.holds))) };
 
-    /// The zones of a client, ascending by name, each with how many SYSMODs its list has.
+    /// The zones of a client, ascending by name, each with the number of its rows.
     fn zones(&mut self, client: &Id) -> Result<Vec<(Id, u64)>, StoreFault>
         requires { IsProper (Client client.now) }
         ensures reads { Reads tables_view self.old self.new result }
@@ -77,7 +79,7 @@ pub trait Store: Published {
         ensures ascend { IfOk result
             (λ zones. NamesAscend (map (λ zone. zone.0) zones.items)) };
 
-    /// How many zones a client has.
+    /// The number of zones that a client has.
     fn zone_count(&mut self, client: &Id) -> Result<u64, StoreFault>
         requires { IsProper (Client client.now) }
         ensures reads { Reads tables_view self.old self.new result }
@@ -125,7 +127,7 @@ pub trait Store: Published {
             ≡ held_in tables.content (rows_of (zone_named zone.now (tables.zones client.now))) kind)) }
         ensures in_key_order { IfOk result (λ holds. IsInKeyOrder holds.items) };
 
-    /// Makes a change with this effect. Its number and reply are kept as the last of whoever makes it.
+    /// Makes a change with this effect. Its number and reply are kept as its caller's last.
     fn make(&mut self, number: u64, reply: &[u8], effect: &Effect<'_>) -> Result<(), StoreFault>
         requires maker { IsProper (maker_of effect.now) }
         requires number { number ≤ greatest_number }
@@ -240,17 +242,17 @@ pub trait Store: Published {
         self.make(number, reply, &effect)
     }
 
-    /// What the view keeps to.
+    /// The laws of the view.
     ghost tables_lawful: { IsLawful tables_view };
 
-    /// What is published is part of the tables.
+    /// The published content is part of the tables.
     ghost shows_content: { AreOfOneStore Self.Published.content_view tables_view };
 
     /// A store that this product made, and whose device never failed, holds some tables.
     ghost holds_tables: { (store : Self) → tables_view.is_ours store → IsOpen tables_view store
         → (tables : Tables) × tables_view.stands store tables };
 
-    /// In a store that this product made, what is published and each client's zones are in order.
+    /// If this product made a store, its published content and each client's zones are in order.
     ghost tables_in_order: { (store : Self) (tables : Tables)
         → tables_view.is_ours store → IsOpen tables_view store → tables_view.stands store tables
         → AreInOrder tables };

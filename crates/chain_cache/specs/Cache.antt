@@ -1,4 +1,4 @@
--- Kept frames. An entry is an id with its frame; the one that was used last stands first.
+-- Kept frames. An entry is an id with its frame. The one that was used last stands first.
 use Rattle.std.specs.Prelude.{◌⊎◌, [], ◌≡◌, ◌≤◌, ◌+◌, ◌-◌, ◌++◌, ℕ, Bool, true, false, List, ◌∷◌, Contains, IfSome, IsSome, None, Option, Some, filter, is_some, length, min, not, slice_get, take}
 use Rattle.std.specs.Map.{lookup}
 use Rattle.lru.specs.LruCache.{promoted}
@@ -15,7 +15,8 @@ pub record ZoneSurvey : Type 0 where
   pub rows : List ZoneRow
   pub survey : SurveyLists
 
--- what is kept of the whole catalogue: what was read of it, if it was, the ids that were touched since, and zones with their surveys
+-- the parts on the whole catalogue: the listing, if it was read, the ids that were touched since, and zones with their
+-- surveys
 pub record SurveyedLists : Type 0 where
   pub listing : Option ListingLists
   pub marks : List (List ℕ)
@@ -29,7 +30,7 @@ pub record IsFresh (surveys : SurveyedLists) : Type 0 where
   pub listed : IsSome surveys.listing
   pub unmarked : surveys.marks ≡ []
 
--- What a publication leaves of it: what was read, where what it touches is marked; or nothing. Surveys go.
+-- What a publication leaves of these: the listing, in which the touched ids are marked; or nothing. Surveys go.
 abbrev pub MayBeMarked : List (List ℕ) → SurveyedLists → SurveyedLists → Type 0
 MayBeMarked ids old new = (new ≡ record { listing = old.listing; marks = old.marks ++ ids; zones = [] }) ⊎ (new ≡ nothing_surveyed)
 
@@ -37,7 +38,8 @@ MayBeMarked ids old new = (new ≡ record { listing = old.listing; marks = old.m
 abbrev pub AreFew : SurveyedLists → Type 0
 AreFew surveys = length surveys.zones ≤ 16
 
--- what is kept: frames, for how many of them there is room, how many were put so far, and what is kept of the whole catalogue
+-- the whole cache: frames, the number of them for which there is room, the number of frames that were put so far, and the
+-- parts on the whole catalogue
 pub record CacheLists : Type 0 where
   pub entries : List (List ℕ × FrameLists)
   pub capacity : ℕ
@@ -56,12 +58,12 @@ has entries id = is_some (lookup (same_id id) entries)
 pub record AreFrames (content : Content) (entries : List (List ℕ × FrameLists)) : Type 0 where
   pub each : (id : List ℕ) (frame : FrameLists) → Contains entries (id, frame) → IsFrame content id frame
 
--- what was read is what a content has, but for what is marked, and each survey is that of its zone over the content
+-- the listing is that of a content but for marked ids, and each survey is that of its zone over the content
 pub record AreSurveys (content : Content) (surveys : SurveyedLists) : Type 0 where
   pub listing : IfSome surveys.listing (IsListingBut content surveys.marks)
   pub each : (kept : ZoneSurvey) → Contains surveys.zones kept → IsSurvey content kept.rows kept.survey
 
--- what is kept is true of a content
+-- all that the cache keeps is true of a content
 pub record IsRightFor (cache : CacheLists) (content : Content) : Type 0 where
   pub frames : AreFrames content cache.entries
   pub surveys : AreSurveys content cache.surveys
@@ -79,13 +81,13 @@ after_miss id frame cache = record {
   surveys = cache.surveys;
 }
 
--- What asking for the frame of an id leaves. The frame stands first afterwards.
+-- What a call for the frame of an id leaves. The frame stands first afterwards.
 pub record IsFilled (id : List ℕ) (frame : FrameLists) (old new : CacheLists) : Type 0 where
   pub hit : has old.entries id ≡ true → new ≡ after_hit id old
   pub miss : has old.entries id ≡ false → new ≡ after_miss id frame old
   pub first : slice_get new.entries 0 ≡ Some (id, frame)
 
--- what asking for the frame of an id may leave: that, or all as it was
+-- what a call for the frame of an id may leave: that, or all as it was
 abbrev pub MayBeFilled : List ℕ → CacheLists → CacheLists → Type 0
 MayBeFilled id old new = (new ≡ old) ⊎ ((frame : FrameLists) × IsFilled id frame old new)
 
@@ -95,13 +97,13 @@ pub record KeepsFrames (old new : CacheLists) : Type 0 where
   pub capacity : new.capacity ≡ old.capacity
   pub built : new.built ≡ old.built
 
--- What a verdict leaves of the frames. One that is kept is used and stands first afterwards. Else one may be built and put,
--- or all stays: if a survey answers.
+-- What a verdict leaves of the frames. One that is kept is used, and stands first afterwards. Else one may be built and put;
+-- or all stays as it was, if a survey answers.
 pub record IsAsked (id : List ℕ) (old new : CacheLists) : Type 0 where
   pub hit : has old.entries id ≡ true → new ≡ after_hit id old
   pub filled : MayBeFilled id old new ⊎ KeepsFrames old new
 
--- what asking for the frames of some ids leaves, one after the other
+-- what calls for the frames of some ids leave, one after the other
 abbrev pub AreFilled : List (List ℕ) → CacheLists → CacheLists → Type 0
 AreFilled [] old new = new ≡ old
 AreFilled (id ∷ ids) old new = (between : CacheLists) × (frame : FrameLists) × IsFilled id frame old between × AreFilled ids between new

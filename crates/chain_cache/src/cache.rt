@@ -1,4 +1,4 @@
-//! `ChainCache`.
+//! The cache of frames and surveys.
 ghost use Rattle.std.specs.Prelude.{◌≡◌, ◌<◌, ◌≤◌, [], ℕ, true, false, IfOk, IsSome, OnOk, OnErr, Some, length, map, option_map, slice_get, take};
 ghost use Rattle.std.specs.Borrow.{sem};
 ghost use Rattle.std.specs.Map.Iter.{ShowsInOrder, deref_pair};
@@ -31,17 +31,17 @@ use verdicts::{Judge, Status, Verdict};
 /// Frames by their ids, the one that was used last first.
 pub(crate) type Frames = LruCache<Id, Frame, RandomState>;
 
-/// How many nodes a frame has at most that is kept for a chain.
+/// The most nodes of a frame that is kept for a chain.
 pub(crate) const NODES_MOST: usize = 256;
 
-/// Judges from frames, of which it keeps those that were used last. All callers share them: a frame names no
-/// zone and no client.
+/// Judges from frames, and keeps those that were used last. All callers share them: a frame names no zone and no
+/// client.
 ///
-/// A SYSMOD that reaches far has a large frame. So if a chain has more than 256 nodes, or a report many SYSMODs, the
-/// zone is looked over whole. What is catalogued is read once for that, whatever the zone. It is kept over
-/// publications: what these touch is marked, and read anew before the next survey. Candidates are found in it, and the
-/// source is asked for what is marked; if they are asked for of many SYSMODs, it is read first. The surveys of up to 16
-/// zones are kept until the next publication.
+/// A SYSMOD that reaches far has a large frame. So if a chain has more than 256 nodes, or a report has many SYSMODs,
+/// the cache looks over the whole zone. For that it reads once what is catalogued, whatever the zone. It keeps this
+/// listing over publications: it marks the ids that they touch, and reads them anew before the next survey. It finds
+/// candidates in the listing, and asks the source for ids that are marked. If many SYSMODs are asked for, it reads the
+/// listing first. It keeps the surveys of up to 16 zones until the next publication.
 #[derive(Debug, Drop)]
 pub struct ChainCache {
     frames: Frames,
@@ -65,8 +65,8 @@ impl Model for ChainCache {
 }
 
 impl ChainCache {
-    /// A cache with room for so many frames. It keeps none yet, so it is right for every content. Clients choose
-    /// the ids by which frames are looked up, so the hasher has random keys.
+    /// A cache with room for so many frames. It keeps none yet, so it is right for every content. Clients choose the
+    /// ids by which it looks frames up, so the hasher has random keys.
     ///
     /// # Errors
     ///
@@ -91,14 +91,14 @@ impl ChainCache {
         })
     }
 
-    /// How many frames were put so far. The count stays at its greatest number.
+    /// The number of frames that were put so far. The count stays at its greatest number.
     pub fn built(&self) -> u64
         ensures { result ≡ self.now.built }
     {
         self.built
     }
 
-    /// What is kept, each frame with its id, in its order.
+    /// The frames that are kept, each with its id, in their order.
     pub fn iter(&self) -> Iter<'_, Id, Frame>
         ensures rest { result ≡ self.now.entries }
         ensures runs { ShowsInOrder (deref_pair {K = Id} {X = Frame}) }
@@ -106,12 +106,12 @@ impl ChainCache {
         self.frames.iter()
     }
 
-    /// The frame of a SYSMOD, which need not be catalogued: the one that is kept, or else one that is built and
-    /// put. It stands first afterwards.
+    /// Returns the frame of a SYSMOD, catalogued or not: the one that is kept, or else one that is built and put. It
+    /// stands first afterwards.
     ///
     /// # Errors
     ///
-    /// `Memory` if memory ran out, `Device` if the source failed. What is kept is as it was.
+    /// `Memory` if memory ran out, `Device` if the source failed. The cache is as it was.
     pub fn frame_for<P: Published>(
         &mut self,
         alloc: Global,
@@ -130,7 +130,7 @@ impl ChainCache {
         }
     }
 
-    // Sees to it that the frame of an id is kept and stands first.
+    // Makes the frame of an id stand first: the one that is kept, or else one that is built.
     fn fill<P: Published>(
         &mut self,
         alloc: Global,
@@ -150,8 +150,8 @@ impl ChainCache {
         Ok(self.put(id, built)?)
     }
 
-    /// The same, if the frame is kept or has at most so many nodes. Whether it stands first then; else all is as it
-    /// was.
+    /// The same, if the frame is kept or has at most so many nodes. Returns whether it stands first then; else all is
+    /// as it was.
     pub(crate) fn fill_small<P: Published>(
         &mut self,
         alloc: Global,
@@ -180,7 +180,7 @@ impl ChainCache {
         }
     }
 
-    // Sees to it that the frame of an id stands first, if it is kept. Whether it is.
+    // Makes the frame of an id stand first, if it is kept. Returns whether it is.
     fn use_kept(&mut self, id: &Id) -> bool
         ensures kept { result ≡ has self.old.entries id.now }
         ensures hit { result ≡ true → self.new ≡ after_hit id.now self.old }
@@ -192,7 +192,7 @@ impl ChainCache {
         self.frames.promote(id)
     }
 
-    // Puts the frame of an id of which none is kept. It stands first then.
+    // Puts the frame of an id that has none. It stands first then.
     fn put(&mut self, id: &Id, built: Frame) -> Result<(), NoMemory>
         requires { has self.now.entries id.now ≡ false }
         ensures filled { OnOk result (IsFilled id.now built self.old self.new) }
@@ -205,7 +205,7 @@ impl ChainCache {
         Ok(())
     }
 
-    /// How many nodes the frame has that stands first.
+    /// The number of nodes of the frame that stands first.
     pub(crate) fn first_len(&self) -> usize {
         match self.frames.peek_mru() {
             Some((_, frame)) => frame.nodes().len(),
@@ -233,7 +233,7 @@ impl ChainCache {
 }
 
 impl ChainCache {
-    // The verdict by a survey of the zone, which is kept.
+    // The verdict by a survey of the zone, which it keeps.
     fn verdict_by_survey<P: Published>(
         &mut self,
         alloc: Global,
@@ -263,7 +263,7 @@ impl<P: Published> Judge<P> for ChainCache {
 
     ghost is_right = { IsRightFor };
 
-    // From the frame, if it is kept or small; else from a survey of the zone.
+    // By the frame, if it is kept or small; else by a survey of the zone.
     fn verdict(
         &mut self,
         alloc: Global,
@@ -293,8 +293,8 @@ impl<P: Published> Judge<P> for ChainCache {
         self.verdict_by_survey(alloc, source, zone, id)
     }
 
-    // From a survey of the zone if one is kept, else from frames, while these are small. If they are large, the
-    // candidates of a report mostly share them, and one pass over the catalogue costs less than a frame for each.
+    // By a survey of the zone if one is kept, else by frames while these are small. If they are large, the candidates
+    // of a report mostly share them, and one pass over the catalogue costs less than a frame for each.
     fn statuses(
         &mut self,
         alloc: Global,
@@ -374,8 +374,7 @@ impl<P: Published> Judge<P> for ChainCache {
         }
     }
 
-    // From what is kept of the catalogue. If many are asked for, it is read first: the statuses that follow mostly need
-    // it.
+    // In the listing. If many are asked for, it is read first: the statuses that follow mostly need it.
     fn candidates(
         &mut self,
         alloc: Global,

@@ -1,4 +1,4 @@
-//! How frames are dropped.
+//! Dropping frames that a publication touches.
 ghost use Rattle.std.specs.Prelude.{◌≡◌, ◌++◌, ◌∷◌, ℕ, List, [], IfSome, option_map, true};
 ghost use Rattle.std.specs.List.{IsDistinct};
 ghost use Rattle.std.specs.Map.{keys_of};
@@ -12,7 +12,7 @@ use chains::touches;
 use mcs_reader::Id;
 use verdicts::do_ascend;
 
-/// Takes out the frames that have one of these ids. The others stay, in their order. It takes no memory.
+/// Takes out the frames that have one of these ids. The others stay, in their order.
 pub(crate) fn drop_among(frames: &mut Frames, ids: &[Id])
     ensures { frames.new ≡ lru_cache (untouched ids.now frames.old.entries) frames.old.cap }
 {
@@ -22,7 +22,7 @@ pub(crate) fn drop_among(frames: &mut Frames, ids: &[Id])
     }
 }
 
-// Takes out the last frame if it has one of these ids, and puts it first if it has none.
+// Removes the last frame if it has one of these ids, and else puts it first.
 fn turn(frames: &mut Frames, ids: &[Id], ascending: bool)
     requires { ascending ≡ true → Ascend ids.now }
     ensures cap { frames.new.cap ≡ frames.old.cap }

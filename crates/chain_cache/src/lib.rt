@@ -1,7 +1,7 @@
 //! Frames that are kept, so that a chain needs no walk over the catalogue. All callers share one bounded cache of
-//! them: a frame names no zone and no client. If frames are large, surveys of zones are kept in their place.
+//! them: a frame names no zone and no client. If frames are large, the cache keeps surveys of zones instead.
 //!
-//! - [`ChainCache`]: judges from the frames that it keeps, of which the one used last stands first, and from surveys
+//! - [`ChainCache`]: judges from the frames that it keeps, the one used last first, and from surveys
 //!
 //! ```
 //! // what isn't named here is of catalogue, mcs_reader, supersede, zone_lists and std::hash

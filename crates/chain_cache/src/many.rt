@@ -17,14 +17,14 @@ use std::collections::BTreeSet;
 use supersede::Zone;
 use verdicts::{Status, listed, put_plan};
 
-// How many nodes more the frames of several SYSMODs may have for each of them.
+// The number of nodes that the frames of several SYSMODs may have for each SYSMOD.
 const NODES_EACH: usize = 8;
 
-// How many SYSMODs may be asked for at once that are judged from frames.
+// The most SYSMODs that are judged from frames at once.
 const FEW: usize = 256;
 
 impl ChainCache {
-    /// Whether SYSMODs are judged by a survey at once: there are many of them, or frames were too large for no more.
+    /// Whether a survey judges SYSMODs at once: they are many, or frames were too large for no more than these.
     pub(crate) fn is_for_survey(&self, ids: &[Id]) -> bool {
         ids.len() > FEW || self.surveys.is_wide(ids.len())
     }
@@ -36,7 +36,7 @@ impl ChainCache {
         self.surveys.put_wide(count);
     }
 
-    /// Reads what is catalogued, if it isn't kept as it is, if many SYSMODs are asked for.
+    /// Reads the listing if many SYSMODs are asked for and it isn't kept or has marks.
     pub(crate) fn read_for_many<P: Published>(
         &mut self,
         alloc: Global,
@@ -53,7 +53,7 @@ impl ChainCache {
         self.surveys.read_if(alloc, source, ids.len() > FEW)
     }
 
-    /// For each SYSMOD which verdict it is, by a survey of the zone, which is kept.
+    /// Gives the status of each SYSMOD, by a survey of the zone, which it keeps.
     pub(crate) fn statuses_by_survey<P: Published>(
         &mut self,
         alloc: Global,
@@ -109,7 +109,7 @@ impl ChainCache {
         Ok(Some(statuses))
     }
 
-    /// All that the chosen plans of some SYSMODs have, ascending, by a survey of the zone, which is kept.
+    /// Finds all members of the chosen plans of some SYSMODs, ascending, by a survey of the zone, which it keeps.
     pub(crate) fn united_by_survey<P: Published>(
         &mut self,
         alloc: Global,

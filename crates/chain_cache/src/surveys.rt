@@ -1,4 +1,4 @@
-//! What is kept of the whole catalogue: what was read of it, and surveys of zones.
+//! The parts of the cache on the whole catalogue: the listing that was read, and surveys of zones.
 ghost use Rattle.std.specs.Prelude.{◌≡◌, ◌<◌, ◌++◌, true, IfOk, Some, IfSome, IsSome, OnOk, Contains, length, map, option_map};
 ghost use Rattle.catalogue.specs.Content.{Content};
 ghost use Rattle.catalogue.specs.Ids.{Ascend, in_order};
@@ -18,10 +18,10 @@ use std::marker::Model;
 use supersede::Zone;
 use verdicts::sort_each_once;
 
-// Of how many zones surveys are kept.
+// The number of zones whose surveys are kept.
 const MOST: usize = 16;
 
-// How many ids are marked at most in what was read. A publication of some hundred SYSMODs touches so many.
+// The most ids that are marked in the listing. A publication of some hundred SYSMODs touches so many.
 const MARKS_MOST: usize = 2048;
 
 /// A zone with its survey.
@@ -53,15 +53,15 @@ impl Surveyed {
     }
 }
 
-/// What is catalogued, if it was read, and surveys of at most so many zones.
+/// The listing, if it was read, and surveys of at most so many zones.
 #[derive(Debug, Drop)]
 pub(crate) struct Surveys {
     listing: Option<Listing>,
-    // What was touched since it was read. Room for it is taken with the listing.
+    // The ids that were touched since the listing was read. Room for them is made with the listing.
     marks: Vec<Id>,
     kept: Vec<Surveyed>,
-    // For how many SYSMODs frames were too large since the last publication, at least; if they were. It says only what
-    // is tried first.
+    // The least number of SYSMODs for which frames were too large since the last publication, if they were. It decides
+    // only what is tried first.
     wide_from: Option<usize>,
 }
 
@@ -78,7 +78,7 @@ impl Model for Surveys {
 }
 
 impl Surveys {
-    /// Nothing yet. It takes no memory.
+    /// Nothing yet.
     pub(crate) fn new(alloc: Global) -> Self
         ensures { result ≡ nothing_surveyed }
     {
@@ -103,7 +103,7 @@ impl Surveys {
         None
     }
 
-    /// Whether what is catalogued is kept, and frames were too large for no more SYSMODs than these.
+    /// Whether a listing is kept, and frames were too large for no more SYSMODs than these.
     pub(crate) fn is_wide(&self, count: usize) -> bool {
         match self.wide_from {
             Some(least) => least <= count && self.listing.is_some(),
@@ -121,8 +121,8 @@ impl Surveys {
         };
     }
 
-    /// For each of some SYSMODs the candidates that give it, as [`candidates_for`] finds them: in what is kept of the
-    /// catalogue. The source is asked for what was touched since it was read, and for all if nothing is kept.
+    /// Finds for each of some SYSMODs the candidates that give it, in the listing (see [`candidates_for`]). It asks the
+    /// source for ids that are marked, and for all if no listing is kept.
     pub(crate) fn candidates<P: Published>(
         &self,
         alloc: Global,
@@ -139,7 +139,7 @@ impl Surveys {
         candidates_for(alloc, source, self.listing(), &marks, zone, ids)
     }
 
-    // What is catalogued, if it is kept: all but what is marked.
+    // The listing, if one is kept: it says all but what is marked.
     #[tactic(auto, using(crate::proofs::SurveyFacts::at_hand_in_order))]
     fn listing(&self) -> Option<&Listing>
         ensures { (content : Content) → AreSurveys content self.now
@@ -148,7 +148,7 @@ impl Surveys {
         self.listing.as_ref()
     }
 
-    /// Reads what is catalogued, if it isn't kept, and what is marked, if it is; and keeps it.
+    /// Reads the listing if none is kept, or else the ids that are marked in it, and keeps it.
     pub(crate) fn read_listing<P: Published>(
         &mut self,
         alloc: Global,
@@ -197,7 +197,7 @@ impl Surveys {
         self.marks = marks;
     }
 
-    // Reads what is marked, and puts it in.
+    // Reads the ids that are marked, and renews the listing.
     fn renew<P: Published>(&mut self, alloc: Global, source: &mut P) -> Result<(), SourceFault>
         requires { IsSome self.now.listing }
         ensures asks { MayAsk P.content_view Device source.old source.new result }
@@ -215,7 +215,7 @@ impl Surveys {
         Ok(())
     }
 
-    // What was touched since it was read, ascending.
+    // The ids that were touched since the listing was read, ascending.
     fn marks_in_order(&self, alloc: Global) -> Result<Vec<Id>, NoMemory>
         ensures ascend { IfOk result (λ marks. Ascend marks.items) }
         ensures marks { IfOk result (λ marks. marks.items ≡ in_order self.now.marks) }
@@ -225,7 +225,7 @@ impl Surveys {
         Ok(marks)
     }
 
-    // Puts in what was read of all that is marked. If memory runs out, what is catalogued isn't kept any more.
+    // Renews the listing by what was read of all marked ids. If memory runs out, no listing is kept any more.
     fn put_read(&mut self, alloc: Global, marks: &[Id], read: Vec<Seen>) -> Result<(), NoMemory>
         requires ascend { Ascend marks.now }
         requires listed { IsSome self.now.listing }
@@ -243,7 +243,7 @@ impl Surveys {
         Ok(())
     }
 
-    /// Makes the survey of a zone, by what is catalogued.
+    /// Makes the survey of a zone, by the listing.
     pub(crate) fn survey(&self, alloc: Global, zone: &Zone) -> Result<Survey, NoMemory>
         requires { IsFresh self.now }
         ensures { IfOk result (λ survey. (content : Content) → AreSurveys content self.now
@@ -255,7 +255,7 @@ impl Surveys {
         }
     }
 
-    /// Keeps the survey of a zone. If there are as many as are kept, they go first.
+    /// Keeps the survey of a zone. If the most are kept already, they all go first.
     pub(crate) fn keep(&mut self, zone: &Zone, survey: Survey) -> Result<(), NoMemory>
         ensures right { (content : Content) → IsSurvey content zone.now survey
             → AreSurveys content self.old → AreSurveys content self.new }
@@ -278,8 +278,8 @@ impl Surveys {
         }
     }
 
-    /// Marks what a publication touches in what is catalogued, and keeps no survey. If there is no room for that many
-    /// marks, it keeps nothing. It takes no memory.
+    /// Marks the ids that a publication touches in the listing, and drops all surveys. If there is no room for so many
+    /// marks, it drops the listing too. It takes no memory.
     pub(crate) fn mark(&mut self, ids: &[Id])
         ensures { MayBeMarked ids.now self.old self.new }
     {
@@ -291,7 +291,7 @@ impl Surveys {
         self.wide_from = None;
     }
 
-    // Adds marks, if there is room. Whether it did.
+    // Adds marks, if there is room. Returns whether there was.
     fn has_marked(&mut self, ids: &[Id]) -> bool
         ensures marked { result ≡ true → self.new ≡ (record {
           listing = self.old.listing;

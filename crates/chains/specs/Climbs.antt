@@ -1,4 +1,5 @@
--- No part of what is promised: private contracts cite it. What supersedes some ids, directly or through others, by index.
+-- No part of what is promised: private contracts cite it. The SYSMODs that supersede some ids, directly or through others,
+-- by index.
 use Rattle.std.specs.Prelude.{◌≡◌, ◌<◌, ◌≤◌, ◌↔◌, ◌++◌, ℕ, Bool, true, false, List, Option, Some, None, Contains, IfNone, IfSome, filter, is_some, length, map, slice_index, take}
 use Rattle.zone_lists.specs.declared.zones.ZoneRow.{ZoneRow}
 use Rattle.catalogue.specs.Content.{Content, IsInOrder, superseders}
@@ -9,16 +10,16 @@ use Rattle.requisites.specs.Sources.{source_of}
 use Rattle.supersede.specs.Giving.{is_candidate, is_there}
 use Rattle.verdicts.specs.Indices.{id_at, AreIndexed, IsAt}
 
--- what the lists name stands among the ids
+-- the ids in the lists are among the ids
 pub record AreListed (lists : List (List (List ℕ))) (ids : List (List ℕ)) : Type 0 where
   pub listed : (list : List (List ℕ)) (id : List ℕ) → Contains lists list → Contains list id → Contains ids id
 
--- by index, what supersedes each of the ids directly; it stands among them
+-- by index, the SYSMODs that supersede each of the ids directly; they are among the ids
 pub record AreAbove (content : Content) (ids : List (List ℕ)) (above : List (List ℕ)) : Type 0 where
   pub indexed : AreIndexed ids (map (superseders content) ids) above
   pub whole : (id other : List ℕ) → Contains ids id → Contains (superseders content id) other → Contains ids other
 
--- an id at a marked index, to which leads what supersedes another, directly or through others
+-- an id at a marked index that is another one or supersedes it, directly or through others
 pub record IsMarkedAbove (ids : List (List ℕ)) (above : List (List ℕ)) (marks : List Bool) (index : ℕ) (id : List ℕ) : Type 0 where
   pub own : ℕ
   pub within : own < length ids
@@ -26,14 +27,14 @@ pub record IsMarkedAbove (ids : List (List ℕ)) (above : List (List ℕ)) (mark
   pub marked : mark_of marks own ≡ true
   pub leads : Leads (Links above (length ids)) index own
 
--- from an index the marked ids above it, and from none nothing
+-- from an index the marked ids above it; from no index nothing
 abbrev pub AreFrom : List (List ℕ) → List (List ℕ) → List Bool → Option ℕ → Option (List (List ℕ)) → Type 0
 AreFrom ids above marks None None = Unit {0}
 AreFrom ids above marks None (Some found) = ⊥
 AreFrom ids above marks (Some index) None = ⊥
 AreFrom ids above marks (Some index) (Some found) = Ascend found × ((giver : List ℕ) → Contains found giver ↔ IsMarkedAbove ids above marks index giver)
 
--- what is answered if an id stands and isn't there: the marked ids above it
+-- the answer for an id that is among them and isn't there: the marked ids above it
 pub record AreAbsent (ids : List (List ℕ)) (above : List (List ℕ)) (there candidates : List Bool) (id : List ℕ) (found : List (List ℕ)) : Type 0 where
   pub index : ℕ
   pub at : IsAt ids id index
@@ -41,7 +42,7 @@ pub record AreAbsent (ids : List (List ℕ)) (above : List (List ℕ)) (there ca
   pub ascend : Ascend found
   pub each : (giver : List ℕ) → Contains found giver ↔ IsMarkedAbove ids above candidates index giver
 
--- what is answered for an id: nothing if it is there, and else the marked ids above it
+-- the answer for an id: nothing if it is there, and else the marked ids above it
 pub record IsAnswer (ids : List (List ℕ)) (above : List (List ℕ)) (there candidates : List Bool) (id : List ℕ) (found : Option (List (List ℕ))) : Type 0 where
   pub none : IfNone found ((p : ℕ) → IsAt ids id p → mark_of there p ≡ true)
   pub some : IfSome found (AreAbsent ids above there candidates id)
@@ -50,8 +51,8 @@ pub record IsAnswer (ids : List (List ℕ)) (above : List (List ℕ)) (there can
 abbrev pub with_source : List (Option ℕ) → List ℕ → List ℕ
 with_source sources indices = filter (λ q. is_some (source_of sources q)) indices
 
--- all that is found of what supersedes some ids: which of them are there, and which candidates stand above those of
--- the ids asked for that aren't
+-- all that is found of what supersedes some ids: which of them are there, and the candidates above those of the ids asked
+-- for that aren't
 pub record IsFound (content : Content) (rows : List ZoneRow) (asked ids : List (List ℕ)) (above : List (List ℕ)) (there candidates : List Bool) : Type 0 where
   pub ordered : IsInOrder content
   pub are : AreAbove content ids above
@@ -74,7 +75,7 @@ pub record AreTaken (turn : ℕ) (row seen seen' order order' : List ℕ) : Type
   pub bound : ((q : ℕ) → slice_index seen q ≤ turn) → (q : ℕ) → slice_index seen' q ≤ turn
   pub len : length seen' ≡ length seen
 
--- walk number `turn` has come from an index to those in the order; of those before an index of it the rows were looked at
+-- walk number `turn` has come from an index to those in the order, and has looked at the rows of those before an index of it
 pub record IsWalking (rows : List (List ℕ)) (n start turn : ℕ) (seen order : List ℕ) (at : ℕ) : Type 0 where
   pub begun : Contains order start
   pub marked : (q : ℕ) → slice_index seen q ≡ turn → Contains order q

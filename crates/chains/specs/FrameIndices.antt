@@ -1,4 +1,4 @@
--- No part of what is promised: private contracts cite it. What a frame keeps by the indices of its nodes.
+-- No part of what is promised: private contracts cite it. The parts of a frame by the indices of its nodes.
 use Rattle.std.specs.Prelude.{◌≡◌, ◌↔◌, ◌++◌, ◌==◌, ℕ, Bool, List, Contains, length, map, not, slice_index_or, take}
 use Rattle.std.specs.List.{list_any}
 use Rattle.zone_lists.specs.declared.zones.ZoneRow.{ZoneRow}
@@ -16,12 +16,12 @@ use Rattle.listings.specs.declared.gathered.Gathered.{Gathered}
 abbrev pub has_conds : FrameNode → Bool
 has_conds node = not (length node.conds == 0)
 
--- what a node needs in a zone
+-- the needs of a node in a zone
 abbrev pub node_needs : List ZoneRow → FrameNode → List (List ℕ)
 node_needs rows node = node.needs ++ needs_where rows node.conds
 
--- what a frame keeps: its nodes ascend and name no others; their ids; by index what each needs in every zone; and whether one
--- of them has requisites under a condition
+-- a frame's parts: its nodes, which ascend and name no others; their ids; by index the needs of each in every zone; and
+-- whether one of them has requisites under a condition
 pub record IsFramed (nodes : List FrameNode) (ids : List (List ℕ)) (needs : List (List ℕ)) (conditional : Bool) : Type 0 where
   pub are : ids ≡ ids_in nodes
   pub ascend : Ascend ids
@@ -29,7 +29,7 @@ pub record IsFramed (nodes : List FrameNode) (ids : List (List ℕ)) (needs : Li
   pub indexed : AreIndexed ids (map (λ node. node.needs) nodes) needs
   pub known : conditional ≡ list_any has_conds nodes
 
--- the node of what stands at an index
+-- the node of the id at an index
 pub record IsNodeAt (ids : List (List ℕ)) (all : List Gathered) (above : List (List ℕ)) (index : ℕ) (node : FrameNode) : Type 0 where
   pub gathered : Gathered
   pub at : gathered ≡ slice_index_or all index gathered

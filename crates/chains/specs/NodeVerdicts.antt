@@ -1,4 +1,4 @@
--- No part of what is promised: private contracts cite it. A verdict on a node, as one on the id that stands at its index.
+-- No part of what is promised: private contracts cite it. A verdict on a node, as one on the id at its index.
 use Rattle.std.specs.Prelude.{◌<◌, ℕ, List, Contains, length, map}
 use Rattle.requisites.specs.declared.verdict.Verdict.{Verdict}
 use Rattle.requisites.specs.declared.verdict.Verdict.TheVariants.{Good, Held, Lack}
@@ -11,7 +11,7 @@ IsWithin members (Good plan) = (q : ℕ) → Contains plan.items q → q < lengt
 IsWithin members (Held need) = need < length members
 IsWithin members Lack = Unit {0}
 
--- the same verdict on the id that stands there
+-- the same verdict on the id at the index
 abbrev pub verdict_at : List (List ℕ) → Verdict → Judged
 verdict_at members (Good plan) = good (map (id_at members) plan.items)
 verdict_at members (Held need) = held (id_at members need)

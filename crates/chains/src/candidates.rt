@@ -25,12 +25,12 @@ use std::alloc::Global;
 use supersede::Zone;
 use verdicts::{do_ascend, ids_at, index_of, sort_each_once};
 
-/// For each of some SYSMODs the candidates that give it, ascending, or `None` if it is there: the zone lists it, or an
-/// installed SYSMOD gives it (IBM z/OS SMP/E Reference, `++VER`, operands SUP and FMID).
+/// Finds for each of some SYSMODs the candidates that give it, ascending, or `None` if it is there: the zone lists it,
+/// or an installed SYSMOD gives it (IBM z/OS SMP/E Reference, `++VER`, operands SUP and FMID).
 ///
-/// A listing that is at hand answers in the source's place. It may be that of all that the source has but for some ids,
-/// which are marked: these the source is asked for. Without one, what supersedes a SYSMOD is asked for once, and so is the
-/// record of each that gives one that isn't there. Which are there is found in time in proportion to what was read.
+/// A listing that is at hand answers in the source's place, but for ids that are marked: these the source is asked for.
+/// Without a listing, the source is asked once for what supersedes each SYSMOD, and for the record of each that gives
+/// one that isn't there. The ids that are there are found in time in proportion to what was read.
 ///
 /// # Errors
 ///
@@ -49,7 +49,7 @@ pub fn candidates_for<P: Published>(
         → map (option_map (λ ids. ids.items)) found.items
         ≡ map (candidates_unless_there content zone.now) ids.now)) }
 {
-    // Marks are looked up by halves.
+    // Marks are looked up by halves, so they have to ascend.
     if !do_ascend(marks) {
         return candidates_by(alloc, source, None, &[], zone, ids);
     }
@@ -82,7 +82,7 @@ fn candidates_by<P: Published>(
     Ok(found_among(alloc, ids, &climb, &there, &candidates)?)
 }
 
-// The marks of the ids asked for that aren't there, among all.
+// Marks those of the ids asked for that aren't there, among all.
 fn absent_marks(
     alloc: Global,
     ids: &[Id],
@@ -103,7 +103,7 @@ fn absent_marks(
     Ok(marks)
 }
 
-// Which of the ids that have a source are candidates. The others aren't asked for.
+// Marks the candidates among the ids that have a source. It doesn't ask for the others.
 fn wanted_candidates<P: Published>(
     alloc: Global,
     source: &mut P,
@@ -162,8 +162,8 @@ fn applies(zone: &Zone, sysmod: &Option<Sysmod>) -> bool
     }
 }
 
-// What is found for each of the ids asked for. The walks go by ids that a candidate gives, so that they come to
-// candidates alone and to what leads there.
+// The answer for each of the ids asked for. The walks go by ids that a candidate gives, so they come only to candidates
+// and to what leads there.
 fn found_among(
     alloc: Global,
     asked: &[Id],
@@ -185,7 +185,7 @@ fn found_among(
     found_for_each(alloc, asked, &climb.ids, &above, there, candidates)
 }
 
-// Of each row the indices that have a source.
+// Each row without the indices that have no source.
 fn rows_with_source(alloc: Global, rows: &Rows, sources: &[Option<usize>]) -> Result<Rows, NoMemory>
     ensures { IfOk result (λ kept. RowsAre (λ p indices. indices ≡ with_source sources.now (row rows.now p))
         (length rows.now) kept) }
@@ -263,7 +263,7 @@ fn found_from(
     Ok(Some(ids_marked(alloc, ids, marks, walks.indices())?))
 }
 
-// Where an id stands, unless it is there.
+// The index of an id, unless it is there.
 fn absent_at(ids: &[Id], there: &[bool], id: &Id) -> Option<usize>
     requires { Ascend ids.now }
     ensures some { IfSome result (λ index. IsAt ids.now id.now index) }

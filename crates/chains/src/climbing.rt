@@ -1,4 +1,4 @@
-//! What supersedes some SYSMODs, directly or through others, read once.
+//! The SYSMODs that supersede some, directly or through others, read once.
 ghost use Rattle.std.specs.Prelude.{◌≡◌, ◌<◌, ℕ, List, Contains, IfOk, IfSome, length, map};
 ghost use Rattle.std.specs.BTreeMap.{keys, values};
 ghost use Rattle.catalogue.specs.Content.{Content, ids_of, superseders};
@@ -27,8 +27,8 @@ pub(crate) struct Climb {
     pub(crate) below: Rows,
 }
 
-/// What supersedes these SYSMODs, directly or through others: by a listing, if one is at hand, and else by the
-/// source, which is asked for each SYSMOD once. It is asked for what is marked in the listing too.
+/// Finds what supersedes these SYSMODs, directly or through others. If a listing is at hand, it asks the
+/// source only for ids that are marked in it. Else it asks the source for each SYSMOD once.
 pub(crate) fn climb_from<P: Published>(
     alloc: Global,
     source: &mut P,
@@ -54,7 +54,7 @@ pub(crate) fn climb_from<P: Published>(
     Ok(by_indices(alloc, found)?)
 }
 
-// What supersedes each of these directly, and each of those, and so on.
+// The SYSMODs that supersede each of these directly, and each of those, and so on.
 fn superseders_of<P: Published>(
     alloc: Global,
     source: &mut P,
@@ -87,7 +87,7 @@ fn superseders_of<P: Published>(
     Ok(found)
 }
 
-// What supersedes one directly.
+// The SYSMODs that supersede one directly.
 fn direct_superseders<P: Published>(
     alloc: Global,
     source: &mut P,
@@ -108,7 +108,7 @@ fn direct_superseders<P: Published>(
     }
 }
 
-/// The listing that is at hand, if it says what there is of an id: one that isn't marked.
+/// The listing at hand, if it says what there is of an id: the id isn't marked.
 pub(crate) fn that_says<'a>(
     listing: Option<&'a Listing>,
     marks: &[Id],
@@ -137,7 +137,7 @@ fn by_indices(alloc: Global, found: BTreeMap<Id, Ids>) -> Result<Climb, NoMemory
     Ok(Climb { ids, above, below })
 }
 
-// What was read of them, in their order.
+// The lists that were read of them, in their order.
 fn lists_found(alloc: Global, found: BTreeMap<Id, Ids>) -> Result<Vec<Ids>, NoMemory>
     ensures lists { IfOk result (λ lists. lists.items ≡ values found) }
     ensures len { IfOk result (λ lists. length lists.items ≡ length (keys found)) }

@@ -10,7 +10,7 @@ use mcs_reader::{Id, NoMemory};
 use requisites::Rows;
 use std::alloc::Global;
 
-/// The nodes of some ids, by what was gathered of each.
+/// Makes the nodes of some ids, by what was gathered of each.
 pub(crate) fn frame_nodes(
     alloc: Global,
     ids: &[Id],

@@ -25,25 +25,25 @@ pub struct FrameNode {
     pub id: Id,
     /// Whether it is catalogued.
     pub catalogued: bool,
-    /// The functions that it applies to. A SYSMOD that isn't catalogued has none.
+    /// The functions that it applies to; none if it isn't catalogued.
     pub fmids: Ids,
-    /// What it needs in every zone: its PRE, its REQ and the reasons of the ERROR holds on it.
+    /// The ids that it needs in every zone: its PRE, its REQ and the reasons of the ERROR holds on it.
     pub needs: Ids,
-    /// What it needs if a function is installed: its requisites under a condition.
+    /// Its requisites under a condition: the ids that it needs if a function is installed.
     pub conds: CondNeeds,
     /// The catalogued SYSMODs that give it: itself, and those that supersede it, themselves or through others.
     pub givers: Ids,
 }
 
-/// All that one SYSMOD reaches in a catalogue, by what each may need and by what gives it, itself among them. It
-/// speaks of no zone.
+/// All that one SYSMOD reaches in a catalogue, itself included, by what each may need and by what gives it. It
+/// names no zone.
 ///
-/// The nodes ascend by id. Each need and each giver of a node is a node, and so is what it needs only if a
-/// function is installed.
+/// The nodes ascend by id. Each need and each giver of a node is a node, and so is each SYSMOD that it needs
+/// only if a function is installed.
 #[derive(Debug, Drop)]
 pub struct Frame {
     nodes: Vec<FrameNode>,
-    // The ids of the nodes, and by their indices what each always needs and what it supersedes directly. A plan
+    // The ids of the nodes, and by their indices the ids that each always needs and supersedes directly. A plan
     // doesn't ask for the givers, which are many if superseding is long.
     ids: Vec<Id>,
     needs: Rows,
@@ -65,7 +65,7 @@ impl Model for Frame {
 }
 
 impl Frame {
-    /// The frame of what was gathered.
+    /// Makes the frame of what was gathered.
     pub(crate) fn of(alloc: Global, found: BTreeMap<Id, Gathered>) -> Result<Frame, NoMemory>
         requires { AreNamed (values found) (keys found) }
         ensures frame { IfOk result (λ frame. (content : Content) (start : List ℕ) → IsInOrder content
@@ -107,14 +107,14 @@ impl Frame {
         self.ids.as_slice()
     }
 
-    /// By index, what each needs in every zone.
+    /// By index, the ids that each needs in every zone.
     pub(crate) fn needs(&self) -> &Rows
         ensures { AreIndexed (ids_in self.now.nodes) (map (λ node. node.needs) self.now.nodes) result.now }
     {
         &self.needs
     }
 
-    /// By index, what each supersedes directly.
+    /// By index, the ids that each supersedes directly.
     pub(crate) fn supersedes(&self) -> &Rows
         ensures { result.now ≡ self.now.supersedes }
     {
@@ -136,7 +136,7 @@ fn is_any_conditional(nodes: &[FrameNode]) -> bool
     nodes.iter().any(|node| !node.conds.as_slice().is_empty())
 }
 
-// What was read of them, in their order.
+// What was gathered of them, in their order.
 fn gathered_found(alloc: Global, found: BTreeMap<Id, Gathered>) -> Result<Vec<Gathered>, NoMemory>
     ensures { IfOk result (λ all. all.items ≡ values found) }
 {

@@ -1,4 +1,4 @@
-//! The frame of a SYSMOD, from a source.
+//! The frame of a SYSMOD, read from a source.
 ghost use Rattle.std.specs.Prelude.{◌≤◌, IfOk, IfSome, length};
 ghost use Rattle.catalogue.specs.View.{MayAsk, Tells};
 ghost use Rattle.catalogue.specs.declared.fault.SourceFault.TheVariants.{Device};
@@ -10,8 +10,8 @@ use listings::gather;
 use mcs_reader::Id;
 use std::alloc::Global;
 
-/// The frame of a SYSMOD, which need not be catalogued: all to which its needs and givers lead, and theirs, with
-/// what the source says of each. Each id is read once.
+/// Reads the frame of a SYSMOD, catalogued or not: all to which its needs and givers lead, and theirs, with what
+/// the source says of each. It reads each id once.
 ///
 /// # Errors
 ///
@@ -27,7 +27,7 @@ pub fn frame<P: Published>(alloc: Global, source: &mut P, id: &Id) -> Result<Fra
     }
 }
 
-/// The same, if it has at most so many nodes. Of a larger one no more than these are read.
+/// The same, if the frame has at most so many nodes. Of a larger one it reads no more than these.
 ///
 /// # Errors
 ///

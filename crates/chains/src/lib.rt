@@ -1,14 +1,15 @@
-//! How verdicts are found: over all that is catalogued, or from what one SYSMOD reaches.
+//! Finding verdicts: over all that is catalogued, or from what one SYSMOD reaches.
 //!
-//! What a verdict is, and who gives it, is said in `verdicts`; its names are here too.
+//! `verdicts` says what a verdict is and what a judge answers. Its names are here too.
 //!
 //! - [`Whole`]: judges over all that is catalogued, and is right for every content
-//! - [`Frame`]: all that one SYSMOD reaches, as [`FrameNode`]s; [`frame`], [`frame_within`]: that of a
-//!   SYSMOD, from a source
+//! - [`Frame`]: all that one SYSMOD reaches, as [`FrameNode`]s; [`frame`], [`frame_within`]: read that of a
+//!   SYSMOD from a source
 //! - [`plan`], [`good`]: verdicts from a frame alone
-//! - [`Listing`]: all that is catalogued, whatever the zone; [`listing_of`]: that of a source, read once;
-//!   [`Listing::renewed`]: over a publication, by what that touches
-//! - [`Survey`]: all verdicts of one zone; [`Survey::of`]: by a listing; [`survey_of`]: from a source
+//! - [`Listing`]: all that is catalogued, whatever the zone; [`listing_of`]: reads it once from a source;
+//!   [`Listing::renewed`]: brings it up to date after a publication
+//! - [`Survey`]: all verdicts of one zone; [`Survey::of`]: makes it by a listing; [`survey_of`]: reads it from
+//!   a source
 //! - [`candidates_for`]: the candidates that give each of several SYSMODs, by a listing or from a source
 //! - [`touches`]: whether a publication may change a frame
 //! - [`Verdict`], [`Status`], [`Judge`], [`put_plan`], [`listed`], [`good_is_planned`], [`verdicts_are_right`],

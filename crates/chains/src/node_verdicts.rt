@@ -1,4 +1,4 @@
-//! A verdict on a node, as one on the id that stands at its index.
+//! A verdict on a node, as one on the id at its index.
 ghost use Rattle.std.specs.Prelude.{◌≡◌, IfOk};
 ghost use Rattle.verdicts.specs.Judge as judge;
 ghost use Rattle.chains.specs.NodeVerdicts.{IsWithin, verdict_at};
@@ -7,7 +7,7 @@ use mcs_reader::{Id, NoMemory};
 use std::alloc::Global;
 use verdicts::{Verdict, id_at, ids_at};
 
-/// A verdict on a node as one on the id that stands there.
+/// Turns a verdict on a node into one on the id at its index.
 pub(crate) fn by_ids(
     alloc: Global,
     members: &[Id],

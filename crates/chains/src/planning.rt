@@ -20,7 +20,8 @@ use std::alloc::Global;
 use supersede::Zone;
 use verdicts::{Verdict, index_of};
 
-/// The verdict on a SYSMOD of a frame in a zone, from the frame alone: it is that of the whole catalogue.
+/// Gives the verdict on a SYSMOD of a frame in a zone, from the frame alone. It is the verdict of the whole
+/// catalogue.
 ///
 /// # Errors
 ///
@@ -60,7 +61,7 @@ fn seen_from(alloc: Global, frame: &Frame, zone: &Zone) -> Result<Nodes, NoMemor
     })
 }
 
-// By index, what each node needs in the zone.
+// By index, the needs of each node in the zone.
 fn zone_needs(alloc: Global, frame: &Frame, zone: &Zone) -> Result<Rows, NoMemory>
     ensures { IfOk result (λ rows.
         AreIndexed (ids_in frame.now.nodes) (map (node_needs zone.now) frame.now.nodes) rows) }
@@ -84,7 +85,7 @@ fn zone_needs(alloc: Global, frame: &Frame, zone: &Zone) -> Result<Rows, NoMemor
     Ok(needs)
 }
 
-// Which nodes may be installed.
+// Marks the nodes that may be installed.
 fn candidate_marks(alloc: Global, nodes: &[FrameNode], zone: &Zone) -> Result<Vec<bool>, NoMemory>
     ensures { IfOk result (λ marks. marks.items
         ≡ map (λ node. list_any (λ fmid. is_installed zone.now fmid) node.fmids) nodes.now) }
@@ -96,8 +97,8 @@ fn candidate_marks(alloc: Global, nodes: &[FrameNode], zone: &Zone) -> Result<Ve
     Ok(marks)
 }
 
-/// The SYSMODs of a frame that can be installed in a zone, ascending, from the frame alone: they are those of
-/// the whole catalogue.
+/// Finds the SYSMODs of a frame that can be installed in a zone, ascending, from the frame alone. They are
+/// those of the whole catalogue.
 ///
 /// # Errors
 ///

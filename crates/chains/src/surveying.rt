@@ -22,8 +22,8 @@ use std::marker::Model;
 use supersede::Zone;
 use verdicts::{Status, Verdict, ids_at, index_of, put_indices};
 
-/// What can be installed in one zone of all that is catalogued. Each verdict of the zone can be read from it for as
-/// long as what is published and the zone stay.
+/// The verdicts on all that is catalogued, in one zone. Each can be read from it as long as the content and the
+/// zone stay the same.
 #[derive(Debug, Drop)]
 pub struct Survey {
     cut: ZoneNodes,
@@ -42,7 +42,7 @@ impl Model for Survey {
 }
 
 impl Survey {
-    /// That of a zone, by what is listed of all that is catalogued. Nothing is read.
+    /// Makes the survey of a zone by a listing. It reads nothing.
     ///
     /// # Errors
     ///
@@ -55,7 +55,7 @@ impl Survey {
         Survey::resolved(alloc, cut)
     }
 
-    // By the nodes of a zone.
+    // Makes the survey by the nodes of a zone.
     fn resolved(alloc: Global, cut: ZoneNodes) -> Result<Survey, NoMemory>
         requires ascend { Ascend cut.members.items }
         requires within { AreNodesWithin cut.members.items cut.nodes }
@@ -68,7 +68,7 @@ impl Survey {
         Ok(Survey { cut, resolution })
     }
 
-    /// The verdict on a SYSMOD.
+    /// Gives the verdict on a SYSMOD.
     ///
     /// # Errors
     ///
@@ -85,7 +85,7 @@ impl Survey {
         by_ids(alloc, &self.cut.members, verdict)
     }
 
-    /// For each SYSMOD which verdict it is, in the order of the list.
+    /// Gives the status of each SYSMOD, in the order of the list.
     ///
     /// # Errors
     ///
@@ -102,7 +102,7 @@ impl Survey {
         Ok(statuses)
     }
 
-    /// Which verdict it is on a SYSMOD. It takes no memory.
+    /// The status of a SYSMOD. It takes no memory.
     pub fn status(&self, id: &Id) -> Status
         ensures { (content : Content) (rows : List ZoneRow) → IsSurvey content rows self.now
             → result ≡ judge.status_of (verdict_of content rows id.now) }
@@ -115,7 +115,7 @@ impl Survey {
         status_by(good, candidate)
     }
 
-    /// All that the chosen plans of some SYSMODs have, ascending, each once: one walk from all of them.
+    /// Finds all members of the chosen plans of some SYSMODs, ascending, each once, by one walk from all of them.
     ///
     /// # Errors
     ///
@@ -132,7 +132,7 @@ impl Survey {
     }
 }
 
-// Which verdict it is, by the marks of a node.
+// The status, by the marks of a node.
 fn status_by(good: bool, candidate: bool) -> Status
     ensures { result ≡ status_by good candidate }
 {
@@ -145,7 +145,7 @@ fn status_by(good: bool, candidate: bool) -> Status
     Status::Lack
 }
 
-/// The survey of a zone: all that is catalogued is read, in runs, and what was read of a run goes before the next.
+/// Reads the survey of a zone: all that is catalogued, in runs. What was read of a run goes before the next.
 ///
 /// # Errors
 ///

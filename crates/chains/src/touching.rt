@@ -1,4 +1,4 @@
-//! Which frames a publication leaves as they are.
+//! The frames that a publication leaves as they are.
 ghost use Rattle.std.specs.Prelude.{◌≡◌, true};
 ghost use Rattle.std.specs.Bool.{OnFalse};
 ghost use Rattle.std.specs.List.{list_any};
@@ -10,11 +10,11 @@ use crate::frames::Frame;
 use mcs_reader::Id;
 use supersede::index_among;
 
-/// Whether a frame has one of some ids. `ascending` says that these are known to ascend: then each node is
-/// looked for among them by halves.
+/// Whether a frame has one of some ids. `ascending` says that these are known to ascend: then it looks for
+/// each node among them by halves.
 ///
-/// A frame that has none of the ids outside which two contents say the same is the same in both. So a
-/// publication leaves each frame as it is that has none of the ids that it touches. It takes no memory.
+/// If two contents say the same outside some ids, a frame that has none of these is the same in both. So a
+/// publication leaves a frame as it is if the frame has none of the ids that it touches.
 pub fn touches(frame: &Frame, ids: &[Id], ascending: bool) -> bool
     requires { ascending ≡ true → Ascend ids.now }
     ensures value { result ≡ spec.shares ids.now frame.now }

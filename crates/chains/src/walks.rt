@@ -8,7 +8,7 @@ use mcs_reader::NoMemory;
 use requisites::Rows;
 use std::alloc::Global;
 
-/// Walks that have numbers. A walk costs what it comes to, and nothing for the other indices.
+/// Walks that have numbers. A walk costs as much as the indices that it comes to, and nothing for the others.
 #[derive(Debug, Drop)]
 pub(crate) struct Walks {
     // For each index the number of the last walk that came to it.
@@ -18,7 +18,7 @@ pub(crate) struct Walks {
 }
 
 impl Walks {
-    /// No walks over so many indices.
+    /// No walks yet, over so many indices.
     pub(crate) fn over(alloc: Global, len: usize) -> Result<Walks, NoMemory>
         ensures len { IfOk result (λ walks. length walks.seen.items ≡ len) }
         ensures fresh { IfOk result (λ walks. (q : ℕ) → slice_index walks.seen.items q ≡ 0) }
@@ -36,7 +36,8 @@ impl Walks {
         self.order.as_slice()
     }
 
-    /// Walks from an index to all to which rows lead, itself among them. Its number is higher than those before.
+    /// Walks from an index to all to which rows lead, itself among them. The number `turn` is higher than those
+    /// of the walks before.
     pub(crate) fn walk(&mut self, rows: &Rows, turn: usize, start: usize) -> Result<(), NoMemory>
         requires fresh { (q : ℕ) → slice_index self.old.seen.items q < turn }
         requires start { start < length self.old.seen.items }

@@ -1,4 +1,4 @@
-//! `Whole`.
+//! The judge that keeps nothing.
 ghost use Rattle.catalogue.specs.Content.{Content};
 ghost use Rattle.chains.specs.Whole.{IsRightFor};
 
@@ -16,7 +16,7 @@ use verdicts::{Judge, Status, Verdict};
 pub struct Whole;
 
 impl Whole {
-    /// A judge, right for every content. It takes no memory.
+    /// A judge, right for every content.
     pub fn new() -> Self
         ensures { (content : Content) → IsRightFor result content }
     {

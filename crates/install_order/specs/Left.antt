@@ -1,12 +1,12 @@
--- Which of some members of a plan are left when those that another one gives are left out (IBM z/OS SMP/E Reference,
--- `++VER`, operand SUP).
+-- The members of a plan that are left when each one that another gives is left out (IBM z/OS SMP/E Reference, `++VER`,
+-- operand SUP).
 use Rattle.std.specs.Prelude.{◌≡◌, ◌<◌, ◌==◌, ◌&&◌, ◌||◌, ℕ, List, Bool, false, not, length, map, nat_lt, Contains}
 use Rattle.std.specs.List.{list_any, range_with_len}
 use Rattle.requisites.specs.Leads.{Leads}
 use Rattle.requisites.specs.Nodes.{IsMarked, Links, mark_of, row}
 
--- Whether a node q that gives p outdoes it, by the rows of what gives each: it is another one. If p gives it too, the
--- greater of them outdoes the other.
+-- Whether a node q that gives p outdoes it, by the rows of givers: it is another one, and if p gives it too, it is the
+-- greater.
 abbrev pub outdoes : List (List ℕ) → ℕ → ℕ → Bool
 outdoes givers p q = not (q == p) && (nat_lt p q || not (list_any (λ r. r == p) (row givers q)))
 
@@ -20,7 +20,7 @@ left_in givers n = map (λ p. not (is_outdone givers p)) (range_with_len 0 n)
 
 -- ---- what is so of these marks
 
--- the rows name nodes alone, and what gives a node gives all that the node gives
+-- the rows name nodes only, and a node that gives another gives all that the other gives
 pub record AreGivers (givers : List (List ℕ)) (n : ℕ) : Type 0 where
   pub within : (p q : ℕ) → Contains (row givers p) q → q < n
   pub on : (p q r : ℕ) → Contains (row givers p) q → Contains (row givers q) r → Contains (row givers p) r
@@ -37,8 +37,8 @@ pub record HasStandIn (givers : List (List ℕ)) (n : ℕ) (left : List Bool) (p
   pub marked : IsMarked left stand_in
   pub leads : Leads (Links givers n) p stand_in
 
--- Another node gives each that is left out; no node that is left gives another one that is; and for each node one that is left
--- stands in.
+-- Each node that is left out is given by another one. No node that is left gives another one that is. For each node one that
+-- is left stands in.
 pub record AreLeft (givers : List (List ℕ)) (n : ℕ) (left : List Bool) : Type 0 where
   pub len : length left ≡ n
   pub left_out : (p : ℕ) → p < n → mark_of left p ≡ false → IsGiven givers n p

@@ -1,11 +1,11 @@
--- No part of what is promised: private contracts cite it. How many steps come before each node.
+-- No part of what is promised: private contracts cite it. The number of steps before each node.
 use Rattle.std.specs.Prelude.{◌≡◌, ◌<◌, ◌⊎◌, ◌++◌, ◌==◌, ℕ, suc, List, [], ◌∷◌, Bool, Option, Some, None, false, filter, length, map, max, ◌+◌, Contains, slice_index_or}
 use Rattle.std.specs.Global.{Vec}
 use Rattle.std.specs.List.{range_with_len}
 use Rattle.requisites.specs.Leads.{Leads}
 use Rattle.requisites.specs.Nodes.{Links, row}
 
--- the level of a node, if it has one: how many steps come before it
+-- the level of a node, if it has one: the number of steps before it
 abbrev pub level_of : List (Option ℕ) → ℕ → Option ℕ
 level_of levels p = slice_index_or levels p None
 
@@ -25,7 +25,7 @@ pub record Rests (needs : List (List ℕ)) (n : ℕ) (levels : List (Option ℕ)
   pub is : level_of levels on ≡ Some level
   pub leads : Leads (Links needs n) p on
 
--- the levels of the nodes that are put: each is one more than the greatest of what has to come before the node
+-- the levels of the nodes that are put: each is one more than the greatest of the nodes that have to come before
 pub record AreLevels (needs : List (List ℕ)) (n : ℕ) (IsPut : ℕ → Type 0) (levels : List (Option ℕ)) : Type 0 where
   pub len : length levels ≡ n
   pub whole : (p : ℕ) → IsPut p → level_of levels p ≡ None → ⊥
@@ -35,7 +35,7 @@ pub record AreLevels (needs : List (List ℕ)) (n : ℕ) (IsPut : ℕ → Type 0
 
 -- ---- one ring
 
--- a level, or that just above another one if this is greater
+-- a level, or the one just above another if that is greater
 abbrev pub raise : ℕ → Option ℕ → ℕ
 raise level None = level
 raise level (Some below) = max level (below + 1)
@@ -68,7 +68,7 @@ pub record IsSet (nodes : List ℕ) (level : ℕ) (levels : List (Option ℕ)) (
   pub listed : Contains nodes p
   pub is : level_of levels p ≡ Some level
 
--- the nodes of a list have a level now, and the others what they had
+-- the nodes of a list have a level now, and the others have what they had
 pub record AreLevelled (nodes : List ℕ) (level : ℕ) (old new : List (Option ℕ)) : Type 0 where
   pub len : length new ≡ length old
   pub set : (p : ℕ) → Contains nodes p → p < length old → level_of new p ≡ Some level
@@ -92,7 +92,7 @@ pub record HasLast (levels : List (Option ℕ)) (count : ℕ) : Type 0 where
   pub is : level_of levels node ≡ Some last
   pub next : count ≡ suc last
 
--- so many levels there are
+-- the number of levels
 pub record AreCounted (levels : List (Option ℕ)) (count : ℕ) : Type 0 where
   pub above : AreLevelsBelow levels count
   pub last : (count ≡ 0) ⊎ HasLast levels count

@@ -6,8 +6,8 @@ use Rattle.requisites.specs.Nodes.{IsMarked, Links, mark_of, row}
 use Rattle.requisites.specs.Sources.{HasSource, source_of}
 use Rattle.install_order.specs.Steps.{IsClosed, StandsIn}
 
--- what may come as a ring after others: it has a node; its nodes stand in none of the others; what each of them needs
--- stands in the ring or in one of the others; and they all need one another, directly or through others
+-- what may come as a ring after others: it has a node; its nodes are in none of the others; each of their needs is in the
+-- ring or in one of the others; and they all need one another, directly or through others
 pub record IsNextRing (needs : List (List ℕ)) (n : ℕ) (before : List (List ℕ)) (ring : List ℕ) : Type 0 where
   pub first : ℕ
   pub begun : Contains ring first
@@ -20,7 +20,7 @@ abbrev pub AreRingsAfter : List (List ℕ) → ℕ → List (List ℕ) → List 
 AreRingsAfter needs n before [] = Unit {0}
 AreRingsAfter needs n before (ring ∷ later) = IsNextRing needs n before ring × AreRingsAfter needs n (before ++ ring ∷ []) later
 
--- the rings of the marked nodes: each stands in one of them, and nothing else does
+-- the rings of the marked nodes: each marked node is in one of them, and no other node is
 pub record AreRings (needs : List (List ℕ)) (members : List Bool) (rings : List (List ℕ)) : Type 0 where
   pub order : AreRingsAfter needs (length members) [] rings
   pub whole : (p : ℕ) → IsMarked members p → StandsIn rings p
@@ -46,7 +46,7 @@ pub record IsAnyLeft (left : List Bool) : Type 0 where
   pub node : ℕ
   pub marked : IsMarked left node
 
--- nodes that are left and need one another, and what they need that is left
+-- nodes that are left and need one another, and all of their needs that are left
 pub record IsRing (needs : List (List ℕ)) (left : List Bool) (ring : List ℕ) : Type 0 where
   pub first : ℕ
   pub begun : Contains ring first
@@ -54,7 +54,7 @@ pub record IsRing (needs : List (List ℕ)) (left : List Bool) (ring : List ℕ)
   pub closed : (p q : ℕ) → Contains ring p → Links needs (length left) p q → IsMarked left q → Contains ring q
   pub together : (p q : ℕ) → Contains ring p → Contains ring q → Leads (Links needs (length left)) p q
 
--- a node of a ring that has a first: what it needs that is left stands in the ring
+-- a node of a ring that has a first: its needs that are left are in the ring
 pub record IsOfRing (needs : List (List ℕ)) (left : List Bool) (ring : List ℕ) (first p : ℕ) : Type 0 where
   pub marked : IsMarked left p
   pub leads : Leads (Links needs (length left)) first p
@@ -72,7 +72,7 @@ pub record AreTakenOut (nodes : List ℕ) (old new : List Bool) : Type 0 where
 
 -- ---- what ties the nodes of a ring
 
--- rows have nothing but what others have
+-- rows have only what others have
 abbrev pub AreWithin : List (List ℕ) → List (List ℕ) → Type 0
 AreWithin needs within = (p q : ℕ) → Contains (row within p) q → Contains (row needs p) q
 

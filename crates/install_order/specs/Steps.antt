@@ -1,4 +1,4 @@
--- In which steps members are installed (IBM z/OS SMP/E Reference, `++VER`, operands PRE and REQ).
+-- The steps in which members are installed (IBM z/OS SMP/E Reference, `++VER`, operands PRE and REQ).
 use Rattle.std.specs.Prelude.{◌≡◌, ◌++◌, ◌↔◌, ◌||◌, ℕ, zero, suc, Bool, true, not, List, [], ◌∷◌, filter, length, Contains}
 use Rattle.std.specs.List.{list_all, range_with_len}
 use Rattle.std.specs.List.Sorted.{IsStrictlyIncreasing}
@@ -8,7 +8,7 @@ use Rattle.requisites.specs.Nodes.{IsMarked, Links, mark_of}
 -- ---- the steps, by a test that says whether needs lead from one to another, directly or through others
 
 module _ {A : Type 0} (leads : A → A → Bool) where
-  -- whether one may come next of those that are left: whatever it leads to among them leads back to it
+  -- whether one may come next of those that are left: each to which it leads among them leads back to it
   abbrev pub may_come : List A → A → Bool
   may_come left one = list_all (λ other. not (leads one other) || leads other one) left
 
@@ -35,7 +35,7 @@ abbrev pub AreSteps : List (List ℕ) → List Bool → List (List ℕ) → Type
 AreSteps needs members steps =
     (leads : ℕ → ℕ → Bool) → IsTestOf needs members leads → steps ≡ steps_of leads (length members) (marked_in members)
 
--- what a marked node needs is marked too
+-- each need of a marked node is marked too
 abbrev pub IsClosed : List (List ℕ) → List Bool → Type 0
 IsClosed needs members = (p q : ℕ) → IsMarked members p → Links needs (length members) p q → IsMarked members q
 
@@ -47,8 +47,8 @@ pub record StandsIn (steps : List (List ℕ)) (p : ℕ) : Type 0 where
   pub listed : Contains steps step
   pub member : Contains step p
 
--- A step after others: it has a node; its nodes ascend, and stand in none of the others; what each of them needs stands in
--- the step or in one of the others; and if needs lead from one of them to another, they lead back.
+-- A step after others: it has a node; its nodes ascend, and are in none of the others; each of their needs is in the step
+-- or in one of the others; and if needs lead from one of them to another, they lead back.
 pub record IsNext (needs : List (List ℕ)) (n : ℕ) (before : List (List ℕ)) (step : List ℕ) : Type 0 where
   pub first : ℕ
   pub begun : Contains step first
@@ -62,7 +62,7 @@ abbrev pub AreNext : List (List ℕ) → ℕ → List (List ℕ) → List (List 
 AreNext needs n before [] = Unit {0}
 AreNext needs n before (step ∷ later) = IsNext needs n before step × AreNext needs n (before ++ step ∷ []) later
 
--- the steps come one after the other; each marked node stands in one of them, and nothing else does
+-- the steps come one after the other; each marked node is in one of them, and no other node is
 pub record AreInOrder (needs : List (List ℕ)) (members : List Bool) (steps : List (List ℕ)) : Type 0 where
   pub order : AreNext needs (length members) [] steps
   pub whole : (p : ℕ) → IsMarked members p → StandsIn steps p

@@ -1,4 +1,4 @@
-//! Which members are left when those that another one gives are left out.
+//! The members that are left when each one that another gives is left out.
 ghost use Rattle.std.specs.Prelude.{◌≡◌, ◌==◌, IfOk};
 ghost use Rattle.std.specs.List.{list_any};
 ghost use Rattle.install_order.specs.Left as Left;
@@ -7,11 +7,11 @@ ghost use Rattle.install_order.specs.Left.{AreGivers, AreLeft, left_in};
 use requisites::{NoMemory, Rows};
 use std::alloc::Global;
 
-/// Which of `len` nodes are left: those that no other one outdoes. `givers` has for each node all those that give it. A
-/// node outdoes another that it gives; if each gives the other, the greater one does.
+/// Marks those of `len` nodes that are left: no other one outdoes them. `givers` has for each node all those that give
+/// it. A node outdoes another that it gives; if each gives the other, the greater one does.
 ///
-/// It takes time in proportion to what the rows have, and once more for a row that is walked for each node in it that it
-/// may give back.
+/// It takes time in proportion to the entries of the rows. For each node in a row that may be given back, it walks that
+/// node's row too.
 ///
 /// # Errors
 ///

@@ -1,4 +1,4 @@
-//! How many steps come before each node.
+//! The number of steps before each node.
 ghost use Rattle.std.specs.Prelude.{◌≡◌, ◌<◌, ◌≤◌, ◌∷◌, [], ℕ, None, IfOk, IfSome, OnOk, length, max};
 ghost use Rattle.requisites.specs.Nodes.{row};
 ghost use Rattle.install_order.specs.Levels.{AreCounted, AreLevelled, AreLevels, AreLevelsBelow, AreRows, AreNodesWith, IsJustAbove, IsLevelOf, IsPutAt, IsPutBy, level_of, lists_in, raise};
@@ -8,8 +8,8 @@ ghost use Rattle.install_order.specs.Steps.{StandsIn};
 use requisites::{NoMemory, Rows};
 use std::alloc::Global;
 
-/// How many steps come before each node that stands in a ring, by rings in order: one more than before any that it
-/// needs, but for those of its own ring.
+/// Finds the number of steps before each node of a ring, by rings in order. It is one more than the greatest number of
+/// those that the node needs, but for those of its own ring.
 pub(crate) fn levels_along(
     alloc: Global,
     needs: &Rows,
@@ -71,7 +71,7 @@ fn level_above(row: &[usize], levels: &[Option<usize>], most: usize) -> usize
     level
 }
 
-// The level, or that just above another one if this is greater.
+// The level, or the one just above `below` if that is greater.
 fn raised(level: usize, below: Option<usize>, most: usize) -> usize
     requires { IfSome below (λ below. below < most) }
     ensures level { result ≡ raise level below }
@@ -119,7 +119,7 @@ pub(crate) fn rows_by_level(
     rows_of(alloc, &nodes)
 }
 
-// How many levels there are.
+// The number of levels.
 fn level_count(levels: &[Option<usize>], most: usize) -> usize
     requires { AreLevelsBelow levels.now most }
     ensures { AreCounted levels.now result }

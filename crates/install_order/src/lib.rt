@@ -1,8 +1,10 @@
-//! Which members of a plan are left if one gives another, and in which steps the rest is installed (IBM z/OS
-//! SMP/E Reference, `++VER`, operands PRE, REQ and SUP), over nodes by their indices in a list.
+//! The order of installation: which members of a plan are left if one gives another, and in which steps the
+//! rest is installed (IBM z/OS SMP/E Reference, `++VER`, operands PRE, REQ and SUP). Members are nodes, known
+//! by their indices in a list.
 //!
-//! - [`left_marks`]: those that no other one outdoes
-//! - [`steps`]: the order of installation: each step has all that may come once those before it are installed
+//! - [`left_marks`]: the nodes that no other one outdoes
+//! - [`steps`]: the order of installation: each step has all nodes that may come once those before it are
+//!   installed
 //!
 //! ```
 //! use install_order::{left_marks, steps};

@@ -7,9 +7,9 @@ use crate::putting::rings_in_order;
 use requisites::{NoMemory, Rows};
 use std::alloc::Global;
 
-/// The steps in which the marked nodes are installed, as rows: each has all nodes, ascending, that may come once those
-/// before it are installed. What a node needs stands in a step before; or in its own, if that needs the node too. What
-/// a marked node needs has to be marked.
+/// Returns the steps in which the marked nodes are installed, as rows. Each has all nodes, ascending, that may come
+/// once those before it are installed. A node's needs are in a step before its own; or in its own, if they need the
+/// node too. Each need of a marked node has to be marked.
 ///
 /// It takes time in proportion to the nodes and the links.
 ///

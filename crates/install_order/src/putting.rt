@@ -12,11 +12,11 @@ use crate::ties::Ties;
 use requisites::{NoMemory, Rows, is_marked, turned};
 use std::alloc::Global;
 
-/// The marked nodes in rings: those that need one another stand together, and what a ring needs stands in it or in one
-/// before it.
+/// Puts the marked nodes in rings: nodes that need one another stand together, and each need of a ring is in it or in
+/// one before it.
 ///
-/// One search finds the rings in this order. Each is looked at before it is put. What would be left is put by a search
-/// for each ring.
+/// One search finds the rings in this order, and each is checked before it is put. If any nodes were left, a search
+/// for each ring would put them.
 pub(crate) fn rings_in_order(
     alloc: Global,
     needs: &Rows,
@@ -44,7 +44,7 @@ fn put_rings(
     put_all(alloc, needs, left, rings)
 }
 
-// Puts those of the rings that are found which may be put, each after the ones before it.
+// Puts those of the rings found that may be put, each after the ones before it.
 fn put_found(
     alloc: Global,
     needs: &Rows,
@@ -78,7 +78,7 @@ fn put_if_ring(
     Ok(())
 }
 
-// Whether nodes are left, need one another, and nothing else that is left.
+// Whether nodes are left, need one another, and need no other node that is left.
 fn is_ring(needs: &Rows, ties: &Ties, left: &[bool], ring: &[usize]) -> bool
     requires { AreTied needs.now (length left.now) ties.now.from.items ties.now.to.items }
     ensures { OnTrue result (IsRing needs.now left.now ring.now) }
@@ -117,7 +117,7 @@ fn is_of_ring(
         && are_in_or_put(needs.row(node), ties, left, ring)
 }
 
-// Whether those of a row that are left stand in a ring.
+// Whether those of a row that are left are in a ring.
 fn are_in_or_put(row: &[usize], ties: &Ties, left: &[bool], ring: &[usize]) -> bool
     ensures { OnTrue result
         ((q : ℕ) → Contains row.now q → IsMarked left.now q → Contains ring.now q) }
@@ -130,7 +130,7 @@ fn are_in_or_put(row: &[usize], ties: &Ties, left: &[bool], ring: &[usize]) -> b
     true
 }
 
-// Puts all that are left, by a search for each ring.
+// Puts all nodes that are left, by a search for each ring.
 fn put_all(alloc: Global, needs: &Rows, left: &mut [bool], rings: &mut Rows) -> Result<(), NoMemory>
     ensures goes { OnOk result (Goes needs.now left.old left.new rings.old rings.new) }
     ensures none { OnOk result (IsAnyLeft left.new → ⊥) }
@@ -154,7 +154,7 @@ fn is_any_left(left: &[bool]) -> bool
     false
 }
 
-// Puts nodes that need one another, and nothing else that is left.
+// Puts nodes that need one another, and need no other node that is left.
 fn put_next(
     alloc: Global,
     needs: &Rows,

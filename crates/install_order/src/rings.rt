@@ -8,10 +8,11 @@ ghost use Rattle.install_order.specs.Rings.{AreReached, IsAnyLeft, IsGreatestRoo
 use requisites::{NoMemory, Rows, is_marked, least_sources};
 use std::alloc::Global;
 
-/// Nodes that are left and need one another, and nothing else that is left.
+/// Finds nodes that are left and need one another, and need no other node that is left.
 ///
-/// For each node that is left one looks for the least one to which needs lead from it. Of those that are their own, the
-/// greatest needs nothing but nodes that need it too: what it leads to has none that is less, and none that is greater.
+/// For each node that is left it finds the source: the least node to which needs lead from it. Take the greatest node
+/// that is its own source. The nodes to which it leads have no lesser source and no greater one, so all of them need it
+/// too.
 pub(crate) fn ring_of(
     alloc: Global,
     needs: &Rows,

@@ -1,6 +1,6 @@
 //! Nodes that need one another, found in one search (Tarjan's).
 //!
-//! No clause says that what is found is right: who puts it in order looks first. The search makes that quick.
+//! No clause says that the rings found are right: each is checked before it is put. The search makes that quick.
 ghost use Rattle.std.specs.Prelude.{◌≡◌, length, OnOk};
 ghost use Rattle.requisites.specs.Good.{ComesNearer};
 
@@ -20,8 +20,8 @@ struct Walk {
     work: Vec<Turn>,
 }
 
-// The nodes that were entered and stand in no ring yet, and the rings. Of each node: its place among them, and the least
-// place that was found to need it and to be needed by it.
+// The nodes that were entered and are in no ring yet, and the rings. For each node: its place among those nodes, and
+// the least place of a node that was found to need it and to be needed by it.
 #[derive(Debug, Drop)]
 struct Found {
     entered: Vec<usize>,
@@ -31,7 +31,7 @@ struct Found {
     rings: Rows,
 }
 
-/// The marked nodes in rings: those that need one another stand together, and what a ring needs stands before it.
+/// Puts the marked nodes in rings: nodes that need one another stand together, and the needs of a ring stand before it.
 pub(crate) fn found_rings(alloc: Global, needs: &Rows, members: &[bool]) -> Result<Rows, NoMemory> {
     let mut walk = Walk {
         unseen: Vec::from_slice(alloc, members)?,
@@ -93,7 +93,7 @@ fn put_entered(found: &mut Found, node: usize) -> Result<(), NoMemory> {
     Ok(found.entered.push(node)?)
 }
 
-// Puts what a node needs to the work, to be entered before the node is left.
+// Puts the needs of a node to the work, to be entered before the node is left.
 fn put_turns(work: &mut Vec<Turn>, row: &[usize], node: usize) -> Result<(), NoMemory> {
     work.push(Turn::Leave(node))?;
     for need in row {
@@ -102,8 +102,8 @@ fn put_turns(work: &mut Vec<Turn>, row: &[usize], node: usize) -> Result<(), NoM
     Ok(())
 }
 
-// Finds what a node needs that needs it too. If that is nothing that was entered before it, what was entered since is a
-// ring with it.
+// Finds the needs of a node that need it too. If none of them was entered before it, the nodes that were entered since
+// are a ring with it.
 fn leave(found: &mut Found, row: &[usize], node: usize) -> Result<(), NoMemory> {
     let least = least_of(found, row, node);
     set_number(&mut found.least, node, least);

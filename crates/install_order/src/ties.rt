@@ -1,4 +1,4 @@
-//! How the nodes of a ring are tied: by needs that lead to each from the first of the ring, and back.
+//! The ties of a ring: needs that lead from its first node to each other one, and back.
 ghost use Rattle.std.specs.Prelude.{◌≡◌, ℕ, Contains, IfOk, OnOk, length};
 ghost use Rattle.std.specs.Bool.{OnTrue};
 ghost use Rattle.requisites.specs.Nodes.{row};
@@ -8,8 +8,8 @@ use crate::search::{set_mark, set_number};
 use requisites::{NoMemory, Rows, least_sources, turned};
 use std::alloc::Global;
 
-/// What ties nodes to the first of their ring. Of each node: the place at which it stands in its ring; and a node that
-/// leads to it and one to which it leads, if the ring is one.
+/// The ties of nodes to the first of their ring. For each node: its place in its ring; a node that leads to it and one
+/// to which it leads, if it is in a real ring.
 #[derive(Debug, Drop)]
 pub(crate) struct Ties {
     places: Vec<usize>,
@@ -18,7 +18,7 @@ pub(crate) struct Ties {
 }
 
 impl Ties {
-    /// The ties within rings that were found. It takes time in proportion to the nodes and the links.
+    /// Finds the ties within rings that were found. It takes time in proportion to the nodes and the links.
     pub(crate) fn of(
         alloc: Global,
         needs: &Rows,
@@ -47,7 +47,7 @@ impl Ties {
             && self.to.get(node).copied().flatten() == Some(first)
     }
 
-    /// Whether a node stands in a ring. It is looked for where it stands in its own.
+    /// Whether a node is in a ring. It looks at the place that the node has in its own.
     pub(crate) fn is_in(&self, ring: &[usize], node: usize) -> bool
         ensures { OnTrue result (Contains ring.now node) }
     {
@@ -61,7 +61,7 @@ fn stands_at(ring: &[usize], at: usize, node: usize) -> bool
     at < ring.len() && ring[at] == node
 }
 
-// The first node of the ring of each node, its place there, and the marks of the first ones.
+// The first node of each node's ring, its place there, and the marks of the first ones.
 #[derive(Debug, Drop)]
 struct Names {
     names: Vec<usize>,
@@ -106,7 +106,7 @@ fn name_ring(ring: &[usize], names: &mut [usize], places: &mut [usize], firsts: 
     }
 }
 
-// Of what each node needs those that have its name.
+// For each node those of its needs that have its name.
 fn rows_within(alloc: Global, needs: &Rows, names: &[usize]) -> Result<Rows, NoMemory>
     ensures { IfOk result (λ within. AreWithin needs.now within) }
 {
@@ -119,7 +119,7 @@ fn rows_within(alloc: Global, needs: &Rows, names: &[usize]) -> Result<Rows, NoM
     Ok(within)
 }
 
-// Makes a list that of the nodes of a row that are named as a node is.
+// Turns a list into that of the nodes of a row that have the name of a node.
 fn put_alike(
     own: &mut Vec<usize>,
     row: &[usize],

@@ -1,10 +1,10 @@
--- No part of what is promised: private contracts cite it. A part of the content by index: what is found of plans, picks and
--- verdicts over the indices of a part holds over the whole content, if the part is closed.
+-- A part of the content by index. If the part is closed, the plans,
+-- picks and verdicts found over its indices are those of the whole content.
 use Rattle.std.specs.Prelude.{◌<◌, ◌↔◌, ℕ, List, length}
 use Rattle.requisites.specs.World.{World}
 use Rattle.verdicts.specs.Indices.{IndexOf, id_at}
 
--- an index at which a need of p stands
+-- an index of a need of p
 pub record NeedIndex (members : List (List ℕ)) (V : World ℕ) (p : ℕ) (need : List ℕ) : Type 0 where
   pub at : IndexOf members need
   pub needs : V.Needs p at.index

@@ -1,4 +1,4 @@
--- No part of what is promised: private contracts cite it. What gives what among what was gathered, by index.
+-- Which of the gathered SYSMODs gives which, by index.
 use Rattle.std.specs.Prelude.{◌≡◌, ◌<◌, ℕ, Bool, true, false, List, Contains, length, map, slice_index_or}
 use Rattle.requisites.specs.Leads.{Leads}
 use Rattle.requisites.specs.Nodes.{row}
@@ -13,8 +13,7 @@ IsAbove above p q = Contains (row above p) q
 abbrev pub is_catalogued_at : List Gathered → ℕ → Bool
 is_catalogued_at gathered p = slice_index_or (map (λ g. g.entry.catalogued) gathered) p false
 
--- an id that gives what stands at an index: it is catalogued, and to its own index leads what supersedes that one, directly
--- or through others
+-- an id that gives the one at an index: it is catalogued, and is that one or supersedes it, directly or through others
 pub record IsGiverAt (ids : List (List ℕ)) (gathered : List Gathered) (above : List (List ℕ)) (index : ℕ) (id : List ℕ) : Type 0 where
   pub own : ℕ
   pub within : own < length ids

@@ -16,7 +16,7 @@ members_of content = in_order (ids_of content ++ flat_map all_needs (map (sight_
 abbrev pub sight_at : List Sight → ℕ → Sight
 sight_at sights p = slice_index_or sights p unseen
 
--- of each member of which something was read: whether it may be installed in a zone, what it needs there, and what it supersedes
+-- each member that was read: whether it may be installed in a zone, its needs there, and the ids that it supersedes
 pub record AreRowsOf (rows : List ZoneRow) (members : List (List ℕ)) (sights : List Sight) (candidates : List Bool) (needs supersedes : List (List ℕ)) : Type 0 where
   pub candidates_are : MarksAre (λ p mark. mark ≡ list_any (λ fmid. is_installed rows fmid) (sight_at sights p).fmids) (length sights) candidates
   pub needs_are : RowsAre (λ p indices. AreIndicesOf members (needs_seen rows (sight_at sights p)) indices) (length sights) needs

@@ -1,5 +1,5 @@
--- No part of what is promised: private contracts cite it. What is seen of ids, and which are there, by their indices in a
--- list that ascends.
+-- What is seen of ids, and which of them are there, by their indices
+-- in a list that ascends.
 use Rattle.std.specs.Prelude.{◌≡◌, ◌<◌, ◌↔◌, ◌⊎◌, ℕ, Bool, true, List, length, Contains}
 use Rattle.std.specs.List.{list_any}
 use Rattle.zone_lists.specs.Installed.{is_installed, is_listed}
@@ -10,19 +10,19 @@ use Rattle.requisites.specs.declared.nodes.Nodes.{Nodes}
 use Rattle.verdicts.specs.Indices.{AreIndicesOf, MarksAre, RowsAre, id_at}
 use Rattle.listings.specs.Sights.{IsSeen, Sight, needs_seen}
 
--- something is so of what is seen of an id
+-- Q is true of what is seen of an id
 pub record SeenAs (f : List ℕ → Sight) (ids : List (List ℕ)) (id : List ℕ) (Q : Sight → Type 0) : Type 0 where
   pub sight : Sight
   pub seen : IsSeen f ids id sight
   pub so : Q sight
 
--- the marks and the needs of the first n members, by what is seen of each: it may be installed in a zone that has a function of it,
--- and needs what it needs in that zone
+-- the marks and the needs of the first n members, by what is seen of each: it may be installed in a zone that has one of its
+-- functions, and it has its needs in that zone
 pub record AreSeen (rows : List ZoneRow) (f : List ℕ → Sight) (ids members : List (List ℕ)) (n : ℕ) (candidates : List Bool) (needs : List (List ℕ)) : Type 0 where
   pub candidates_are : MarksAre (λ p mark. SeenAs f ids (id_at members p) (λ sight. mark ≡ list_any (λ fmid. is_installed rows fmid) sight.fmids)) n candidates
   pub needs_are : RowsAre (λ p indices. SeenAs f ids (id_at members p) (λ sight. AreIndicesOf members (needs_seen rows sight) indices)) n needs
 
--- what the first n members supersede, by what is seen of each
+-- the ids that the first n members supersede, by what is seen of each
 abbrev pub IsSupSeen : (List ℕ → Sight) → List (List ℕ) → List (List ℕ) → ℕ → List (List ℕ) → Type 0
 IsSupSeen f ids members n supersedes = RowsAre (λ p indices. SeenAs f ids (id_at members p) (λ sight. AreIndicesOf members sight.superseded indices)) n supersedes
 

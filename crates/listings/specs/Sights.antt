@@ -18,7 +18,7 @@ pub record Sight : Type 0 where
   pub conds : List CondNeed
   pub superseded : List (List ℕ)
 
--- of what isn't catalogued nothing is looked at
+-- nothing is seen of an id that isn't catalogued
 abbrev pub unseen : Sight
 unseen = record { catalogued = false; fmids = []; needs = []; conds = []; superseded = [] }
 
@@ -26,7 +26,7 @@ unseen = record { catalogued = false; fmids = []; needs = []; conds = []; supers
 abbrev pub reasons_in : List Hold → List (List ℕ)
 reasons_in holds = map (λ hold. hold.key.reason) (filter (λ hold. kind_order hold.key.kind == kind_order ErrorHold) holds)
 
--- by a record and the holds
+-- what is seen, by a record and the holds
 abbrev pub sight_from : Option Sysmod → List Hold → Sight
 sight_from found holds = record {
   catalogued = is_some found;
@@ -40,11 +40,11 @@ sight_from found holds = record {
 abbrev pub sight_of : Content → List ℕ → Sight
 sight_of content id = sight_from (record_of content id) (holds_on content id)
 
--- all that is named as a need, whatever the zone
+-- all ids that are named as a need, whatever the zone
 abbrev pub all_needs : Sight → List (List ℕ)
 all_needs sight = sight.needs ++ each_need sight.conds
 
--- what is needed in a zone
+-- the needs in a zone
 abbrev pub needs_seen : List ZoneRow → Sight → List (List ℕ)
 needs_seen rows sight = sight.needs ++ needs_where rows sight.conds
 
@@ -58,7 +58,7 @@ pub record IsListing (content : Content) (listing : ListingLists) : Type 0 where
   pub ids : listing.ids ≡ ids_of content
   pub sights : listing.sights ≡ map (sight_of content) listing.ids
 
--- it is for no function and supersedes nothing; then nobody asks what it needs
+-- it is for no function and supersedes nothing; then nobody asks for its needs
 pub record IsBare (sight : Sight) : Type 0 where
   pub fmids : sight.fmids ≡ []
   pub superseded : sight.superseded ≡ []

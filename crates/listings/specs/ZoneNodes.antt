@@ -12,7 +12,8 @@ pub record SurveyLists : Type 0 where
   pub members : List (List ℕ)
   pub nodes : Nodes
 
--- the survey of a zone over a content: it has all that is catalogued, and speaks of the indices as the content speaks of the ids
+-- the survey of a zone over a content: it has all that is catalogued, and says of the indices what the content says of the
+-- ids
 pub record IsSurvey (content : Content) (rows : List ZoneRow) (survey : SurveyLists) : Type 0 where
   pub cut : IsCut (world_of content rows) survey.members (world survey.nodes)
   pub whole : (id : List ℕ) → Contains (ids_of content) id → Contains survey.members id

@@ -1,4 +1,4 @@
-//! What requisites under a condition name, and what of it is needed in a zone.
+//! The needs that requisites under conditions name, and those of them that a zone has.
 ghost use Rattle.std.specs.Prelude.{◌≡◌, ◌++◌, ◌∷◌, [], ℕ, List, OnOk};
 ghost use Rattle.catalogue.specs.Ids.{Ascend};
 ghost use Rattle.supersede.specs.Giving.{each_need, needs_where};
@@ -36,7 +36,8 @@ pub(crate) fn push_indices_where(
     Ok(())
 }
 
-/// Makes a list that of the indices of what is needed in a zone, given those of what is always needed.
+/// Turns a list into that of the indices of all needs in a zone, given those that are needed in every
+/// zone.
 ///
 /// # Errors
 ///

@@ -1,4 +1,4 @@
-//! What was read of some ids, each once.
+//! The ids that were read, each once.
 ghost use Rattle.std.specs.Prelude.{◌≡◌, ◌≤◌, IfOk};
 ghost use Rattle.std.specs.BTreeMap.{keys};
 ghost use Rattle.catalogue.specs.Ids.{Ascend};
@@ -8,7 +8,7 @@ use mcs_reader::{Id, NoMemory};
 use std::alloc::Global;
 use std::collections::BTreeMap;
 
-/// The ids of which something was read, ascending.
+/// The ids that were read, ascending.
 ///
 /// # Errors
 ///
@@ -24,7 +24,8 @@ pub fn ids_found<T>(alloc: Global, found: &BTreeMap<Id, T>) -> Result<Vec<Id>, N
     Ok(ids)
 }
 
-/// Where the next id stands, from an index of an order on, of which nothing was read, or else where the order ends.
+/// The index of the next id of an order that wasn't read yet, from an index on; the order's length if there is
+/// none.
 pub fn next_unread<T>(found: &BTreeMap<Id, T>, order: &[Id], from: usize) -> usize
     ensures after { from ≤ result }
     ensures read { AreRead (keys found.now) order.now from → AreRead (keys found.now) order.now result }

@@ -16,17 +16,17 @@ use std::alloc::Global;
 use std::collections::BTreeMap;
 use verdicts::ascending;
 
-/// What is read of a SYSMOD that another one reaches.
+/// A SYSMOD that another one reaches, as it is read.
 #[derive(Debug, Drop)]
 pub struct Gathered {
-    /// What is read of it.
+    /// The SYSMOD itself.
     pub entry: Entry,
     /// The SYSMODs that supersede it directly.
     pub above: Ids,
 }
 
-/// What the source says of a SYSMOD, of all that it may need and all that supersedes it, of all that these may
-/// need, and so on. Each is read once. With a limit it gives up if there are more than so many.
+/// Reads a SYSMOD, all that it may need and all that supersedes it, all that these may need, and so on, each
+/// once. With a limit it gives up if there are more than so many.
 ///
 /// # Errors
 ///
@@ -73,7 +73,7 @@ fn is_full(found: &BTreeMap<Id, Gathered>, most: Option<usize>) -> bool
     }
 }
 
-// Puts what is read of an id among what was found, and the ids that it names at the end of the order.
+// Adds a SYSMOD that was read, and puts the ids that it names at the end of the order.
 fn add(
     found: &mut BTreeMap<Id, Gathered>,
     order: &mut Vec<Id>,

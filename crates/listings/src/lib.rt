@@ -1,16 +1,18 @@
-//! What is read of SYSMODs, by the indices of their ids: all that is catalogued, or all that one id reaches.
+//! The SYSMODs that are read from a source, by the indices of their ids: all that are catalogued, or all that one
+//! id reaches.
 //!
-//! - [`Listing`]: all that is catalogued, whatever the zone; [`listing_of`]: that of a source, read once;
-//!   [`Listing::renewed`]: over a publication, by what that touches
-//! - [`ZoneNodes`]: the nodes of a zone; [`ZoneNodes::of_listing`]: by a listing; [`zone_nodes_of`]: from a source
-//! - [`there_marks`]: which ids are there in a zone
-//! - [`Entry`]: what is read of an id, and nothing else
-//! - [`Gathered`]: what is read of an id that another reaches, and what supersedes it; [`gather`]: of all that
-//!   one reaches, from a source
-//! - [`Links`]: what these need and supersede, by index; [`givers_at`]: the ids that give one
-//! - [`ids_found`], [`next_unread`]: how a walk that reads goes on
+//! - [`Listing`]: all that is catalogued, whatever the zone; [`listing_of`]: reads it once from a source;
+//!   [`Listing::renewed`]: brings it up to date after a publication
+//! - [`ZoneNodes`]: the nodes of a zone; [`ZoneNodes::of_listing`]: makes them by a listing; [`zone_nodes_of`]:
+//!   reads them from a source
+//! - [`there_marks`]: the ids that are there in a zone
+//! - [`Entry`]: the parts of a SYSMOD that verdicts need
+//! - [`Gathered`]: the entry of an id that another reaches, and the ids that supersede it; [`gather`]: reads all
+//!   ids that one reaches
+//! - [`Links`]: the ids that these need and supersede, by index; [`givers_at`]: the ids that give one
+//! - [`ids_found`], [`next_unread`]: the state of a walk that reads
 //! - [`is_marked`]: whether an id is one of some that ascend
-//! - [`is_any_installed`], [`put_needs_where`]: what a zone has, and what is needed there under a condition
+//! - [`is_any_installed`], [`put_needs_where`]: the functions of a zone, and the needs that they bring
 #![tactic(auto)]
 
 mod conditional;

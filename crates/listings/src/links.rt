@@ -1,4 +1,4 @@
-//! What was gathered, by index, and what gives what among it.
+//! The SYSMODs that were gathered, by index, and which of them give which.
 ghost use Rattle.std.specs.Prelude.{◌≡◌, ◌<◌, ◌↔◌, ℕ, List, Contains, IfOk, filter, length, map};
 ghost use Rattle.std.specs.List.Sorted.{IsStrictlySortedBy};
 ghost use Rattle.std.specs.Ordering.{nat_cmp};
@@ -15,19 +15,19 @@ use std::alloc::Global;
 use std::collections::BTreeSet;
 use verdicts::{ascending, ids_at, put_indices};
 
-/// What some ids need, supersede and are superseded by, by their indices.
+/// The ids that each of some ids needs, supersedes and is superseded by, by their indices.
 #[derive(Debug, Drop)]
 pub struct Links {
-    /// What each may need in every zone.
+    /// The ids that each may need in every zone.
     pub needs: Rows,
-    /// What each supersedes directly.
+    /// The ids that each supersedes directly.
     pub supersedes: Rows,
-    /// What supersedes each directly.
+    /// The ids that supersede each directly.
     pub above: Rows,
 }
 
 impl Links {
-    /// By what was gathered of each of the ids, in their order.
+    /// Makes the links of ids by the SYSMODs that were gathered, in the order of the ids.
     ///
     /// # Errors
     ///
@@ -61,7 +61,7 @@ impl Links {
     }
 }
 
-/// The ids that give the one at an index, ascending.
+/// Finds the ids that give the one at an index, ascending.
 ///
 /// # Errors
 ///
@@ -85,7 +85,7 @@ pub fn givers_at(
     Ok(ascending(ids_at(alloc, ids, &givers)?))
 }
 
-// The indices to which what is above leads from one, itself among them, ascending.
+// The indices that lead up from one by superseding, itself among them, ascending.
 fn indices_above(alloc: Global, above: &Rows, index: usize) -> Result<Vec<usize>, NoMemory>
     ensures ascend { IfOk result (λ indices. IsStrictlySortedBy nat_cmp indices.items) }
     ensures each { IfOk result

@@ -1,4 +1,4 @@
-//! What a listing keeps by the indices of its members, whatever the zone.
+//! The rows of a listing by the indices of its members, whatever the zone.
 ghost use Rattle.std.specs.Prelude.{IfOk};
 ghost use Rattle.catalogue.specs.Ids.{Ascend};
 ghost use Rattle.listings.specs.ListedRows.{AreAlwaysNeeds, AreListedRows};
@@ -14,18 +14,18 @@ use requisites::Rows;
 use std::alloc::Global;
 use verdicts::put_indices;
 
-/// All that is listed and all that it needs, in order, with what each always needs and what it supersedes, by index.
+/// All that is listed and all that it needs, in order, with the ids that each always needs and supersedes, by index.
 #[derive(Debug, Drop)]
 pub(crate) struct ListedRows {
     pub(crate) members: Vec<Id>,
-    // Where each stands among the listed ids.
+    // The index of each among the listed ids.
     pub(crate) listed: Vec<Option<usize>>,
     pub(crate) needs: Rows,
     pub(crate) supersedes: Rows,
 }
 
 impl ListedRows {
-    /// By the listed ids, what is read of each, and the SUP of all of them.
+    /// Makes the rows by the listed ids, the entry of each, and the SUP of all of them.
     pub(crate) fn of(
         alloc: Global,
         ids: &[Id],
@@ -51,7 +51,7 @@ impl ListedRows {
     }
 }
 
-// What each member needs in every zone.
+// The needs of each member in every zone.
 fn always_needs(
     alloc: Global,
     members: &[Id],

@@ -1,4 +1,4 @@
-//! What a source says of all that is catalogued, read once.
+//! All that is catalogued, read once from a source.
 ghost use Rattle.std.specs.Prelude.{◌≡◌, ◌<◌, ◌≤◌, ◌++◌, length, map, IfOk, OnOk};
 ghost use Rattle.std.specs.List.{list_any};
 ghost use Rattle.zone_lists.specs.Installed.{is_installed};
@@ -23,7 +23,7 @@ use std::marker::Model;
 use supersede::Zone;
 use verdicts::{ascending, ids_at, index_of, sort_each_once};
 
-/// What is read of a SYSMOD. A contract sees it with its lists.
+/// The parts of a SYSMOD that verdicts need. A contract sees it with its lists.
 #[derive(Debug, Drop)]
 pub struct Entry {
     catalogued: bool,
@@ -48,7 +48,7 @@ impl Model for Entry {
 }
 
 impl Entry {
-    /// Of what isn't catalogued. It takes no memory.
+    /// The entry of an id that isn't catalogued. It takes no memory.
     pub(crate) fn unseen(alloc: Global) -> Self
         ensures { result ≡ unseen }
     {
@@ -75,14 +75,15 @@ impl Entry {
         self.catalogued
     }
 
-    /// The functions that it is for. What isn't catalogued has none.
+    /// The functions that it is for; none if it isn't catalogued.
     pub fn fmids(&self) -> &Ids
         ensures { result.now ≡ self.now.fmids }
     {
         &self.fmids
     }
 
-    /// What it needs in every zone, as it is read: its PRE, its REQ and the reasons of the ERROR holds on it.
+    /// The ids that it needs in every zone, in the order in which they were read: its PRE, its REQ and the reasons
+    /// of the ERROR holds on it.
     pub fn needs(&self) -> &[Id]
         ensures { result.now ≡ self.now.needs }
     {
@@ -102,14 +103,14 @@ impl Entry {
         Ok(ascending(needs))
     }
 
-    /// What it needs if a function is installed.
+    /// The ids that it needs if a function is installed.
     pub fn conds(&self) -> &CondNeeds
         ensures { result.now ≡ self.now.conds }
     {
         &self.conds
     }
 
-    /// What it supersedes directly.
+    /// The ids that it supersedes directly.
     pub fn superseded(&self) -> &[Id]
         ensures { result.now ≡ self.now.superseded }
     {
@@ -117,8 +118,8 @@ impl Entry {
     }
 }
 
-/// All that is catalogued: of each SYSMOD the functions that it is for, what it needs and what it supersedes. It
-/// names no zone.
+/// All that is catalogued: the functions that each SYSMOD is for, its needs and what it supersedes. It names no
+/// zone.
 #[derive(Debug, Drop)]
 pub struct Listing {
     ids: Vec<Id>,
@@ -147,7 +148,7 @@ impl Model for Listing {
 }
 
 impl Listing {
-    /// What is read of each of them, in their order.
+    /// The entry of each of them, in their order.
     pub(crate) fn entries(&self) -> &[Entry]
         ensures sights { result.now ≡ self.now.sights }
         ensures len { length result.now ≡ length self.now.ids }
@@ -155,7 +156,7 @@ impl Listing {
         self.entries.as_slice()
     }
 
-    /// What it keeps by the indices of its members.
+    /// The rows by the indices of its members.
     pub(crate) fn rows(&self) -> &ListedRows
         ensures { AreListedRows self.now.ids self.now.sights result.now.members.items
             result.now.listed.items result.now.needs result.now.supersedes }
@@ -178,8 +179,8 @@ impl Listing {
         Ok(ascending(found))
     }
 
-    /// That of a later content, if this one is of it but for some marked ids, of which it is read anew. Only what is
-    /// marked is looked at; all else is taken over.
+    /// The listing of a later content. This one is of that content but for some marked ids, and `read` has what the
+    /// content says of these. It looks at the marked ids only, and takes over all else.
     ///
     /// # Errors
     ///
@@ -224,11 +225,11 @@ impl Listing {
     }
 }
 
-// How many SYSMODs are read at once, at most: few enough that their records take little memory beside the listing.
+// The most SYSMODs that are read at once: so few that their records take little memory beside the listing.
 const RUN: usize = 4096;
 
-// How many of so many are read at once. Runs are as few as may be and of one length, since a store reads a short one
-// id by id.
+// The number of SYSMODs that are read at once, of so many. Runs are as few as may be and of one length, since a
+// store reads a short one id by id.
 fn run_len(count: usize) -> usize
     ensures some { 0 < result }
     ensures most { result ≤ 4096 }
@@ -237,7 +238,7 @@ fn run_len(count: usize) -> usize
     count.div_ceil(runs).max(1)
 }
 
-/// All that is catalogued, read once.
+/// Reads all that is catalogued, once.
 ///
 /// # Errors
 ///
@@ -260,7 +261,7 @@ pub fn listing_of<P: Published>(alloc: Global, source: &mut P) -> Result<Listing
     })
 }
 
-/// What is read of some ids, in runs.
+/// Reads the entries of some ids, in runs.
 pub(crate) fn entries_of<P: Published>(
     alloc: Global,
     source: &mut P,
@@ -279,7 +280,7 @@ pub(crate) fn entries_of<P: Published>(
     Ok(entries)
 }
 
-// Makes them so many. They are so many already, unless a disk returned what was never written.
+// Makes the entries so many. They are so many already, unless a disk returned what was never written.
 fn make_as_many(alloc: Global, entries: &mut Vec<Entry>, len: usize) -> Result<(), NoMemory>
     ensures len { OnOk result (length entries.new.items ≡ len) }
     ensures same { OnOk result (length entries.old.items ≡ len → entries.new.items ≡ entries.old.items) }
@@ -306,7 +307,7 @@ fn read_run<P: Published>(
     Ok(())
 }
 
-/// Adds what was read, in its order.
+/// Adds the entries of SYSMODs that were read, in their order.
 pub(crate) fn push_entries(
     alloc: Global,
     entries: &mut Vec<Entry>,
@@ -320,7 +321,7 @@ pub(crate) fn push_entries(
     Ok(())
 }
 
-/// What is read of an id, by its record and the holds on it.
+/// The entry of an id, by its record and the holds on it.
 pub(crate) fn entry_from(
     alloc: Global,
     sysmod: Option<Sysmod>,

@@ -13,7 +13,8 @@ use std::alloc::Global;
 use supersede::Zone;
 use verdicts::put_indices;
 
-/// Of each of the first members whether it may be installed in a zone, what it needs there, and what it supersedes.
+/// Each of the first members: whether it may be installed in a zone, its needs there, and the ids that it
+/// supersedes.
 #[derive(Debug, Drop)]
 pub(crate) struct MemberRows {
     pub(crate) candidates: Vec<bool>,
@@ -23,7 +24,7 @@ pub(crate) struct MemberRows {
     indices: Vec<usize>,
 }
 
-/// How many entries the rows of members have at most. It decides only how much room is taken at once, so no contract
+/// The most entries that the rows of members may have. It decides only how much room is made at once, so no contract
 /// speaks of it.
 #[derive(Clone, Copy, Debug)]
 pub(crate) struct Room {
@@ -32,7 +33,7 @@ pub(crate) struct Room {
 }
 
 impl Room {
-    /// That of no member.
+    /// The room of no member.
     pub(crate) fn none() -> Room {
         Room {
             needs: 0,
@@ -40,7 +41,7 @@ impl Room {
         }
     }
 
-    /// That with more members, by what was read of each.
+    /// Adds the room of more members, by their entries.
     pub(crate) fn with(self, entries: &[Entry]) -> Room {
         let mut room = self;
         for entry in entries {
@@ -52,7 +53,7 @@ impl Room {
 }
 
 impl MemberRows {
-    /// Of no member, with room for those of so many.
+    /// The rows of no member, with room for so many.
     pub(crate) fn with_room(alloc: Global, members: usize, room: Room) -> Result<Self, NoMemory>
         ensures candidates { IfOk result (λ rows. rows.candidates.items ≡ []) }
         ensures needs { IfOk result (λ rows. rows.needs ≡ []) }
@@ -66,7 +67,7 @@ impl MemberRows {
         })
     }
 
-    /// The same of the next members, by what was read of each.
+    /// Adds the rows of the next members, by their entries.
     pub(crate) fn push_all(
         &mut self,
         zone: &Zone,
@@ -112,7 +113,7 @@ impl MemberRows {
     }
 }
 
-/// Makes a list that of the indices of what is needed in a zone. The first is looked for at an index first.
+/// Turns a list into that of the indices of the needs in a zone. It looks for the first at a given index first.
 pub(crate) fn put_needs(
     indices: &mut Vec<usize>,
     members: &[Id],

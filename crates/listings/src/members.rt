@@ -30,7 +30,7 @@ fn listed_with_needs(alloc: Global, ids: &[Id], entries: &[Entry]) -> Result<Vec
     Ok(all)
 }
 
-/// Adds all that is named as a need, whatever the zone.
+/// Adds all ids that are named as a need, whatever the zone.
 pub(crate) fn push_needs(all: &mut Vec<Id>, entries: &[Entry]) -> Result<(), NoMemory>
     ensures { OnOk result (all.new.items ≡ all.old.items ++ flat_map all_needs entries.now) }
 {

@@ -1,4 +1,4 @@
-//! Where the ids of one list stand in another: both ascend, and each is gone through once.
+//! The places of one list's ids in another list. Both lists ascend, and each is gone through once.
 ghost use Rattle.std.specs.Prelude.{◌≡◌, ◌<◌, IfOk, OnOk, filter_map, length};
 ghost use Rattle.std.specs.declared.cmp.Ordering.TheVariants.{Less};
 ghost use Rattle.catalogue.specs.Ids.{Ascend, id_cmp};
@@ -9,7 +9,7 @@ ghost use Rattle.listings.specs.Places.{AreLesser, ArePlaces, IsPlace};
 use mcs_reader::{Id, NoMemory};
 use std::alloc::Global;
 
-/// For each id of one list where it stands in another, if it does.
+/// Finds for each id of one list its index in another, if it is there.
 pub(crate) fn places(alloc: Global, from: &[Id], to: &[Id]) -> Result<Vec<Option<usize>>, NoMemory>
     requires from { Ascend from.now }
     requires to { Ascend to.now }
@@ -24,7 +24,7 @@ pub(crate) fn places(alloc: Global, from: &[Id], to: &[Id]) -> Result<Vec<Option
     Ok(places)
 }
 
-// The first index at which no lesser id stands. Below an index all are known to be lesser.
+// The first index at which no lesser id stands. All ids below `known` are known to be lesser.
 fn past_lesser(ids: &[Id], known: usize, id: &Id) -> usize
     requires { AreLesser ids.now known id.now }
     ensures lesser { AreLesser ids.now result id.now }
@@ -38,7 +38,7 @@ fn past_lesser(ids: &[Id], known: usize, id: &Id) -> usize
     ids.len()
 }
 
-// Where an id stands, which can only be at one index.
+// The index of an id that can stand only there, if it does.
 fn place_here(ids: &[Id], index: usize, id: &Id) -> Option<usize>
     requires ascend { Ascend ids.now }
     requires lesser { AreLesser ids.now index id.now }
@@ -51,7 +51,7 @@ fn place_here(ids: &[Id], index: usize, id: &Id) -> Option<usize>
     None
 }
 
-/// Makes a list that of the places of indices, if they have one.
+/// Turns a list into that of the places of its indices, those without one left out.
 pub(crate) fn put_moved(
     indices: &mut Vec<usize>,
     places: &[Option<usize>],

@@ -1,4 +1,4 @@
-//! The nodes of a zone from a source. What is read for them goes, run by run.
+//! The nodes of a zone, read from a source. What is read for them is dropped run by run.
 ghost use Rattle.std.specs.Prelude.{◌≡◌, IfOk, map};
 ghost use Rattle.catalogue.specs.Ids.{Ascend};
 ghost use Rattle.catalogue.specs.View.{MayAsk, Tells};
@@ -19,12 +19,12 @@ use std::alloc::Global;
 use supersede::Zone;
 use verdicts::sort_each_once;
 
-// How many SYSMODs are read at once. What is read of a run is kept as long as the run, and a source that is a list has
-// nothing to win by longer ones.
+// The number of SYSMODs that are read at once. What is read is kept only for the run, and a source that is a list wins
+// nothing by longer runs.
 const RUN: usize = 512;
 
-/// All that is catalogued, and all that it needs, whatever the zone, as nodes. The source is gone through twice: for
-/// the members, and for what each of them has.
+/// Reads all that is catalogued, and all that it needs, whatever the zone, as nodes. It goes through the source twice:
+/// for the members, and for what each of them has.
 ///
 /// # Errors
 ///
@@ -56,14 +56,14 @@ pub fn zone_nodes_of<P: Published>(
     })
 }
 
-// All members, and how much room their rows take.
+// All members, and the room that their rows take.
 #[derive(Drop)]
 struct ReadMembers {
     members: Vec<Id>,
     room: Room,
 }
 
-// All that is catalogued, and all that it needs, ascending, each once.
+// Reads all that is catalogued, and all that it needs, ascending, each once.
 fn read_members<P: Published>(alloc: Global, source: &mut P) -> Result<ReadMembers, SourceFault>
     ensures asks { MayAsk P.content_view Device source.old source.new result }
     ensures ascend { IfOk result (λ read. Ascend read.members.items) }
@@ -83,7 +83,7 @@ fn read_members<P: Published>(alloc: Global, source: &mut P) -> Result<ReadMembe
     Ok(ReadMembers { members, room })
 }
 
-// What each member has.
+// Reads the rows of each member.
 fn read_rows<P: Published>(
     alloc: Global,
     source: &mut P,

@@ -1,4 +1,4 @@
-//! A listing kept over a publication: what that touches is read anew.
+//! A listing after a publication: the ids that the publication touches are read anew.
 ghost use Rattle.std.specs.Prelude.{◌≡◌, ◌<◌, ◌++◌, ◌∷◌, ℕ, List, IfOk, OnOk, is_some, length, map, slice_index_or};
 ghost use Rattle.std.specs.Vec.Iter.{into_iter_items};
 ghost use Rattle.catalogue.specs.Ids.{Ascend, in_order};
@@ -14,7 +14,8 @@ use std::alloc::Global;
 use std::vec::IntoIter;
 use verdicts::{index_of, sort_each_once};
 
-/// What is listed now, ascending: what was listed and isn't marked, and what is marked and was found.
+/// The ids that are listed now, ascending: those that were listed and aren't marked, and those that are marked and
+/// were found.
 pub(crate) fn ids_now(
     alloc: Global,
     ids: &[Id],
@@ -58,7 +59,7 @@ fn push_found(now: &mut Vec<Id>, marks: &[Id], read: &[Seen]) -> Result<(), NoMe
     Ok(())
 }
 
-// Whether what was read at an index is the record of a SYSMOD.
+// Whether a record was read at an index.
 fn is_found(read: &[Seen], index: usize) -> bool
     ensures { (other : SeenLists) → index < length read.now
         → result ≡ is_some (slice_index_or read.now index other).sysmod }
@@ -77,7 +78,7 @@ pub fn is_marked(marks: &[Id], id: &Id) -> bool
     index_of(marks, id).is_some()
 }
 
-/// What is listed of the ids that aren't marked.
+/// The entries of the listed ids that aren't marked.
 pub(crate) fn unmarked_entries(
     alloc: Global,
     ids: &[Id],
@@ -98,7 +99,7 @@ pub(crate) fn unmarked_entries(
     Ok(kept)
 }
 
-/// What was read of those that are catalogued.
+/// The entries of those that were read and are catalogued.
 pub(crate) fn found_entries(alloc: Global, mut read: Vec<Seen>) -> Result<Vec<Entry>, NoMemory>
     ensures { IfOk result (λ entries. entries.items ≡ map sight_seen (catalogued_among read.items)) }
 {
@@ -114,7 +115,7 @@ fn keep_catalogued(read: &mut Vec<Seen>)
     read.retain(|seen| seen.sysmod.is_some());
 }
 
-/// Those of the marked ids and those of the others, put together in the order of all.
+/// Puts the entries of the marked ids and of the others together in the order of all.
 pub(crate) fn woven(
     alloc: Global,
     ids: &[Id],
@@ -141,7 +142,7 @@ pub(crate) fn woven(
     Ok(entries)
 }
 
-// The next entry. If none is left it takes no memory either.
+// The next entry. If none is left, the one that it makes takes no memory either.
 fn next_of(alloc: Global, entries: &mut IntoIter<Entry>) -> Entry
     ensures { (first : Sight) (rest : List Sight) → into_iter_items entries.old ≡ first ∷ rest
         → (result ≡ first) × (into_iter_items entries.new ≡ rest) }

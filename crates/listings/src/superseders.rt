@@ -1,4 +1,4 @@
-//! Who supersedes what, of all that is listed.
+//! The SYSMODs that supersede others, of all that is listed.
 ghost use Rattle.std.specs.Prelude.{◌≡◌, ◌↔◌, ℕ, List, Contains, IfOk, IfSome, length, true};
 ghost use Rattle.std.specs.List.{flat_map};
 ghost use Rattle.catalogue.specs.Ids.{Ascend};
@@ -16,7 +16,7 @@ use verdicts::{index_near, index_of, put_indices, sort_each_once};
 /// The SUP of all entries of a listing, both ways.
 #[derive(Debug, Drop)]
 pub(crate) struct Superseders {
-    // All that is superseded, ascending. For each entry the indices of what it supersedes, and for each superseded id
+    // All superseded ids, ascending; for each entry the indices of the ids that it supersedes; for each superseded id
     // the indices of the entries that supersede it.
     superseded: Vec<Id>,
     below: Rows,
@@ -24,7 +24,7 @@ pub(crate) struct Superseders {
 }
 
 impl Superseders {
-    /// By the SUP of each entry. It takes memory in proportion to what these name.
+    /// Makes it by the SUP of each entry. It takes memory in proportion to the ids that these name.
     pub(crate) fn of(alloc: Global, entries: &[Entry]) -> Result<Superseders, NoMemory>
         ensures { IfOk result
             (λ found. AreSuperseders entries.now found.superseded.items found.below found.above) }
@@ -34,8 +34,8 @@ impl Superseders {
         Superseders::by_rows(alloc, superseded, below)
     }
 
-    /// By the SUP of each entry too, for one who knows that of the entries before: all but the marked ones were among
-    /// them. What an entry supersedes is looked for first where it stood. Nothing is promised of what was before.
+    /// The same, made from that of an earlier listing, which had all entries but the marked ones. It looks for the ids
+    /// that an entry supersedes first where they stood. No contract asks that the earlier one was right.
     pub(crate) fn renewed(
         self,
         alloc: Global,
@@ -62,7 +62,7 @@ impl Superseders {
         }
     }
 
-    // By what is superseded, and where it stands among that.
+    // Makes it by the superseded ids, and by the indices among them for each entry.
     fn by_rows(alloc: Global, superseded: Vec<Id>, below: Rows) -> Result<Superseders, NoMemory>
         requires { Ascend superseded.items }
         ensures { IfOk result (λ found. (sights : List Sight) → HaveAll sights superseded.items
@@ -77,7 +77,7 @@ impl Superseders {
         })
     }
 
-    // For each id where all that it superseded may stand now. These are places to look at first, and no more.
+    // For each id the indices at which all that it superseded may stand now. They are hints: indices to look at first.
     fn into_hints(
         self,
         alloc: Global,
@@ -104,14 +104,14 @@ impl Superseders {
         Ok(hints)
     }
 
-    /// All that is superseded, ascending.
+    /// All superseded ids, ascending.
     pub(crate) fn superseded(&self) -> &[Id]
         ensures { result.now ≡ self.now.superseded.items }
     {
         self.superseded.as_slice()
     }
 
-    /// For each entry the indices of what it supersedes.
+    /// For each entry the indices of the ids that it supersedes.
     pub(crate) fn below(&self) -> &Rows
         ensures { result.now ≡ self.now.below }
     {
@@ -132,7 +132,7 @@ impl Superseders {
     }
 }
 
-// All that entries supersede, ascending, each once.
+// All ids that entries supersede, ascending, each once.
 fn all_superseded(alloc: Global, entries: &[Entry]) -> Result<Vec<Id>, NoMemory>
     ensures ascend { IfOk result (λ ids. Ascend ids.items) }
     ensures whole { IfOk result (λ ids. HaveAll entries.now ids.items) }
@@ -152,7 +152,7 @@ fn superseded_in_turn(alloc: Global, entries: &[Entry]) -> Result<Vec<Id>, NoMem
     Ok(ids)
 }
 
-// For each entry where what it supersedes stands.
+// For each entry the indices of the ids that it supersedes.
 fn superseded_rows(alloc: Global, superseded: &[Id], entries: &[Entry]) -> Result<Rows, NoMemory>
     requires { Ascend superseded.now }
     ensures { IfOk result (λ rows. AreBelow entries.now superseded.now rows) }
@@ -166,8 +166,8 @@ fn superseded_rows(alloc: Global, superseded: &[Id], entries: &[Entry]) -> Resul
     Ok(rows)
 }
 
-// What was superseded before, and what the marked entries supersede: ascending, each once. Ids that nothing
-// supersedes any more are left in it.
+// The ids that were superseded before, and those that the marked entries supersede: ascending, each once. Ids that
+// nothing supersedes any more stay among them.
 fn superseded_now(
     alloc: Global,
     before: &[Id],
@@ -180,7 +180,7 @@ fn superseded_now(
     ensures { IfOk result (λ now. Ascend now.items) }
 {
     let mut added = superseded_by_marked(alloc, marks, ids, entries)?;
-    // In order first, so that two lists in order are put together.
+    // Sorts the added ones first, so that two lists in order are put together.
     sort_each_once(&mut added)?;
     let mut now = Vec::from_slice(alloc, before)?;
     now.extend_from_slice(&added)?;
@@ -206,7 +206,7 @@ fn superseded_by_marked(
     Ok(superseded)
 }
 
-// Whether most of it is left of before: the SUP of the entries name less than half as many ids.
+// Whether most of it is left from before: the SUP of the entries name less than half as many ids.
 fn is_mostly_left(superseded: &[Id], entries: &[Entry]) -> bool {
     let mut named = 0usize;
     for entry in entries {
@@ -215,8 +215,8 @@ fn is_mostly_left(superseded: &[Id], entries: &[Entry]) -> bool {
     named < superseded.len() / 2
 }
 
-// For each entry where what it supersedes stands, which is looked for first where the hints say. None if some of it
-// stands nowhere.
+// For each entry the indices of the ids that it supersedes, looked for first at the hints. `None` if one of them stands
+// nowhere.
 fn hinted_rows(
     alloc: Global,
     superseded: &[Id],
@@ -240,7 +240,7 @@ fn hinted_rows(
     Ok(Some(rows))
 }
 
-// Makes a list that of the indices of ids, if all of them stand somewhere. Each is looked for at its hint first.
+// Turns a list into that of the indices of ids, if all of them have one. It looks for each at its hint first.
 fn put_hinted(
     indices: &mut Vec<usize>,
     members: &[Id],

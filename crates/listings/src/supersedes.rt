@@ -1,4 +1,4 @@
-//! What each member supersedes, by the indices of members.
+//! The ids that each member supersedes, by the indices of members.
 ghost use Rattle.std.specs.Prelude.{◌≡◌, ℕ, List, IfOk, length, map};
 ghost use Rattle.catalogue.specs.Ids.{Ascend};
 ghost use Rattle.listings.specs.SeenIndices.{IsSupSeen};
@@ -16,8 +16,8 @@ use mcs_reader::{Id, NoMemory};
 use requisites::Rows;
 use std::alloc::Global;
 
-/// By the SUP of a listing, which is known by indices already: these are those of members now. `listed` has where each
-/// member stands among the ids.
+/// Turns the SUP of a listing, which has indices of its own, into indices of members. `listed` has the index of each
+/// member among the listed ids.
 pub(crate) fn moved_supersedes(
     alloc: Global,
     members: &[Id],
@@ -42,7 +42,7 @@ pub(crate) fn moved_supersedes(
     Ok(rows)
 }
 
-// The row at a place. What has no place has an empty one.
+// The row at a place; an empty one if there is no place.
 fn row_at(rows: &Rows, place: Option<usize>) -> &[usize]
     ensures { result.now ≡ Places.row_at rows.now place }
 {
@@ -52,7 +52,7 @@ fn row_at(rows: &Rows, place: Option<usize>) -> &[usize]
     }
 }
 
-/// What is read of an id, by where it stands among all that are listed. What stands nowhere is unseen.
+/// The entry of an id, by its index among all that are listed; unseen if it has none.
 pub(crate) fn entry_at<'a>(
     entries: &'a [Entry],
     unseen: &'a Entry,

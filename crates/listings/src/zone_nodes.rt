@@ -29,13 +29,13 @@ use supersede::Zone;
 pub struct ZoneNodes {
     /// The ids.
     pub members: Vec<Id>,
-    /// What is said of each.
+    /// What a zone and the catalogue say of each.
     pub nodes: Nodes,
 }
 
 impl ZoneNodes {
-    /// All that is catalogued, and all that it needs, whatever the zone, by a listing, which keeps what needs no
-    /// zone.
+    /// Makes nodes of all that is catalogued, and all that it needs, whatever the zone. It uses a listing, which
+    /// keeps what needs no zone.
     ///
     /// # Errors
     ///
@@ -55,7 +55,7 @@ impl ZoneNodes {
     }
 }
 
-// The nodes of the members of a listing, by what it keeps of them.
+// The nodes of the members of a listing, by its rows.
 fn nodes_by_rows(
     alloc: Global,
     zone: &Zone,
@@ -91,7 +91,7 @@ fn nodes_by_rows(
     })
 }
 
-// Of each member whether it may be installed in a zone, and what it needs there.
+// For each member whether it may be installed in a zone, and its needs there.
 #[derive(Drop)]
 struct Marked {
     candidates: Vec<bool>,
@@ -136,8 +136,8 @@ fn marks_and_needs(
     Ok(Marked { candidates, needs })
 }
 
-/// Which members are there: those that the zone lists, and what the installed ones supersede, themselves
-/// or through others.
+/// Marks the members that are there: those that the zone lists, and those that the installed ones supersede,
+/// themselves or through others.
 ///
 /// # Errors
 ///

@@ -1,4 +1,4 @@
--- Which nodes are good, and what gives what.
+-- The good nodes, and the least of them that gives each node.
 use Rattle.std.specs.Prelude.{◌≡◌, ◌<◌, ◌≤◌, ◌⊎◌, ℕ, List, Bool, true, false, Option, None, length, Contains, sum_by, if◌then◌else◌}
 use Rattle.requisites.specs.World.{IsGood, IsGoodGiver}
 use Rattle.requisites.specs.Nodes.{IsMarked, mark_of, row, world}
@@ -29,7 +29,7 @@ pub record IsLeastOpen (nodes : Nodes) (givers : List (Option ℕ)) (needs : Lis
   pub is_open : IsOpenNeed nodes givers needs r
   pub least : (s : ℕ) → IsOpenNeed nodes givers needs s → r ≤ s
 
--- how many nodes are marked
+-- the number of marked nodes
 abbrev pub marked_count : List Bool → ℕ
 marked_count marks = sum_by (λ b. if b then 1 else 0) marks
 
@@ -38,7 +38,7 @@ pub record HasOpenNeed (nodes : Nodes) (givers : List (Option ℕ)) (p : ℕ) : 
   pub need : ℕ
   pub is_open : IsOpenNeed nodes givers (row nodes.needs p) need
 
--- what is left when the marked nodes below i with an open need have lost their marks
+-- the marks after the marked nodes below i with an open need have lost theirs
 pub record AreSwept (nodes : Nodes) (givers : List (Option ℕ)) (i : ℕ) (old new : List Bool) (fell : Bool) : Type 0 where
   pub len : length new ≡ length old
   pub falls : (p : ℕ) → IsMarked new p → IsMarked old p
@@ -48,13 +48,13 @@ pub record AreSwept (nodes : Nodes) (givers : List (Option ℕ)) (i : ℕ) (old 
   pub same : fell ≡ false → new ≡ old
   pub met : fell ≡ false → (p : ℕ) → p < i → IsMarked old p → AreMet nodes givers (row nodes.needs p)
 
--- the marks that are left: of candidates alone, and of each good node
+-- the marks that are left: of candidates only, and of each good node
 pub record AreMarksLeft (nodes : Nodes) (marks : List Bool) : Type 0 where
   pub len : length marks ≡ length nodes.candidates.items
   pub candidates : (p : ℕ) → IsMarked marks p → IsMarked nodes.candidates.items p
   pub keep : (p : ℕ) → IsGood (world nodes) p → IsMarked marks p
 
--- open: each node that a good one gives is
+-- each node that a good one gives is open
 pub record AreOpen (nodes : Nodes) (marks : List Bool) : Type 0 where
   pub given : (r z : ℕ) → IsGoodGiver (world nodes) r z → IsMarked marks r
 
@@ -77,11 +77,11 @@ pub record AreAmong (indices others : List ℕ) : Type 0 where
 pub record AreClosedBut (opens : List Bool) (ring indices : List ℕ) : Type 0 where
   pub each : (p : ℕ) → Contains indices p → (mark_of opens p ≡ false) ⊎ Contains ring p
 
--- what supersedes one of these nodes is closed, or one of a ring
+-- each node that supersedes one of these is closed, or one of a ring
 pub record AreShutOff (superseders : List (List ℕ)) (opens : List Bool) (ring indices : List ℕ) : Type 0 where
   pub each : (p : ℕ) → Contains indices p → AreClosedBut opens ring (row superseders p)
 
--- a ring in which an open node stands, of which none is marked, and that nothing open from outside supersedes
+-- a ring of an open node: none of it is marked, and no open node outside supersedes any of it
 pub record CanClose (superseders : List (List ℕ)) (marks opens : List Bool) (ring : List ℕ) (p : ℕ) : Type 0 where
   pub index : p < length opens
   pub was_open : IsMarked opens p

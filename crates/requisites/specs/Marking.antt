@@ -1,4 +1,4 @@
--- No part of what is promised: private contracts cite it. What a walk by picks has marked so far.
+-- No part of what is promised: private contracts cite it. The nodes that a walk by picks has marked so far.
 use Rattle.std.specs.Prelude.{◌≡◌, ◌<◌, ◌≤◌, ◌++◌, ℕ, Bool, List, length, Contains, take}
 use Rattle.requisites.specs.Nodes.{IsMarked, world}
 use Rattle.requisites.specs.World.{IsChosenByAny, IsGood, PicksFor}
@@ -15,7 +15,8 @@ pub record AreMarked (row : List ℕ) (marks marks' : List Bool) (order order' :
   pub stays : (q : ℕ) → IsMarked marks q → IsMarked marks' q
   pub len : length marks' ≡ length marks
 
--- the order has the good ones of some nodes, and what picks lead to from there; of those before a node of it all picks are in it
+-- the order has the good ones of some nodes, and nodes to which picks lead from there; it has all picks of those before an
+-- index
 pub record IsPicking (nodes : Nodes) (starts : List ℕ) (marks : List Bool) (order : List ℕ) (at : ℕ) : Type 0 where
   pub begun : (x : ℕ) → Contains starts x → IsGood (world nodes) x → Contains order x
   pub put : (q : ℕ) → IsMarked marks q → Contains order q
@@ -25,7 +26,7 @@ pub record IsPicking (nodes : Nodes) (starts : List ℕ) (marks : List Bool) (or
   pub within : at ≤ length order
   pub len : length marks ≡ length nodes.candidates.items
 
--- just what is chosen for a good one of some nodes is marked
+-- just the members of the chosen plans of some nodes are marked
 pub record AreChosenMarks (nodes : Nodes) (starts : List ℕ) (marks : List Bool) : Type 0 where
   pub chosen : (q : ℕ) → IsMarked marks q → IsChosenByAny (world nodes) starts q
   pub whole : (q : ℕ) → IsChosenByAny (world nodes) starts q → IsMarked marks q

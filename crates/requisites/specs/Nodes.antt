@@ -20,7 +20,7 @@ pub record Links (lists : List (List ℕ)) (n p q : ℕ) : Type 0 where
   pub listed : Contains (row lists p) q
   pub index : q < n
 
--- the rows have, for each of n nodes, those that link to it, and nothing else
+-- the rows have, for each of n nodes, those that link to it, and no others
 pub record AreReversed (lists : List (List ℕ)) (n : ℕ) (reversed : List (List ℕ)) : Type 0 where
   pub turned : (p q : ℕ) → Links lists n p q → Contains (row reversed q) p
   pub only : (p q : ℕ) → Contains (row reversed q) p → Links lists n p q

@@ -2,7 +2,7 @@
 use Rattle.std.specs.Prelude.{◌≡◌, ◌≤◌, ℕ, zero, suc, List, [], ◌∷◌, map, replicate, slice_index}
 use Rattle.std.specs.List.{slice_range}
 
--- the rows of a list of entries: the first has what stands from a start to the first end, where the next one starts
+-- the rows of a list of entries: the first goes from a start to the first end, where the next one starts
 abbrev pub rows_from : List ℕ → ℕ → List ℕ → List (List ℕ)
 rows_from entries start [] = []
 rows_from entries start (end ∷ ends) = slice_range entries start end ∷ rows_from entries end ends

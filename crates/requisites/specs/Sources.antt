@@ -1,4 +1,4 @@
--- From which marked node each node is reached first.
+-- The marked node from which each node is reached first.
 use Rattle.std.specs.Prelude.{◌≡◌, ◌≤◌, ℕ, List, Bool, Option, Some, None, length, slice_index_or}
 use Rattle.requisites.specs.Leads.{Leads}
 use Rattle.requisites.specs.Nodes.{IsMarked, Links}

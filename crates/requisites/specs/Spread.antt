@@ -1,10 +1,10 @@
--- No part of what is promised: private contracts cite it. What the search for sources has done so far.
+-- No part of what is promised: private contracts cite it. The state of the search for sources.
 use Rattle.std.specs.Prelude.{◌≡◌, ◌<◌, ◌≤◌, ◌⊎◌, ◌+◌, ℕ, List, Option, Some, None, length, Contains, is_none, sum_by, if◌then◌else◌}
 use Rattle.requisites.specs.Leads.{Leads}
 use Rattle.requisites.specs.Nodes.{Links}
 use Rattle.requisites.specs.Sources.{source_of, HasSource}
 
--- how many nodes have no source
+-- the number of nodes without a source
 abbrev pub sourceless : List (Option ℕ) → ℕ
 sourceless sources = sum_by (λ o. if is_none o then 1 else 0) sources
 
@@ -27,7 +27,7 @@ pub record SourcesTaken (row : List ℕ) (s : ℕ) (old new : List (Option ℕ))
   pub grows : length work ≤ length work'
   pub count : length work' + sourceless new ≡ length work + sourceless old
 
--- what a node with a source links to has one too, unless the node is still to be worked on
+-- a node to which one with a source links has one too, unless that one is still to be worked on
 pub record AreClosed (lists : List (List ℕ)) (sources : List (Option ℕ)) (work : List ℕ) : Type 0 where
   pub closed : (p q : ℕ) → HasSource sources p → Links lists (length sources) p q → HasSource sources q ⊎ Contains work p
 

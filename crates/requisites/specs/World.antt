@@ -1,9 +1,10 @@
--- Plans: what can be installed together (IBM z/OS SMP/E Reference, `++VER`, operands PRE, REQ and SUP).
+-- Plans: SYSMODs that can be installed together (IBM z/OS SMP/E Reference, `++VER`, operands PRE, REQ and
+-- SUP).
 use Rattle.std.specs.Prelude.{◌≡◌, List, Contains, ◌⊎◌}
 use Rattle.requisites.specs.Leads.{Leads}
 
--- Ids as a zone sees them: which of them may be installed there, what each needs, what is there already, which
--- gives which, and their order.
+-- Ids as a zone sees them: which of them may be installed there, the needs of each, which are there already,
+-- which gives which, and their order.
 pub record World (A : Type 0) : Type 1 where
   pub Candidate : A → Type 0
   pub Needs : A → A → Type 0
@@ -76,7 +77,7 @@ pub record IsChosenByAny {A : Type 0} (W : World A) (starts : List A) (y : A) : 
   pub good : IsGood W start
   pub chosen : IsChosen W start y
 
--- what the chosen plans of the good ones of some ids have together, as a list in any order
+-- the members of the chosen plans of the good ones of some ids, as a list in any order
 pub record AreChosenPlans {A : Type 0} (W : World A) (starts members : List A) : Type 0 where
   pub chosen : (y : A) → Contains members y → IsChosenByAny W starts y
   pub whole : (y : A) → IsChosenByAny W starts y → Contains members y

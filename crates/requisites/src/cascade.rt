@@ -1,8 +1,8 @@
-//! What falls with what: a quick way to all that isn't good.
+//! Lets nodes fall with what they need: a quick way to all that isn't good.
 //!
-//! A ring of superseding closes if none of its nodes is left and nothing open from outside supersedes any; what needs a
-//! closed node falls. Each fall and each closing wakes those that it may concern, so that the whole takes time in
-//! proportion to the nodes and their links.
+//! A ring of superseding closes if none of its nodes is left and no open node outside supersedes any of them. A node
+//! that needs a closed one falls. Each fall and each closing wakes the nodes that it may concern, so the whole takes
+//! time in proportion to the nodes and their links.
 ghost use Rattle.std.specs.Prelude.{◌≡◌, ◌≤◌, ◌⊎◌, false, length, Contains, IfOk, OnOk};
 ghost use Rattle.std.specs.Bool.{OnTrue};
 ghost use Rattle.requisites.specs.Good.{AreAmong, AreClosedBut, AreMarksLeft, AreOpen, AreShutOff, AreUngiven, AreUnmarked, CanClose, ComesNearer, HasClosedNeed, IsShut, marked_count};
@@ -14,7 +14,7 @@ use crate::rings::Rings;
 use crate::{NoMemory, Rows};
 use std::alloc::Global;
 
-/// What leads to each node: what supersedes it, and what needs it.
+/// The nodes that lead to each node: those that supersede it, and those that need it.
 #[derive(Debug, Drop)]
 pub(crate) struct Around {
     pub(crate) superseders: Rows,
@@ -36,7 +36,7 @@ impl Around {
     }
 }
 
-// What is open, how much keeps the ring called after each node open, and what is to be looked at.
+// The nodes that are open, the number of supports that keep each ring open, and the nodes to be looked at.
 #[derive(Debug, Drop)]
 struct Opening {
     open: Vec<bool>,
@@ -72,8 +72,8 @@ pub(crate) fn cascade(
     Ok(())
 }
 
-// For the ring called after each node how many from outside supersede one of it, and how many of it are
-// marked.
+// For each ring, under the node that names it: the number of links by which nodes outside supersede one of it, and of
+// its marked nodes.
 fn first_supports(
     alloc: Global,
     around: &Around,
@@ -155,7 +155,7 @@ fn look(
     Ok(())
 }
 
-// Takes the mark from a node that needs what is closed and isn't there.
+// Takes the mark from a node if a need of it is closed and isn't there.
 fn fall(
     nodes: &Nodes,
     rings: &Rings,
@@ -186,7 +186,7 @@ fn has_closed_need(nodes: &Nodes, opens: &[bool], node: usize) -> bool
     false
 }
 
-// Whether nothing keeps a ring open in which an open node stands.
+// Whether nothing keeps the ring of an open node open.
 fn can_close(
     around: &Around,
     rings: &Rings,
@@ -216,7 +216,7 @@ fn are_unmarked(marks: &[bool], indices: &[usize]) -> bool
     true
 }
 
-// Whether what supersedes a node of a ring is closed or stands in the ring.
+// Whether each node that supersedes one of a ring is closed or in the ring.
 fn are_shut_off(around: &Around, rings: &Rings, opens: &[bool], ring: &[usize]) -> bool
     ensures { OnTrue result (AreShutOff around.now.superseders opens.now ring.now ring.now) }
 {
@@ -283,7 +283,7 @@ fn shut(opening: &mut Opening, node: usize)
     }
 }
 
-// Puts what the closing of a node may concern to the work.
+// Puts the nodes that the closing of a node may concern to the work.
 fn wake(
     nodes: &Nodes,
     around: &Around,
@@ -308,7 +308,7 @@ fn wake(
     Ok(())
 }
 
-// Counts one support less for a ring. Whether none is left.
+// Takes one support from a ring. Returns whether none is left.
 fn lose_support(supports: &mut [usize], name: usize) -> bool {
     if name < supports.len() {
         supports[name] = supports[name].saturating_sub(1);

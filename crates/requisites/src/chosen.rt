@@ -1,4 +1,4 @@
-//! Chosen plans: all to which lists of picks lead.
+//! Chosen plans: all nodes to which lists of picks lead.
 ghost use Rattle.std.specs.Prelude.{◌≡◌, IfNone, IfOk, IfSome, OnOk, filter};
 ghost use Rattle.std.specs.List.Sorted.{IsStrictlyIncreasing};
 ghost use Rattle.requisites.specs.Good.{AreGood};
@@ -12,8 +12,8 @@ use crate::marking::Marked;
 use crate::nodes::Nodes;
 use std::alloc::Global;
 
-/// All that the chosen plans of the good ones of some nodes have, ascending, each once: one walk from all of them,
-/// which takes each node once. The needs of no other node are looked at.
+/// Finds the members of the chosen plans of the good ones of some nodes, ascending, each once. It walks from all
+/// of them at once and takes each node once. It looks at the needs of no other node.
 ///
 /// # Errors
 ///
@@ -75,7 +75,7 @@ fn good_ones(
     Ok(good)
 }
 
-// Makes a list that of the picks for the needs of a node that aren't there.
+// Turns a list into that of the picks for the needs of a node that aren't there.
 fn put_picks(
     picks: &mut Vec<usize>,
     nodes: &Nodes,

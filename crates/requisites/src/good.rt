@@ -1,4 +1,4 @@
-//! Which nodes are good.
+//! Finds the good nodes.
 ghost use Rattle.std.specs.Prelude.{◌≡◌, ◌⊎◌, [], ◌∷◌, length, min, IfNone, IfOk, IfSome};
 ghost use Rattle.std.specs.Bool.{OnFalse, OnTrue};
 ghost use Rattle.std.specs.Option.{option_map_or};
@@ -13,12 +13,12 @@ use crate::rings::Rings;
 use crate::sources::{least_sources, source_at};
 use std::alloc::Global;
 
-/// Which nodes are good, and what gives what.
+/// The good nodes, and the least of them that gives each node.
 #[derive(Debug, Drop)]
 pub struct Resolution {
     /// Whether some plan holds the node.
     pub good: Vec<bool>,
-    /// The least good node that gives it.
+    /// The least good node that gives the node.
     pub givers: Vec<Option<usize>>,
 }
 
@@ -36,8 +36,8 @@ impl Resolution {
     }
 }
 
-/// Finds the good nodes: those that are left when what has a need that isn't there, and that
-/// nothing left gives, is taken away for as long as there is any.
+/// Finds the good nodes. It takes away each node with a need that isn't there and that no node left gives, until there
+/// is no such node.
 ///
 /// # Errors
 ///
@@ -51,12 +51,12 @@ pub fn resolve(alloc: Global, nodes: &Nodes) -> Result<Resolution, NoMemory>
     Ok(Resolution { good, givers })
 }
 
-// How often all nodes are looked at before what leads to each is asked for. Most needs that nothing gives are a few
+// The number of rounds over all nodes before the links to each node are made. Most needs that nothing gives are a few
 // steps away from what falls with them, so that mostly nothing falls any more after two or three rounds.
 const ROUNDS: usize = 8;
 
-// Takes the marks from what isn't good, and finds what gives what among the rest. If nothing falls after a few rounds,
-// what leads to each node isn't asked for, and takes no room.
+// Takes the marks from nodes that aren't good, and finds the givers among the rest. If nothing falls after a few
+// rounds, it doesn't make the links to each node, which would take room.
 fn fall(alloc: Global, nodes: &Nodes, marks: &mut [bool]) -> Result<Vec<Option<usize>>, NoMemory>
     requires { marks.old ≡ nodes.now.candidates.items }
     ensures good { IfOk result (λ givers. AreGood nodes.now marks.new givers.items) }
@@ -71,7 +71,7 @@ fn fall(alloc: Global, nodes: &Nodes, marks: &mut [bool]) -> Result<Vec<Option<u
     fall_on(alloc, nodes, marks)
 }
 
-// The same, if some have lost their marks: what falls with them falls in a cascade.
+// The same after some have lost their marks: all that falls with them falls in a cascade.
 fn fall_on(alloc: Global, nodes: &Nodes, marks: &mut [bool]) -> Result<Vec<Option<usize>>, NoMemory>
     requires { AreMarksLeft nodes.now marks.old }
     ensures good { IfOk result (λ givers. AreGood nodes.now marks.new givers.items) }
@@ -85,12 +85,12 @@ fn fall_on(alloc: Global, nodes: &Nodes, marks: &mut [bool]) -> Result<Vec<Optio
         if !sweep(nodes, &givers, marks) {
             return Ok(givers);
         }
-        // If something falls still, a ring of superseding has kept it up.
+        // If a node falls even now, a ring of superseding has kept it up.
         rings = Rings::of(alloc, &nodes.supersedes, &around.superseders)?;
     }
 }
 
-// Takes the mark from each node with an open need. Whether there was one.
+// Takes the mark from each node with an open need. Returns whether there was one.
 fn sweep(nodes: &Nodes, givers: &[Option<usize>], marks: &mut [bool]) -> bool
     ensures { AreSwept nodes.now givers.now (length marks.old) marks.old marks.new result }
 {
@@ -137,7 +137,7 @@ fn is_met(nodes: &Nodes, givers: &[Option<usize>], need: usize) -> bool
     source_at(givers, need).is_some()
 }
 
-// The need, or the one before if that is less.
+// The need, or the least one before if that is less.
 fn lesser(least: Option<usize>, need: usize) -> usize
     ensures { result ≡ option_map_or (λ open_need. min open_need need) least need }
 {

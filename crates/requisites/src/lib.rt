@@ -1,12 +1,14 @@
-//! What can be installed together, by what each needs and what supersedes what (IBM z/OS SMP/E
-//! Reference, `++VER`, operands PRE, REQ and SUP), over nodes by their indices in a list.
+//! SYSMODs that can be installed together, by the needs of each and by superseding (IBM z/OS SMP/E
+//! Reference, `++VER`, operands PRE, REQ and SUP). They are nodes, known by their indices in a list.
 //!
 //! - [`Nodes`]: what a zone and the catalogue say of each node; [`Rows`]: for each node a row of nodes
-//! - [`resolve`]: which nodes some plan holds, and what gives what, as a [`Resolution`]
+//! - [`resolve`]: the nodes that some plan holds, and the least of them that gives each node, as a
+//!   [`Resolution`]
 //! - [`verdict_of_node`]: a node's chosen plan or its blocked need, as a [`Verdict`]
-//! - [`chosen_plans`]: what the chosen plans of several nodes have together
-//! - [`least_sources`]: for each node the least marked one that leads to it; [`source_at`], [`has_source`]
-//! - [`turned`]: for each node those in whose rows it stands
+//! - [`chosen_plans`]: the members of the chosen plans of several nodes
+//! - [`least_sources`]: each node's source, which is the least marked node that leads to it;
+//!   [`source_at`]: the source of one node; [`has_source`]: whether it has one
+//! - [`turned`]: for each node those whose rows list it
 //! - [`is_marked`]: whether a node is marked
 //!
 //! ```

@@ -39,7 +39,7 @@ impl Marked {
         Ok(())
     }
 
-    /// The same for one node. What is past the end of the marks is no node.
+    /// The same for one node. An index past the end of the marks is no node.
     pub(crate) fn mark(&mut self, node: usize) -> Result<(), NoMemory>
         ensures { OnOk result (AreMarked (node ∷ []) self.old.marks.items self.new.marks.items
             self.old.order.items self.new.order.items) }

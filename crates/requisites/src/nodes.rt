@@ -1,4 +1,4 @@
-//! `Nodes`.
+//! Nodes, and what a zone and the catalogue say of each.
 ghost use Rattle.std.specs.Prelude.{◌≡◌};
 ghost use Rattle.requisites.specs.Nodes.{mark_of, row};
 
@@ -6,17 +6,17 @@ use crate::Rows;
 
 /// Ids by their indices in an ascending list, with what a zone and the catalogue say of each.
 ///
-/// A node that a list leaves out has no mark, or no nodes listed for it.
+/// If a list is too short for a node, the node has no mark, or no nodes are listed for it.
 #[derive(Debug, Drop)]
 pub struct Nodes {
     /// Whether the id may be installed.
     pub candidates: Vec<bool>,
-    /// Whether the id is there already, or something installed gives it.
+    /// Whether the id is there already: it is listed, or an installed one gives it.
     pub there: Vec<bool>,
-    /// What the id needs. A need past the end of `candidates` is no node: nothing gives it, and it is there
-    /// just if `there` is long enough to mark it.
+    /// The needs of the id. A need past the end of `candidates` is no node: nothing gives it, and it is
+    /// there only if `there` is long enough to mark it.
     pub needs: Rows,
-    /// What the id supersedes.
+    /// The ids that the id supersedes.
     pub supersedes: Rows,
 }
 

@@ -6,10 +6,10 @@ ghost use Rattle.requisites.specs.Reversed.{AreTaken, HavePlaces, RowAdded, fill
 use crate::{NoMemory, Rows};
 use std::alloc::Global;
 
-/// For each of `len` nodes those in whose rows it is listed.
+/// Lists for each of `len` nodes those whose rows list it.
 ///
-/// It takes time in proportion to the nodes and the links, and room for the rows that it makes and one number
-/// more for each node.
+/// It takes time in proportion to the nodes and the links. It takes room for the rows that it makes, and for
+/// one number more for each node.
 ///
 /// # Errors
 ///
@@ -23,7 +23,7 @@ pub fn turned(alloc: Global, lists: &Rows, len: usize) -> Result<Rows, NoMemory>
     Ok(rows)
 }
 
-// How often each of so many nodes is listed.
+// The number of times that each of so many nodes is listed.
 fn counts(alloc: Global, listed: &[usize], len: usize) -> Result<Vec<usize>, NoMemory>
     ensures len { IfOk result (λ counts. length counts.items ≡ len) }
     ensures times { IfOk result (λ counts.
@@ -38,7 +38,7 @@ fn counts(alloc: Global, listed: &[usize], len: usize) -> Result<Vec<usize>, NoM
     Ok(counts)
 }
 
-// Fills rows from their ends, in which so many places are left as there are links to come.
+// Fills rows from their ends. `left` has the number of entries that each row has yet to get.
 fn fill(lists: &Rows, rows: &mut Rows, left: &mut [usize])
     requires places { HavePlaces left.old rows.old }
     requires as_many { (q : ℕ) → q < length left.old → slice_index left.old q ≡ times_in lists.now q }
@@ -50,7 +50,7 @@ fn fill(lists: &Rows, rows: &mut Rows, left: &mut [usize])
     }
 }
 
-// Puts a node into the row of each that is listed for it.
+// Puts a node into the row of each node that its own row lists.
 fn put_row(rows: &mut Rows, left: &mut [usize], listed: &[usize], node: usize)
     requires places { HavePlaces left.old rows.old }
     requires room { (q : ℕ) → q < length left.old → times listed.now q ≤ slice_index left.old q }
@@ -63,7 +63,7 @@ fn put_row(rows: &mut Rows, left: &mut [usize], listed: &[usize], node: usize)
     }
 }
 
-// Puts a node at the last place that is left in a row.
+// Puts a node at the last index of a row that is left.
 fn put(rows: &mut Rows, left: &mut [usize], below: usize, node: usize)
     requires places { HavePlaces left.old rows.old }
     requires room { (q : ℕ) → q < length left.old → times (below ∷ []) q ≤ slice_index left.old q }

@@ -1,7 +1,7 @@
 //! Rings: nodes that supersede each other.
 //!
-//! No clause says that what is found are the rings: who closes the nodes of one together looks whether
-//! they may be closed. Rings make that quick.
+//! No clause says that the rings found are right. Whoever closes the nodes of a ring together checks
+//! first that they may be closed. Rings make that quick.
 ghost use Rattle.std.specs.Prelude.{◌≡◌, ℕ, None, length, Contains, OnOk};
 ghost use Rattle.std.specs.Bool.{OnTrue};
 ghost use Rattle.requisites.specs.Good.{ComesNearer};
@@ -12,18 +12,18 @@ use crate::sources::{source_at, spread};
 use crate::{NoMemory, Rows};
 use std::alloc::Global;
 
-/// Nodes in rings: those that lead to each other stand together, and each other node alone.
+/// Nodes in rings: nodes that lead to each other stand together, and any other node stands alone.
 #[derive(Debug, Drop)]
 pub(crate) struct Rings {
-    // For each node the one after which its ring is called, and where it stands in the ring.
+    // For each node the one that names its ring, and its index in the ring.
     named: Vec<usize>,
     at: Vec<usize>,
-    // For each node the ring that is called after it.
+    // For each node the ring that it names.
     members: Vec<Vec<usize>>,
 }
 
 impl Rings {
-    /// Each node alone. It takes no memory.
+    /// Each node alone.
     pub(crate) fn none(alloc: Global) -> Rings {
         Rings {
             named: Vec::new(alloc),
@@ -32,19 +32,19 @@ impl Rings {
         }
     }
 
-    /// The rings of links, which are given both ways. It takes time in proportion to the links.
+    /// Finds the rings of links, which are given both ways. It takes time in proportion to the links.
     pub(crate) fn of(alloc: Global, lists: &Rows, reversed: &Rows) -> Result<Rings, NoMemory> {
         let order = left_in_order(alloc, lists, reversed.len())?;
         let names = names_of(alloc, reversed, order)?;
         rings_by(alloc, &names)
     }
 
-    /// The node after which the ring of a node is called.
+    /// The node that names the ring of a node.
     pub(crate) fn name_of(&self, node: usize) -> usize {
         self.named.get(node).copied().unwrap_or(node)
     }
 
-    /// The ring of a node, or what is handed if the node stands alone.
+    /// The ring of a node, or `alone` if the node stands alone.
     pub(crate) fn ring_of<'a>(&'a self, node: usize, alone: &'a [usize]) -> &'a [usize] {
         match self.members.get(self.name_of(node)) {
             Some(members) => members.as_slice(),
@@ -52,7 +52,7 @@ impl Rings {
         }
     }
 
-    /// Whether a node stands in a ring. It is looked for where it stands in its own.
+    /// Whether a node stands in a ring. It looks at the index that the node has in its own.
     pub(crate) fn is_in(&self, ring: &[usize], node: usize) -> bool
         ensures { OnTrue result (Contains ring.now node) }
     {
@@ -122,7 +122,7 @@ fn enter(walk: &mut Walk, lists: &Rows, node: usize) -> Result<(), NoMemory>
     Ok(())
 }
 
-// Puts what is listed for a node to the work, to be entered before the node is left.
+// Puts the nodes that are listed for a node to the work, to be entered before the node is left.
 fn put_steps(work: &mut Vec<Step>, listed: &[usize], node: usize) -> Result<(), NoMemory> {
     work.push(Step::Leave(node))?;
     for below in listed {
@@ -131,7 +131,7 @@ fn put_steps(work: &mut Vec<Step>, listed: &[usize], node: usize) -> Result<(), 
     Ok(())
 }
 
-// For each node the one after which its ring is called: of all that lead to it the last that was left.
+// For each node the one that names its ring: of all that lead to it the last that was left.
 fn names_of(
     alloc: Global,
     reversed: &Rows,

@@ -1,4 +1,4 @@
-//! `Rows`.
+//! Rows of nodes, in one list.
 ghost use Rattle.std.specs.Prelude.{◌≡◌, ◌≤◌, ◌<◌, ◌+◌, ◌++◌, [], ◌∷◌, length, replicate, slice_index, slice_set, IfOk, OnErr, OnOk};
 ghost use Rattle.std.specs.List.{concat, slice_range};
 ghost use Rattle.requisites.specs.Nodes.{row};
@@ -11,7 +11,7 @@ use std::marker::Model;
 /// For each node a row of nodes, all of them in one list. A contract sees the list of the rows.
 #[derive(Debug, Drop)]
 pub struct Rows {
-    // The entries of all rows, and where each row ends among them: there the next one starts.
+    // The entries of all rows, and the index at which each row ends among them and the next one starts.
     entries: Vec<usize>,
     ends: Vec<u32>,
 }
@@ -28,7 +28,7 @@ impl Model for Rows {
 }
 
 impl Rows {
-    /// No rows. It takes no memory.
+    /// No rows.
     pub fn new(alloc: Global) -> Self
         ensures { result ≡ [] }
     {
@@ -38,7 +38,7 @@ impl Rows {
         }
     }
 
-    /// No rows, with room for so many rows and so many entries in all.
+    /// No rows yet, with room for so many rows and so many entries in all.
     ///
     /// # Errors
     ///
@@ -52,7 +52,7 @@ impl Rows {
         })
     }
 
-    /// How many rows there are.
+    /// The number of rows.
     pub fn len(&self) -> usize
         ensures { result ≡ length self.now }
     {
@@ -75,7 +75,7 @@ impl Rows {
     ///
     /// # Errors
     ///
-    /// `NoMemory` if memory ran out, or all rows would have over 4,294,967,295 entries: the rows are as they were.
+    /// `NoMemory` if memory ran out, or all rows would have over 4,294,967,295 entries. The rows are as they were.
     pub fn push_row(&mut self, row: &[usize]) -> Result<(), NoMemory>
         ensures rows { OnOk result (self.new ≡ self.old ++ row.now ∷ []) }
         ensures err { OnErr result (self.new ≡ self.old) }
@@ -96,7 +96,7 @@ impl Rows {
         &self.entries
     }
 
-    /// For each count a row of so many nodes 0, to be filled by `put`. It takes just the room that they need.
+    /// For each count a row of so many nodes 0, for `put` to fill. It takes just the room that they need.
     pub(crate) fn blank(alloc: Global, counts: &[usize]) -> Result<Self, NoMemory>
         ensures { IfOk result (λ rows. rows ≡ blank_rows counts.now) }
     {
@@ -110,7 +110,7 @@ impl Rows {
         Ok(Rows { entries, ends })
     }
 
-    /// Puts an entry at a place of a node's row, in place of the one that stood there.
+    /// Replaces the entry at an index of a node's row.
     pub(crate) fn put(&mut self, node: usize, at: usize, entry: usize)
         requires node { node < length self.old }
         requires at { at < length (row self.old node) }
@@ -128,7 +128,7 @@ impl Rows {
         self.ends.shrink_to_fit();
     }
 
-    /// The same rows once more.
+    /// Copies the rows.
     ///
     /// # Errors
     ///
@@ -143,7 +143,7 @@ impl Rows {
     }
 }
 
-// How much room rows of these lengths need.
+// The room that rows of these lengths need.
 fn total(counts: &[usize]) -> usize {
     let mut total = 0usize;
     for count in counts {
@@ -152,7 +152,7 @@ fn total(counts: &[usize]) -> usize {
     total
 }
 
-// Puts so many nodes 0 after the others.
+// Adds so many nodes 0.
 fn push_blanks(entries: &mut Vec<usize>, count: usize) -> Result<(), NoMemory>
     ensures { OnOk result (entries.new.items ≡ entries.old.items ++ replicate count 0) }
 {
@@ -162,7 +162,7 @@ fn push_blanks(entries: &mut Vec<usize>, count: usize) -> Result<(), NoMemory>
     Ok(())
 }
 
-// Where a row ends that is put after these entries.
+// The end of a row that is put after these entries.
 fn end_with(entries: &[usize], row: &[usize]) -> Result<u32, NoMemory>
     ensures { IfOk result (λ end. end ≡ length entries.now + length row.now) }
 {
@@ -175,7 +175,7 @@ fn end_with(entries: &[usize], row: &[usize]) -> Result<u32, NoMemory>
     }
 }
 
-// Where the row of a node starts.
+// The index at which the row of a node starts.
 fn start_of(ends: &[u32], node: usize) -> usize
     requires { node < length ends.now }
     ensures { result ≡ start_at 0 ends.now node }
@@ -186,7 +186,7 @@ fn start_of(ends: &[u32], node: usize) -> usize
     ends[node - 1] as usize
 }
 
-// Where it ends.
+// The index at which it ends.
 fn end_of(ends: &[u32], node: usize) -> usize
     requires { node < length ends.now }
     ensures { result ≡ slice_index ends.now node }

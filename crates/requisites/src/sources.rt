@@ -1,4 +1,4 @@
-//! From which marked node each node is reached first.
+//! The marked node from which each node is reached first.
 ghost use Rattle.std.specs.Prelude.{◌≡◌, ◌↔◌, ℕ, [], ◌∷◌, length, true, IfOk, OnOk, vec_len};
 ghost use Rattle.requisites.specs.Sources.{AreLeastSources, HasSource, source_of};
 ghost use Rattle.requisites.specs.Spread.{AreClosed, SourcesSpread, SourcesTaken};
@@ -7,8 +7,8 @@ use crate::nodes::is_marked;
 use crate::{NoMemory, Rows};
 use std::alloc::Global;
 
-/// For each node the least marked node from which a list of links leads to it, by way of nothing or
-/// of others, or `None` if no marked node leads there.
+/// Finds for each node its source: the least marked node from which a list of links leads to it,
+/// directly or through others. It is `None` if no marked node leads there.
 ///
 /// It takes time in proportion to the marks and the links.
 ///
@@ -47,7 +47,7 @@ fn spread_all(
     Ok(())
 }
 
-/// Gives the source `start` to each node that has none yet and that a list leads to from there.
+/// Makes `start` the source of each node that has none yet and to which a list leads from `start`.
 pub(crate) fn spread(
     sources: &mut [Option<usize>],
     work: &mut Vec<usize>,
@@ -67,7 +67,7 @@ pub(crate) fn spread(
     Ok(())
 }
 
-// Gives the source to each node of a row that has none yet, and puts it to the work.
+// Gives the source to each node of a row that has none yet, and puts these nodes to the work.
 fn take_row(
     sources: &mut [Option<usize>],
     work: &mut Vec<usize>,
@@ -99,14 +99,14 @@ fn take_node(
     Ok(())
 }
 
-/// The source of a node, if it has one.
+/// The source of a node in the answer of [`least_sources`]; `None` if it has none.
 pub fn source_at(sources: &[Option<usize>], node: usize) -> Option<usize>
     ensures { result ≡ source_of sources.now node }
 {
     sources.get(node).copied().flatten()
 }
 
-/// Whether a node has a source.
+/// Whether a node has a source in the answer of [`least_sources`].
 pub fn has_source(sources: &[Option<usize>], node: usize) -> bool
     ensures { (result ≡ true) ↔ HasSource sources.now node }
 {

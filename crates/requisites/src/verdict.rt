@@ -9,18 +9,18 @@ use crate::good::{Resolution, least_open_need};
 use crate::nodes::Nodes;
 use std::alloc::Global;
 
-/// Whether a node can be installed, and with what, or why not.
+/// Whether a node can be installed: with which plan, or why not.
 #[derive(Debug, Drop)]
 pub enum Verdict {
     /// It is good, with its chosen plan, ascending.
     Good(Vec<usize>),
-    /// It is held, with the least need that isn't there and that nothing good gives.
+    /// It is held: this is the least need that isn't there and that no good node gives.
     Held(usize),
     /// It is no candidate.
     Lack,
 }
 
-/// The verdict on a node, by the resolution of its nodes.
+/// Gives the verdict on a node, by the resolution of its nodes.
 ///
 /// # Errors
 ///

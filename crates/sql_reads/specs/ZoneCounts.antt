@@ -1,4 +1,4 @@
--- No part of what is promised: private contracts cite it. What a row says of a zone and of how many rows it has.
+-- What a row says of a zone and of the number of its rows.
 use Rattle.std.specs.Prelude.{ℕ, nat_lt, List, Option, Some, None, option_and_then, if◌then◌else◌}
 use Rattle.sqlite_value.specs.Order.{Row, column}
 use Rattle.sql_tables.specs.Values.{id_in, number_in}

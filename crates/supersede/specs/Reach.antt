@@ -1,4 +1,4 @@
--- No part of what is promised: private contracts cite it. How the SYSMODs that give one are
+-- No part of what is promised but for `has`: private contracts cite it. How the SYSMODs that give one are
 -- gathered.
 use Rattle.std.specs.Prelude.{◌≡◌, ℕ, ◌++◌, Bool, true, not, List}
 use Rattle.std.specs.List.{list_any}

@@ -1,5 +1,5 @@
--- What a report asks of several SYSMODs at once: which candidates give each that isn't there (IBM z/OS SMP/E Reference,
--- `++VER`, operands SUP and FMID).
+-- The candidates that give each of several SYSMODs, if it isn't there: a report asks for them at once (IBM z/OS SMP/E
+-- Reference, `++VER`, operands SUP and FMID).
 use Rattle.std.specs.Prelude.{ℕ, List, Option, Some, None, filter, if◌then◌else◌}
 use Rattle.zone_lists.specs.declared.zones.ZoneRow.{ZoneRow}
 use Rattle.catalogue.specs.Content.{Content}

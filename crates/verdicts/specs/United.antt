@@ -1,4 +1,4 @@
--- What the chosen plans of some ids have together.
+-- The members of the chosen plans of some ids.
 use Rattle.std.specs.Prelude.{ℕ, List, []}
 use Rattle.std.specs.List.{flat_map}
 use Rattle.zone_lists.specs.declared.zones.ZoneRow.{ZoneRow}
@@ -16,6 +16,6 @@ plan_by lack = []
 abbrev pub plan_in : Content → List ZoneRow → List ℕ → List (List ℕ)
 plan_in content rows id = plan_by (verdict_of content rows id)
 
--- all that the chosen plans of some ids have, ascending, each once
+-- the members of the chosen plans of some ids, ascending, each once
 abbrev pub united : Content → List ZoneRow → List (List ℕ) → List (List ℕ)
 united content rows ids = in_order (flat_map (plan_in content rows) ids)

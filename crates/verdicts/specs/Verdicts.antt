@@ -57,7 +57,7 @@ module _ (content : Content) (rows : List ZoneRow) where
   abbrev pub blocked_need : List ℕ → Option (List ℕ)
   blocked_need id = find (λ need. is_none (pick_for need)) (in_order (open_needs id))
 
-  -- of a candidate that isn't good, what blocks it
+  -- the verdict on a candidate that isn't good, by its blocked need
   abbrev pub held_for : Option (List ℕ) → Judged
   held_for None = lack
   held_for (Some need) = held need

@@ -1,4 +1,5 @@
--- A content and a zone as a world, of which plans, picks and verdicts speak; what is good there, and what a verdict says.
+-- A content and a zone as a world, of which plans, picks and verdicts speak; which ids are good there, and what a verdict
+-- says.
 use Rattle.std.specs.Prelude.{◌≡◌, ℕ, ◌↔◌, true, List, Contains}
 use Rattle.std.specs.declared.cmp.Ordering.TheVariants.{Greater}
 use Rattle.zone_lists.specs.declared.zones.ZoneRow.{ZoneRow}

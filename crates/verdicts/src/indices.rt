@@ -31,7 +31,7 @@ pub fn do_ascend(ids: &[Id]) -> bool
     ids.is_sorted_by(|id, next| id.cmp(next).is_lt())
 }
 
-/// Where an id stands, if it stands there.
+/// The index of an id, if it is among the members.
 pub fn index_of(members: &[Id], id: &Id) -> Option<usize>
     requires { Ascend members.now }
     ensures some { IfSome result (λ index. IsAt members.now id.now index) }
@@ -40,7 +40,7 @@ pub fn index_of(members: &[Id], id: &Id) -> Option<usize>
     index_among(members, id)
 }
 
-/// The same, for one who knows where it may stand: there it is looked for first.
+/// The same, with an index to look at first.
 pub fn index_near(members: &[Id], first: usize, id: &Id) -> Option<usize>
     requires { Ascend members.now }
     ensures some { IfSome result (λ index. IsAt members.now id.now index) }
@@ -52,8 +52,8 @@ pub fn index_near(members: &[Id], first: usize, id: &Id) -> Option<usize>
     index_of(members, id)
 }
 
-/// Makes a list that of the indices of the ids that stand somewhere. The first is looked for at an index first, and
-/// each other one after the one before: what is listed together often stands together.
+/// Turns a list into that of the indices of those ids that are members. It looks for the first id at a given index
+/// first, and for each other one after the one before: ids that are listed together often stand together.
 ///
 /// # Errors
 ///
@@ -78,7 +78,7 @@ pub fn put_indices(
     Ok(())
 }
 
-/// The ids that stand at indices.
+/// The ids at indices.
 ///
 /// # Errors
 ///
@@ -94,7 +94,7 @@ pub fn ids_at(alloc: Global, members: &[Id], indices: &[usize]) -> Result<Vec<Id
     Ok(ids)
 }
 
-/// The id that stands at an index.
+/// The id at an index.
 pub fn id_at(members: &[Id], index: usize) -> Id
     requires { index < length members.now }
     ensures { result ≡ Indices.id_at members.now index }
@@ -102,7 +102,7 @@ pub fn id_at(members: &[Id], index: usize) -> Id
     members[index]
 }
 
-/// Ids that ascend, each once, as a list of such. It takes no memory.
+/// Ids that ascend, each once, as [`Ids`]. It takes no memory.
 pub fn ascending(ids: Vec<Id>) -> Ids
     requires { Ascend ids.items }
     ensures { result ≡ ids.items }

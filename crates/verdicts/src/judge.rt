@@ -1,4 +1,4 @@
-//! Who gives verdicts.
+//! Judges, who give verdicts.
 ghost use Rattle.std.specs.Prelude.{◌≡◌, IfOk, map, option_map};
 ghost use Rattle.catalogue.specs.Content.{Content, IsInOrder};
 ghost use Rattle.catalogue.specs.Ids.{Ascend};
@@ -18,14 +18,14 @@ use std::alloc::Global;
 use std::collections::BTreeSet;
 use supersede::Zone;
 
-/// Who gives verdicts over a source of published content.
+/// Gives verdicts over a source of published content.
 ///
-/// A judge may keep what it has found. It is right for a content if what it keeps is true of it.
+/// A judge may keep what it has found. It is right for a content if what it keeps is true of that content.
 pub trait Judge<P: Published> {
-    /// What is kept is true of the content.
+    /// What it keeps is true of the content.
     ghost is_right: { Self → Content → Type 0 };
 
-    /// The verdict on a SYSMOD in a zone.
+    /// Gives the verdict on a SYSMOD in a zone.
     ///
     /// # Errors
     ///
@@ -46,15 +46,15 @@ pub trait Judge<P: Published> {
 
     /// Forgets what is kept of these SYSMODs. It takes no memory.
     ///
-    /// It stays right for each content for which it was, and is right for each that says the same outside these ids, if
-    /// both are in order: what is published before, and after.
+    /// If the judge was right for a content, it stays right for it, and is right for each content that says the same
+    /// outside these ids, provided that both are in order: such as the content before a publication and after it.
     fn drop_touched(&mut self, ids: &[Id])
         ensures stays { (content : Content) → is_right self.old content → is_right self.new content }
         ensures right { (old new : Content) → IsInOrder old → IsInOrder new → is_right self.old old
             → AgreeOutside ids.now old new → is_right self.new new };
 
-    /// For each of some SYSMODs the candidates that give it, ascending, or `None` if it is there: the zone lists it, or
-    /// an installed SYSMOD gives it (IBM z/OS SMP/E Reference, `++VER`, operands SUP and FMID).
+    /// Finds for each of some SYSMODs the candidates that give it, ascending, or `None` if it is there: the zone lists
+    /// it, or an installed SYSMOD gives it (IBM z/OS SMP/E Reference, `++VER`, operands SUP and FMID).
     ///
     /// # Errors
     ///
@@ -73,8 +73,8 @@ pub trait Judge<P: Published> {
         ensures right { Tells P.content_view source.old source.new
             (λ content. is_right self.old content → is_right self.new content) };
 
-    /// For each SYSMOD which verdict it is, in the order of the list. A judge that can answer many at once
-    /// does so; otherwise one is asked for after the other.
+    /// Gives the status of each SYSMOD, in the order of the list. A judge that can answer many at once does so; any
+    /// other gives one verdict after the other.
     ///
     /// # Errors
     ///
@@ -100,8 +100,8 @@ pub trait Judge<P: Published> {
         Ok(statuses)
     }
 
-    /// All that the chosen plans of some SYSMODs have, ascending, each once. A judge that can look at many at
-    /// once does so; otherwise one verdict is asked for after the other.
+    /// Finds all members of the chosen plans of some SYSMODs, ascending, each once. A judge that can look at many at
+    /// once does so; any other gives one verdict after the other.
     ///
     /// # Errors
     ///

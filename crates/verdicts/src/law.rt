@@ -12,9 +12,9 @@ pub fn good_is_planned()
 {}
 
 /// A verdict is good exactly if a plan holds the SYSMOD, held exactly if it is a candidate that no plan holds,
-/// and lack exactly if it is no candidate. With good comes the chosen plan, ascending: the SYSMOD and all to
-/// which a list of picks leads from it. With held comes the blocked need: the least need that isn't there and
-/// that no good SYSMOD gives. No other verdict says so.
+/// and lack exactly if it is no candidate. Good comes with the chosen plan, ascending: the SYSMOD and all
+/// SYSMODs to which a list of picks leads from it. Held comes with the blocked need: the least need that isn't
+/// there and that no good SYSMOD gives. No other verdict comes with either.
 pub fn verdicts_are_right()
     ensures status { (content : Content) (rows : List ZoneRow) (id : List ℕ) → IsRightStatus content rows id }
     ensures verdict { (content : Content) (rows : List ZoneRow) (id : List ℕ)

@@ -1,10 +1,12 @@
-//! What can be installed in a zone: what a verdict is, who gives it, and ids by their places in a list.
+//! Verdicts on SYSMODs: which can be installed in a zone. It defines what a verdict is and what a judge answers, and
+//! has ids by their indices in a list.
 //!
-//! How verdicts are found is said elsewhere: over all that is catalogued, and from frames that are kept.
+//! Other crates find verdicts: `chains` over all that is catalogued, and `chain_cache` from frames that it keeps.
 //!
-//! - [`Verdict`]: a SYSMOD's chosen plan, or its blocked need, or that it doesn't apply; [`Status`]: which of these
-//! - [`Judge`]: who gives verdicts over published content
-//! - [`put_plan`], [`listed`]: what chosen plans have together, put into a set of ids and listed
+//! - [`Verdict`]: a SYSMOD's chosen plan, or its blocked need, or that it doesn't apply; [`Status`]: the same without
+//!   plan and need
+//! - [`Judge`]: gives verdicts over published content
+//! - [`put_plan`]: adds a chosen plan to a set of ids; [`listed`]: the ids of a set as a list
 //! - [`good_is_planned`], [`verdicts_are_right`]: laws of the definitions
 //! - [`index_of`], [`index_near`], [`put_indices`], [`id_at`], [`ids_at`]: ids by their indices in a list that ascends
 //! - [`sort_each_once`], [`do_ascend`], [`ascending`]: ids in ascending order

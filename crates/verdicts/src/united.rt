@@ -1,4 +1,4 @@
-//! What chosen plans have together.
+//! The members of chosen plans.
 ghost use Rattle.std.specs.Prelude.{◌≡◌, IfOk, OnOk};
 ghost use Rattle.catalogue.specs.Ids.{Ascend, put_among};
 ghost use Rattle.verdicts.specs.Judge as judge;
@@ -9,7 +9,7 @@ use mcs_reader::{Id, NoMemory};
 use std::alloc::Global;
 use std::collections::BTreeSet;
 
-/// Puts the chosen plan of a verdict among ids. There is none if the verdict isn't good.
+/// Adds the chosen plan of a verdict to ids. A verdict that isn't good has none.
 ///
 /// # Errors
 ///

@@ -8,16 +8,16 @@ use mcs_reader::Id;
 /// and REQ, `++IF`, and `++HOLD`, operand ERROR).
 #[derive(Debug, Drop)]
 pub enum Verdict {
-    /// It can, with these: its chosen plan, ascending, itself in it.
+    /// It can, with these: its chosen plan, ascending, with the SYSMOD itself.
     Good(Vec<Id>),
-    /// It can't, for want of this: the least of its needs that isn't there and that nothing which can
-    /// be installed gives.
+    /// It can't for want of this: the least of its needs that isn't there and that no SYSMOD gives
+    /// which can be installed.
     Held(Id),
     /// It isn't catalogued, or none of its functions is installed.
     Lack,
 }
 
-/// Which verdict it is.
+/// A verdict without its plan or need.
 #[derive(Clone, Copy, Debug, PartialEq, Eq)]
 pub enum Status {
     /// The SYSMOD can be installed.
@@ -29,7 +29,7 @@ pub enum Status {
 }
 
 impl Verdict {
-    /// Which verdict it is.
+    /// The verdict without its plan or need.
     pub fn status(&self) -> Status
         ensures { result ≡ judge.status_of (judge.judged_by self.now) }
     {

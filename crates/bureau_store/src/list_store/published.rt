@@ -1,4 +1,4 @@
-//! What is published, as the store in lists keeps it.
+//! The published content of the store in lists.
 ghost use Rattle.std.specs.Prelude.{◌≡◌, IfOk};
 ghost use Rattle.holddata.specs.HoldBook.{IsInKeyOrder};
 ghost use Rattle.catalogue.specs.Content.{ids_of, record_of, superseders, holds_on};
