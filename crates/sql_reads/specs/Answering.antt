@@ -1,4 +1,5 @@
--- What a text that reads gives of a connection at rest. What is said of one row, and of names, serves private contracts alone.
+-- The answer of a text that reads, over a connection at rest. The definitions on one row, and on names, serve private
+-- contracts alone.
 use Rattle.std.specs.Prelude.{◌≡◌, ◌⊎◌, ℕ, List, [], ◌∷◌, IsTrue, Option, Some, None, option_map, Result, IfOk, Vec}
 use Rattle.std.specs.declared.alloc.Global.{Global}
 use Rattle.sqlite.specs.Query.{IsAnswer, Query}
@@ -21,7 +22,7 @@ use Rattle.sql_reads.specs.declared.fault.ReadFault.TheVariants.{Device}
 abbrev pub IsRead : List ℕ → Type 0
 IsRead text = (query : Query) × (names : List (List ℕ)) × (parameters : ℕ) × Reads bureau text query names parameters
 
--- The rows are what the text's query answers over the rows that are committed.
+-- The rows are the answer of the text's query over the committed rows.
 pub record Answers {Fault : Type 0} (text : List ℕ) (params : Row) (old new : State) (result : Result (Vec Row Global) Fault) : Type 0 where
   pub reads : OnlyReads old new
   pub is_open : IfOk result (λ rows. HasCleanDisk new → IsTrue new.is_open)
@@ -30,17 +31,17 @@ pub record Answers {Fault : Type 0} (text : List ℕ) (params : Row) (old new : 
       → IsAnswer query old.committed.trees params rows.items)
   pub shown : IfOk result (λ rows. HasCleanDisk new → Shows text params old.committed rows.items)
 
--- Why a text is refused: for want of memory; or the device has failed, or the text means or shows nothing here.
+-- Why a text is refused: memory ran out; or the device has failed; or the text means or shows nothing here.
 abbrev pub IsRefusedFor : List ℕ → Row → State → State → ReadFault → Type 0
 IsRefusedFor text params old new fault =
     fault ≡ Device → HasFailed old new ⊎ (MeansNothing text old.committed ⊎ Withholds old.step_limit text params old.committed)
 
--- what one row says, or nothing if there is no row; no answer if the row says nothing, or if there are more
+-- the meaning of one row, or nothing if there is no row; no answer if the row has no meaning, or if there are more
 abbrev pub one_of : {A : Type 0} → (Row → Option A) → List Row → Option (Option A)
 one_of read [] = Some None
 one_of read (row ∷ []) = option_map Some (read row)
 one_of read (row ∷ other ∷ rows) = None
 
--- the value is the text of the name under which the caller's last change stands
+-- the value is the text of the name under which the caller's last change is kept
 abbrev pub IsNameOf : Caller → Value → Type 0
 IsNameOf caller value = (name : List ℕ) × IsId name × (name_of caller ≡ Some name) × (value ≡ Text (text_of name))

@@ -1,4 +1,4 @@
--- The texts by which it is seen whether the tables are there.
+-- The texts that show whether the tables are there.
 use Rattle.std.specs.Prelude.{ℕ, suc, List, [], ◌∷◌, drop, length, map}
 use Rattle.std.specs.Borrow.{Bor}
 use Rattle.std.specs.List.{range_with_len}

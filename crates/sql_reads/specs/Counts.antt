@@ -1,4 +1,4 @@
--- No part of what is promised: private contracts cite it. What a query counts.
+-- No part of what is promised: private contracts cite it. The counts of queries.
 use Rattle.std.specs.Prelude.{◌≡◌, ◌<◌, ℕ, List, Some}
 use Rattle.sqlite.specs.Query.{IsAnswer, Query}
 use Rattle.sqlite.specs.Tree.{Trees}
@@ -9,7 +9,8 @@ use Rattle.sql_tables.specs.Values.{number_in}
 use Rattle.sql_tables.specs.Whole.{IsWhole}
 use Rattle.sql_reads.specs.Answering.{one_of}
 
--- the number in the one row that the query answers, unless it is the greatest, is so many of whole tables
+-- the number in the one row of the query's answer, unless it is the greatest, is the right number for
+-- whole tables
 abbrev pub Counts : Query → Row → (Stored → ℕ) → Type 0
 Counts query params many =
     (trees : Trees) (rows : List Row) (found : ℕ) → IsWhole (stored_in trees)

@@ -24,6 +24,6 @@ module _ {X K : Type 0} (cmp : K → K → Ordering) (key : X → K) where
   each_ascends [] ascend = tt
   each_ascends (x ∷ xs) ascend = (below_each x xs ascend.0, each_ascends xs ascend.1)
 
-  -- keys ascend just if what has them ascends by them
+  -- keys ascend exactly if the entries with these keys ascend by them
   pub ascends_by : (xs : List X) → IsStrictlySortedBy cmp (map key xs) ↔ IsStrictlySortedBy (λ a b. cmp (key a) (key b)) xs
   ascends_by xs = (each_ascends xs, keys_ascend xs)

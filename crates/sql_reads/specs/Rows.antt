@@ -1,4 +1,4 @@
--- No part of what is promised: what the one row of a key says.
+-- No part of what is promised: the meaning of the one row of a key.
 use Rattle.std.specs.Prelude.{◌≡◌, ℕ, List, [], ◌∷◌, Option, None, Some, cond, filter, is_some, option_and_then, option_map, refl, true, unwrap_or}
 use Rattle.std.specs.List.{filter_map}
 use Rattle.std.specs.List.Sorted.{IsPermutation}
@@ -11,7 +11,7 @@ use Rattle.sql_tables.specs.Values.{patterns_in}
 use Rattle.sql_tables.proofs.ClientFacts.{zone_found}
 use Rattle.sql_tables.proofs.ListFacts.{any_first}
 
--- what a row says as it is shown
+-- the meaning of a row as it is shown
 pub said_of_shown : {A : Type 0} (read : Row → Option A) (show : Row → Row) (default : A) (row : Option Row) (said : A)
     → said ≡ unwrap_or (option_and_then read (option_map show row)) default
     → said ≡ unwrap_or (option_and_then (λ r. read (show r)) row) default
@@ -32,7 +32,7 @@ patterns_said stored client zone patterns is =
     by [] none = sym (ap (λ rows. unwrap_or (option_and_then (λ row. patterns_in (column row 2)) (first rows)) []) none)
     by (x ∷ xs) some = refl
 
--- what all rows say
+-- the meaning of all rows
 pub said_of_all : {A : Type 0} (read : Row → Option A) (rows : List Row) (said : List A)
     → IsPermutation (filter_map read (filter (λ row. true) rows)) said → IsPermutation (filter_map read rows) said
 said_of_all read rows said = subst (λ kept. IsPermutation (filter_map read kept) said) (all_kept rows)

@@ -23,11 +23,11 @@ use Rattle.sql_reads.specs.declared.many.Queues.{Queues}
 
 -- ---- what is asked
 
--- the first column is the first parameter or beyond, and the second or below
+-- the first column is the first parameter or beyond, and the second parameter or before it
 abbrev pub between_given : List Term
 between_given = op2 (Compare Ge Binary) (col 1 1) (col 0 0) ∷ op2 (Compare Le Binary) (col 1 1) (col 0 1) ∷ []
 
--- of the rows in a tree that lie between, the columns at these indices without the rowid, ordered by others
+-- from the rows in a tree between the two, the columns at these indices without the rowid, ordered by others
 abbrev pub scan_of : ℕ → List ℕ → List ℕ → Query
 scan_of tree columns order = from_table tree between_given (map suc columns) order
 
@@ -51,7 +51,8 @@ KeysRise place (row ∷ next ∷ rows) =
 abbrev pub AreOf : List ℕ → List Row → List ℕ → List Row → Type 0
 AreOf columns table id rows = IsPermutation (map (shown columns) (filter (is_of id) table)) rows
 
--- Rows in the order of the ids, which stand at a place. Of each of these ids, which ascend, they are just the table's.
+-- Rows in the order of the ids, which are in the column at a place. For each of these ids, which ascend, they are exactly
+-- the table's.
 pub record HaveEach (columns : List ℕ) (place : ℕ) (table : List Row) (ids : List (List ℕ)) (rows : List Row) : Type 0 where
   pub ascend : TextsAscend ids
   pub rises : KeysRise place rows
@@ -72,7 +73,7 @@ Takes columns place id rows mine left =
     (table : List Row) (later : List (List ℕ)) → HaveEach columns place table (id ∷ later) rows
     → AreOf columns table id mine × HaveEach columns place table later left
 
--- Of each table that says something of a SYSMOD, all rows of these ids are left.
+-- Each table of a SYSMOD's data has all rows of these ids left.
 pub record AreLeft (stored : Stored) (ids : List (List ℕ)) (queues : Queues) : Type 0 where
   pub of_records : HaveEach (indices_of schema.sysmod) 0 stored.sysmods ids queues.records.rows.now
   pub of_sups : HaveEach (1 ∷ 0 ∷ []) 1 stored.sups ids queues.sups.rows.now

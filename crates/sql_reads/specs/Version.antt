@@ -18,8 +18,8 @@ version_in [] = None
 version_in (row ∷ []) = number_in (column row 0)
 version_in (row ∷ other ∷ rows) = None
 
--- Whatever tables a database has: the text means something under them, and with these parameters its query answers these rows.
--- A text that reads the time is given that too.
+-- Whatever tables a database has: the text means something under them, and with these parameters its query answers these
+-- rows. A text that reads the time is given it too.
 pub record Shows (text : List ℕ) (params : Row) (database : Database) (rows : List Row) : Type 0 where
   pub compiled : Compiled
   pub means : understood database.schema text ≡ Ok compiled
@@ -32,15 +32,15 @@ pub record Shows (text : List ℕ) (params : Row) (database : Database) (rows : 
 abbrev pub MeansNothing : List ℕ → Database → Type 0
 MeansNothing text database = (compiled : Compiled) → understood database.schema text ≡ Ok compiled → ⊥
 
--- Or it means something, and shows nothing all the same: it is more than one statement, takes other parameters, or reads the
--- time; or its query is refused over these rows.
+-- Or it means something, and still shows nothing: it is more than one statement, takes other parameters, or reads the time;
+-- or its query is refused over these rows.
 abbrev pub Withholds : Option ℕ → List ℕ → Row → Database → Type 0
 Withholds limit text params database = (compiled : Compiled) × (understood database.schema text ≡ Ok compiled)
     × ((length text ≤ compiled.tail → length params ≡ length compiled.names → compiled.formats ≡ [] → ⊥)
     ⊎ ((source : Database) × IsSourceOf (reads_listing database.schema text) database source
     × (now : ℕ) × (error : Error) × RefusesToRead limit compiled.command source (timed params compiled.formats now) error))
 
--- A text that asks the bureau's tables for their version shows rows here that tell this version, or none.
+-- A text that asks the bureau's tables for their version shows rows here that have this version, or none.
 pub record HasVersion (version : Option ℕ) (database : Database) : Type 0 where
   pub text : List ℕ
   pub asks : Reads bureau text read.version (codes "version" ∷ []) 0
@@ -48,7 +48,7 @@ pub record HasVersion (version : Option ℕ) (database : Database) : Type 0 wher
   pub shown : Shows text [] database rows
   pub told : version ≡ version_in rows
 
--- Such a text means something here, and shows nothing.
+-- Such a text means something here, and still shows nothing.
 abbrev pub WithholdsVersion : Option ℕ → Database → Type 0
 WithholdsVersion limit database =
     (text : List ℕ) × Reads bureau text read.version (codes "version" ∷ []) 0 × Withholds limit text [] database

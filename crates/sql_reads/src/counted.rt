@@ -22,7 +22,7 @@ use sql_texts::read;
 use sqlite::types::ValueRef;
 use sqlite::{Alter, Connection, Row};
 
-/// How many SYSMODs are catalogued and how many holds the book has. It goes through all of them.
+/// Counts the SYSMODs that are catalogued and the holds of the book. It goes through all of them.
 ///
 /// # Errors
 ///
@@ -41,7 +41,7 @@ pub fn counts<S: Alter>(conn: &mut Connection<S>) -> Result<(u64, u64), ReadFaul
     }
 }
 
-/// How many zones a client has.
+/// Counts the zones of a client.
 ///
 /// # Errors
 ///
@@ -56,7 +56,7 @@ pub fn zone_count<S: Alter>(conn: &mut Connection<S>, client: &Id) -> Result<u64
     count(conn, read::zone_count(), &params)
 }
 
-// The count that a text tells, with these parameters.
+// The count that a text answers, with these parameters.
 fn count<S: Alter>(
     conn: &mut Connection<S>,
     text: &str,
@@ -75,8 +75,8 @@ fn count<S: Alter>(
     number(rows.as_slice())
 }
 
-// The number in the one row of a query that counts. As much as the database can count is a fault, since it may be
-// more.
+// The number in the one row of a query that counts. The greatest number that the database can count is a fault,
+// since there may be more.
 fn number(rows: &[Row]) -> Result<u64, ReadFault>
     ensures count { IfOk result (λ count.
         one_of (λ row. value.number_in (order.column row 0)) rows.now ≡ Some (Some count)) }

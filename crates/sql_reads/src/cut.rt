@@ -1,4 +1,4 @@
-//! Rows in the order of a key, cut up by it.
+//! Rows in the order of a key, cut up by key.
 ghost use Rattle.std.specs.Prelude.{◌≡◌, ◌≢◌, ◌≤◌, ◌↔◌, IfSome, IsTrue, length, take};
 ghost use Rattle.std.specs.Cmp.Lexicographic.{slice_cmp};
 ghost use Rattle.std.specs.List.{All, slice_get};
@@ -33,14 +33,14 @@ fn is_not_above(row: &Row, other: &Row, place: usize) -> bool
     key_at(row, place).cmp(key_at(other, place)).is_le()
 }
 
-// Whether a row's key stands so to a text.
+// Whether a row's key compares so with a text.
 fn stands(row: &Row, place: usize, text: &[u8], wanted: Ordering) -> bool
     ensures { IsTrue result ↔ slice_cmp nat_cmp (key_at place row.now) text.now ≡ wanted }
 {
     key_at(row, place).cmp(text) == wanted
 }
 
-// How many rows at the front have a key that stands so to a text.
+// The number of rows at the front whose keys compare so with a text.
 #[tactic(auto, using(crate::proofs::CutFacts::all_more))]
 fn front(rows: &[Row], place: usize, text: &[u8], wanted: Ordering) -> usize
     ensures front { All (λ row. slice_cmp nat_cmp (key_at place row) text.now ≡ wanted)
@@ -59,7 +59,8 @@ fn front(rows: &[Row], place: usize, text: &[u8], wanted: Ordering) -> usize
     count
 }
 
-/// Of rows in the order of their keys those with this one, and those after them. Rows with lower keys are passed over.
+/// The rows with this key, and those after them, of rows in the order of their keys. Rows with lower keys are passed
+/// over.
 pub(crate) fn cut<'a>(rows: &'a [Row], place: usize, text: &[u8]) -> (&'a [Row], &'a [Row])
     ensures { KeysRise place rows.now → IsCut place text.now rows.now result.0.now result.1.now }
 {

@@ -1,4 +1,4 @@
-//! What the rows of an answer say, each for itself, and the order in which that comes.
+//! The meaning of an answer's rows, one by one, and the order in which it comes.
 ghost use Rattle.std.specs.Prelude.{◌≡◌, ◌↔◌, List, None, Option, Some, map, IfOk, IfSome, IsErrOf, IsTrue};
 ghost use Rattle.std.specs.Cmp.{IsTotalOrder};
 ghost use Rattle.std.specs.List.Sorted.{IsStrictlySortedBy};
@@ -11,12 +11,12 @@ use sql_tables::NoMemory;
 use sqlite::Row;
 use std::alloc::Global;
 
-/// What comes in an order of its own.
+/// A type with an order of its own.
 pub trait Ordered {
     /// The order.
     ghost cmp: { Self → Self → Ordering };
 
-    /// What ascends, each once, in the words of its own.
+    /// That a list ascends, each once, in the type's own words.
     ghost ascend: { List Self → Type 0 };
 
     /// Whether one comes before another.
@@ -26,25 +26,25 @@ pub trait Ordered {
     /// The order is total.
     ghost total: { IsTotalOrder cmp };
 
-    /// What ascends is what is in order.
+    /// A list ascends in those words exactly if it is sorted by the order.
     ghost ascends: { (items : List Self) → ascend items ↔ IsStrictlySortedBy cmp items };
 }
 
-/// What one row says.
+/// The meaning of one row.
 pub trait Entry: Ordered {
-    /// What the columns that are shown say.
+    /// The meaning of the columns that are shown.
     ghost found: { Values → Option Self };
 
-    /// What a row says, or `None` if nothing was written as it.
+    /// The meaning of a row, or `None` if it has none.
     fn in_row(alloc: Global, row: &Row) -> Result<Option<Self>, NoMemory>
         ensures { IfOk result (λ entry. entry ≡ found row.now) };
 }
 
-/// What each row says.
+/// Reads the meaning of each row.
 ///
 /// # Errors
 ///
-/// `Device` if a row says nothing; `Memory` if memory ran out.
+/// `Device` if a row has no meaning; `Memory` if memory ran out.
 pub fn each<E: Entry + Drop>(alloc: Global, rows: &[Row]) -> Result<Vec<E>, ReadFault>
     ensures said { IfOk result (λ entries. map Some entries.items ≡ map E.found rows.now) }
     ensures unsaid { IsErrOf result ReadFault.Device → (entries : List E)
@@ -67,7 +67,7 @@ pub fn are_ascending<X: Ordered>(items: &[X]) -> bool
     items.is_sorted_by(|item, next| item.is_below(next))
 }
 
-/// The same, if they ascend, each once.
+/// These again, if they ascend, each once.
 pub(crate) fn ascending<X: Ordered + Drop>(items: Vec<X>) -> Option<Vec<X>>
     ensures same { IfSome result (λ same. same.items ≡ items.items) }
     ensures ascend { IfSome result (λ same. X.ascend same.items) }
@@ -79,11 +79,12 @@ pub(crate) fn ascending<X: Ordered + Drop>(items: Vec<X>) -> Option<Vec<X>>
     Some(items)
 }
 
-/// What each row says, in ascending order.
+/// Reads the meaning of each row, in ascending order.
 ///
 /// # Errors
 ///
-/// `Device` if a row says nothing, or what they say doesn't ascend, each once; `Memory` if memory ran out.
+/// `Device` if a row has no meaning, or what the rows say doesn't ascend, each once; `Memory` if memory ran
+/// out.
 pub fn entries<E: Entry + Drop>(alloc: Global, rows: &[Row]) -> Result<Vec<E>, ReadFault>
     ensures said { IfOk result (λ entries. map Some entries.items ≡ map E.found rows.now) }
     ensures ascend { IfOk result (λ entries. E.ascend entries.items) }

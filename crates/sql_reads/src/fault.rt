@@ -9,7 +9,7 @@ pub enum ReadFault {
     /// Memory ran out.
     #[error("memory ran out")]
     Memory,
-    /// The device failed, or rows are not as the bureau writes them.
+    /// The device failed, or the rows are not as the bureau writes them.
     #[error("the device failed")]
     Device,
 }

@@ -1,4 +1,4 @@
-//! A row that says an id.
+//! A row of an id.
 
 use crate::entry::{Entry, Ordered};
 use mcs_reader::Id;

@@ -1,4 +1,4 @@
-//! Reads over two tables: superseders that are catalogued, rows of a zone that is there, holds on what is installed.
+//! Reads over two tables: superseders that are catalogued, rows of a zone that is there, holds on installed SYSMODs.
 ghost use Rattle.std.specs.Prelude.{◌≡◌, false, option_map, IfOk, IfSome};
 ghost use Rattle.bureau_store.specs.Held.{held_in};
 ghost use Rattle.bureau_store.specs.Tables as tables;
@@ -25,7 +25,7 @@ use sqlite::{Alter, Connection};
 use std::alloc::Global;
 use zone_lists::ZoneRow;
 
-/// The catalogued SYSMODs whose SUP names this one, ascending.
+/// Reads the catalogued SYSMODs whose SUP names this one, ascending.
 ///
 /// # Errors
 ///
@@ -46,7 +46,7 @@ pub fn superseders<S: Alter>(
     entries(alloc, rows.as_slice())
 }
 
-/// The holds of a kind on SYSMODs that are installed in a zone, in the order of their keys.
+/// Reads the holds of a kind on SYSMODs that are installed in a zone, in the order of their keys.
 ///
 /// # Errors
 ///
@@ -92,7 +92,7 @@ fn held_among<S: Alter>(
     entries(alloc, rows.as_slice())
 }
 
-/// The rows of a zone, ascending, or `None` if the client has no such zone.
+/// Reads the rows of a zone, ascending, or `None` if the client has no such zone.
 ///
 /// # Errors
 ///

@@ -1,21 +1,22 @@
-//! The reads of the bureau's store in a file: one public function for each, which is lent a connection at rest.
+//! The reads of the bureau's store in a file: one public function for each, which borrows a connection at rest.
 //!
-//! What a read tells, it tells of the rows that are committed. Rows that are out of order, or that the bureau never
-//! wrote, are a fault of the device.
+//! The answer of a read is true of the committed rows. Rows that are out of order, or that the bureau never wrote,
+//! are a fault of the device.
 //!
 //! - [`all_callers`], [`caller_of`], [`last`]: callers, and the last change of each
-//! - [`zones`], [`zone_count`], [`has_zone`], [`zone`], [`zone_rows`], [`patterns`], [`received`]: what a
-//!   client has; [`held_in`]: the holds on it
-//! - [`ids`], [`sysmod`], [`superseders`], [`holds_on`], [`counts`]: what is published
+//! - [`zones`], [`zone_count`], [`has_zone`], [`zone`], [`zone_rows`], [`patterns`], [`received`]: the data of a
+//!   client; [`held_in`]: the holds on its SYSMODs
+//! - [`ids`], [`sysmod`], [`superseders`], [`holds_on`], [`counts`]: the published content
 //! - [`seen`], [`is_run`]: the records and holds of many SYSMODs at once
-//! - [`each_zone`], [`names_ascend`]: what the rows of a client's zones say
+//! - [`each_zone`], [`names_ascend`]: the zones in a client's rows
 //! - [`AllColumns`]: the text that shows all columns of a table
-//! - [`columns_of_tables`], [`columns_of_conditions`]: those by which it is seen whether the tables are there
-//! - [`rows_of`]: what any text that reads the tables finds
-//! - [`each`], [`entries`]: what its rows say, each an [`Entry`]; [`are_ascending`]: whether these are in order
+//! - [`columns_of_tables`], [`columns_of_conditions`]: the texts that show whether the tables are there
+//! - [`rows_of`]: the rows that any text finds which reads the tables
+//! - [`each`], [`entries`]: the meaning of its rows, each an [`Entry`]; [`are_ascending`]: whether these are in
+//!   order
 //! - [`ReadFault`]: why a read is refused
 //!
-//! A contract says by `Finds` of `sql_tables` what a read tells and what it leaves.
+//! A contract says by `Finds` of `sql_tables` what a read answers and what it leaves.
 #![tactic(auto)]
 
 mod all_columns;

@@ -14,26 +14,26 @@ use sql_rows::Key;
 use sqlite::{Alter, Connection, Row};
 use std::alloc::Global;
 
-/// A selection each of whose rows says one thing.
+/// A selection whose rows each have a meaning.
 pub(crate) trait Listed<K: Key>: Selection<K> {
-    /// What a row says.
+    /// The meaning of a row.
     type Item: Entry + Drop;
 
     /// A list of these.
     type List: Drop;
 
-    /// What stands in a list.
+    /// The entries of a list.
     ghost items: { Self.List → List Self.Item };
 
-    /// What the store says of a key.
+    /// The list that the store has of a key.
     ghost tells: { K → Stored → List Self.Item → Type 0 };
 
-    /// The list of what rows say, if that ascends, each once.
+    /// The list of these, if they ascend, each once.
     fn in_order(all: Vec<Self::Item>) -> Option<Self::List>
         ensures same { IfSome result (λ list. Self.items list ≡ all.items) }
         ensures ascend { IfSome result (λ list. Self.Item.ascend (Self.items list)) };
 
-    /// What the rows of a key say, in ascending order, is what the store says of it.
+    /// The meaning of a key's rows, in ascending order, is the list that the store has of the key.
     ghost told: { (key : K) (stored : Stored) → IsWhole stored
         → (items : List Self.Item) → Self.Item.ascend items
         → IsPermutation (filter_map (λ row. Self.Item.found (show Self.shown row))
@@ -41,7 +41,7 @@ pub(crate) trait Listed<K: Key>: Selection<K> {
         → tells key stored items };
 }
 
-/// The list of what rows say.
+/// The list of the meaning of rows.
 pub(crate) fn list_of<K: Key, T: Listed<K>>(
     alloc: Global,
     rows: &[Row],
@@ -53,7 +53,7 @@ pub(crate) fn list_of<K: Key, T: Listed<K>>(
     <T as Listed<K>>::in_order(items).ok_or(ReadFault::Device)
 }
 
-/// The list of what the rows of a key say.
+/// Reads the list of a key.
 ///
 /// # Errors
 ///

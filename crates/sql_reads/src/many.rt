@@ -1,4 +1,5 @@
-//! The read of many SYSMODs at once: each table is read in their order, and the rows of one after the other are taken.
+//! The read of many SYSMODs at once: it reads each table in their order, and takes the rows of one SYSMOD after the
+//! other.
 ghost use Rattle.std.specs.Prelude.{◌≡◌, ◌∷◌, ◌↔◌, ℕ, List, false, map, IfOk, IsTrue};
 ghost use Rattle.sqlite.specs.Held.{state};
 ghost use Rattle.catalogue.specs.Seen.{seen_in};
@@ -19,7 +20,7 @@ use sql_rows::{Conds, Holds, Sups, Sysmods};
 use sqlite::{Alter, Connection};
 use std::alloc::Global;
 
-// What is left of the rows of each table.
+// The rows of each table that are left.
 #[derive(Drop)]
 struct Queues<'a> {
     records: Queue<'a, Sysmods>,
@@ -42,8 +43,8 @@ fn texts_ascend(ids: &[Id]) -> bool
     ids.is_sorted_by(|id, next| id.as_bytes().cmp(next.as_bytes()).is_lt())
 }
 
-/// For each of some SYSMODs that ascend its record, or `None` if it isn't catalogued, and the holds on it. It goes
-/// through all rows from the first SYSMOD to the last.
+/// Reads for each of some SYSMODs that ascend its record, or `None` if it isn't catalogued, and the holds on it. It
+/// goes through all rows from the first SYSMOD to the last.
 ///
 /// # Errors
 ///
@@ -72,7 +73,7 @@ pub fn seen<S: Alter>(
     each_seen(alloc, &mut queues, ids)
 }
 
-// What the rows say of each of some SYSMODs.
+// The record and the holds of each of some SYSMODs, by the rows.
 fn each_seen(alloc: Global, queues: &mut Queues<'_>, ids: &[Id]) -> Result<Vec<Seen>, ReadFault>
     ensures { IfOk result (λ seen. (stored : Stored) → AreLeft stored ids.now queues.old
         → seen.items ≡ map (seen_in (tables_of stored).content) ids.now) }
@@ -85,7 +86,7 @@ fn each_seen(alloc: Global, queues: &mut Queues<'_>, ids: &[Id]) -> Result<Vec<S
 }
 
 impl Queues<'_> {
-    // What the rows of a SYSMOD say, which are taken.
+    // The record and the holds of a SYSMOD, by its rows, which are taken.
     fn take(&mut self, alloc: Global, id: &Id) -> Result<Seen, ReadFault>
         ensures { IfOk result (λ seen. (stored : Stored) (later : List (List ℕ))
             → AreLeft stored (id.now ∷ later) self.old

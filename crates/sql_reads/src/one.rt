@@ -15,22 +15,22 @@ use sql_tables::NoMemory;
 use sqlite::{Alter, Connection, Row};
 use std::alloc::Global;
 
-/// A selection that finds one row of a key at most, which says a list. If there is none, nothing stands in the list.
+/// A selection that finds at most one row of a key, which has a list. If there is no row, the list is empty.
 pub(crate) trait One<K: Key>: Selection<K> {
-    /// What stands in the list.
+    /// An entry of the list.
     type Item: Ordered + Drop;
 
-    /// What the columns that are shown say.
+    /// The list, by the columns that are shown.
     ghost found: { Values → Option (List Self.Item) };
 
-    /// What the store says of a key.
+    /// The list that the store has of a key.
     ghost tells: { K → Stored → List Self.Item → Type 0 };
 
-    /// What a row says, or `None` if nothing was written as it.
+    /// The list of a row, or `None` if the row has none.
     fn in_row(alloc: Global, row: &Row) -> Result<Option<Vec<Self::Item>>, NoMemory>
         ensures { IfOk result (λ list. option_map (λ items. items.items) list ≡ found row.now) };
 
-    /// What the row of a key says is what the store says of it.
+    /// The list of a key's row is the list that the store has of the key.
     ghost told: { (key : K) (stored : Stored) → IsWhole stored → (items : List Self.Item)
         → items ≡ unwrap_or (option_and_then found
         (option_map (show Self.shown) (first (filter (K.has key) (Self.rows stored))))) []
@@ -55,7 +55,7 @@ pub(crate) fn any(rows: &[Row]) -> bool
     !rows.is_empty()
 }
 
-// What the row says; nothing if there is no row.
+// The list of the row; an empty one if there is no row.
 fn said<K: Key, T: One<K>>(alloc: Global, row: Option<&Row>) -> Result<Vec<T::Item>, ReadFault>
     ensures { IfOk result (λ list. list.items
         ≡ unwrap_or (option_and_then T.found (option_map (λ row. row.now) row.entry)) []) }
@@ -76,7 +76,7 @@ fn item<K: Key, T: One<K>>(alloc: Global, row: Option<&Row>) -> Result<Vec<T::It
     ascending(list).ok_or(ReadFault::Device)
 }
 
-// What the one of these rows says.
+// The list of the one of these rows.
 fn item_of<K: Key, T: One<K>>(alloc: Global, rows: &[Row]) -> Result<Vec<T::Item>, ReadFault>
     ensures said { IfOk result (λ list. (row : Option Values) × (one_of Some rows.now ≡ Some row)
         × (list.items ≡ unwrap_or (option_and_then T.found row) [])) }
@@ -86,7 +86,7 @@ fn item_of<K: Key, T: One<K>>(alloc: Global, rows: &[Row]) -> Result<Vec<T::Item
     item::<K, T>(alloc, row)
 }
 
-/// What the one row of a key says, in ascending order.
+/// Reads the list of the one row of a key, in ascending order.
 ///
 /// # Errors
 ///

@@ -1,4 +1,4 @@
-//! The rows of one table, from whose front those of one SYSMOD after the other are taken.
+//! The rows of one table, taken from the front for one SYSMOD after the other.
 ghost use Rattle.std.specs.Prelude.{◌≡◌};
 ghost use Rattle.sql_reads.specs.Scans.{Takes};
 

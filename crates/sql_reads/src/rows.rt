@@ -9,7 +9,7 @@ use crate::ReadFault;
 use sqlite::types::ValueRef;
 use sqlite::{Alter, Connection, Row};
 
-/// All rows that a text of the bureau's tables finds, with these parameters.
+/// Reads all rows that a text of the bureau's tables finds, with these parameters.
 ///
 /// # Errors
 ///

@@ -1,4 +1,4 @@
-//! The rows of many SYSMODs, read at once of a table.
+//! The rows of many SYSMODs, read at once from a table.
 ghost use Rattle.std.specs.Prelude.{◌≡◌, ℕ, List, false, IfOk};
 ghost use Rattle.sqlite.specs.Held.{state};
 ghost use Rattle.sqlite_value.specs.Order.{Row as Values, column};
@@ -16,8 +16,8 @@ use mcs_reader::Id;
 use sql_rows::{Table, id_of};
 use sqlite::{Alter, Connection, Row};
 
-/// A table each of whose rows says something of a SYSMOD, and the text that reads the rows of many SYSMODs at once, in
-/// the order of these. It begins with the columns that a read of one SYSMOD shows.
+/// A table whose rows each belong to a SYSMOD, and the text that reads the rows of many SYSMODs at once, in the order
+/// of these. The text begins with the columns that a read of one SYSMOD shows.
 pub(crate) trait Scanned: Table {
     /// The columns that it shows, from 0 on.
     ghost scan_shown: { List ℕ };
@@ -28,14 +28,14 @@ pub(crate) trait Scanned: Table {
     /// The columns by which it is ordered, from 1 on.
     ghost scan_order: { List ℕ };
 
-    /// Where among those that are shown the SYSMOD stands.
+    /// The index of the SYSMOD among the columns that are shown.
     ghost at: { ℕ };
 
     /// The text that reads the rows of the SYSMODs from ?1 to ?2.
     fn scan_text() -> &'static str
         ensures { Reads bureau result.now (scan_of Self.table.tree scan_shown scan_order) scan_names 2 };
 
-    /// Where the SYSMOD stands.
+    /// The index of the SYSMOD among the columns that are shown.
     fn place() -> usize
         ensures { result ≡ at };
 
@@ -43,7 +43,8 @@ pub(crate) trait Scanned: Table {
     ghost placed: { (row : Values) → column (show scan_shown row) at ≡ column row 0 };
 }
 
-/// The rows of some SYSMODs that ascend, in the order of these. Those of the SYSMODs between them are among them.
+/// Reads the rows of some SYSMODs that ascend, in the order of these. The rows of the SYSMODs between them are there
+/// too.
 pub(crate) fn scan<T: Scanned, S: Alter>(
     conn: &mut Connection<S>,
     ids: &[Id],

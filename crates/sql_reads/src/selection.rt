@@ -13,7 +13,7 @@ use crate::rows::rows_of;
 use sql_rows::{Key, Table};
 use sqlite::{Alter, Connection, Row};
 
-/// A table whose rows of a key are read, by which text, and what that shows.
+/// A table whose rows are read by a key: the text, and what it shows.
 pub(crate) trait Selection<K: Key>: Table {
     /// The columns that it shows, from 0 on.
     ghost shown: { List ℕ };
@@ -30,7 +30,7 @@ pub(crate) trait Selection<K: Key>: Table {
             (from_table Self.table.tree K.tests (map suc shown) order) names K.parameters };
 }
 
-/// The rows of a key, with the columns that are shown.
+/// Reads the rows of a key, with the columns that are shown.
 ///
 /// # Errors
 ///

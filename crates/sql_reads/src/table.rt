@@ -1,4 +1,4 @@
-//! The tables of a store, each with all that is read of it alone.
+//! The tables of a store, each with the reads of that table alone.
 ghost use Rattle.sql_reads.specs.Columns.{ShowEach, ShowsAll, tables_of_version_1};
 ghost use Rattle.sql_texts.specs.Schema as schema;
 
@@ -15,8 +15,8 @@ pub(crate) mod zone_row;
 use crate::all_columns::AllColumns;
 use sql_rows::{Callers, Conds, Heads, Holds, LastChanges, Received, Sups, Sysmods, ZoneRows};
 
-/// Of each table of version 1, apart from that of the version itself, the text that shows all its columns. In a file of either
-/// version it means the same.
+/// The text that shows all columns of each table of version 1, apart from that of the version itself. It means the same
+/// in a file of either version.
 pub fn columns_of_tables() -> [&'static str; 8]
     ensures here { ShowEach schema.bureau tables_of_version_1 result }
     ensures version_1 { ShowEach schema.bureau_1 tables_of_version_1 result }
@@ -33,7 +33,7 @@ pub fn columns_of_tables() -> [&'static str; 8]
     ]
 }
 
-/// The same of the table that version 2 has besides, that of requisites under a condition.
+/// The same of the table that only version 2 has, that of requisites under a condition.
 pub fn columns_of_conditions() -> &'static str
     ensures { ShowsAll schema.bureau schema.sysmod_cond result.now }
 {

@@ -16,8 +16,8 @@ use crate::rows::rows_of;
 use sql_tables::count_in;
 use sqlite::{Alter, Connection, Row};
 
-/// The version of the tables, by a text that asks for it, or `None` if not one row tells it. Tables of the bureau's
-/// own are of version 2; those of version 1 lack one table.
+/// Reads the version of the tables, by a text that asks for it, or `None` if the answer isn't just one row with a
+/// number. Tables of the bureau's own are of version 2; those of version 1 lack one table.
 ///
 /// # Errors
 ///

@@ -1,4 +1,4 @@
-//! The read of a client's zones, each with how many rows it has.
+//! The read of a client's zones, each with the number of its rows.
 ghost use Rattle.std.specs.Prelude.{◌≡◌, ◌↔◌, ℕ, List, false, length, map, Some, IfOk, IsErrOf, IsTrue};
 ghost use Rattle.bureau_store.specs.Tables.{NamesAscend};
 ghost use Rattle.sqlite.specs.Held.{state};
@@ -19,8 +19,8 @@ use sqlite::types::ValueRef;
 use sqlite::{Alter, Connection, Row};
 use std::alloc::Global;
 
-/// The names of a client's zones, in the order of their names, each with how many rows it has. It goes
-/// through all of these rows.
+/// Reads the names of a client's zones, in order, each with the number of its rows. It goes through all
+/// of these rows.
 ///
 /// # Errors
 ///
@@ -69,11 +69,11 @@ impl Entry for (Id, u64) {
     }
 }
 
-/// The zone of each row, with how many rows it has.
+/// Reads the zone of each row, with the number of its rows.
 ///
 /// # Errors
 ///
-/// `Device` if a row says no zone; `Memory` if memory ran out.
+/// `Device` if a row has no zone; `Memory` if memory ran out.
 pub fn each_zone(alloc: Global, rows: &[Row]) -> Result<Vec<(Id, u64)>, ReadFault>
     ensures said { IfOk result (λ zones. map Some zones.items ≡ map zone_counted rows.now) }
     ensures unsaid { IsErrOf result ReadFault.Device → (zones : List (List ℕ × ℕ))
@@ -82,7 +82,8 @@ pub fn each_zone(alloc: Global, rows: &[Row]) -> Result<Vec<(Id, u64)>, ReadFaul
     each(alloc, rows)
 }
 
-// A zone with how many rows it has. As much as the database can count is none, since it may be more.
+// A zone with the number of its rows. The greatest number that the database can count is none, since
+// there may be more.
 fn zone_in(row: &Row) -> Option<(Id, u64)>
     ensures { result ≡ zone_counted row.now }
 {

@@ -1,4 +1,4 @@
--- No part of what is promised: laws of tables cite it. Which rows fit into a table.
+-- No part of what is promised: laws of tables cite it. The rows that fit into a table.
 use Rattle.std.specs.Prelude.{◌≡◌, ◌==◌, ◌≤◌, ◌+◌, ◌^◌, ◌&&◌, ℕ, ℤ, Bool, List, [], ◌∷◌, ◌++◌, drop, false, filter, length, map, nat_le, nat_lt, slice_index_or, sum_by, true}
 use Rattle.std.specs.List.{list_all}
 use Rattle.sqlite.specs.Cast.{cast_row}
@@ -19,7 +19,7 @@ use Rattle.sqlite_trees.specs.View.{IsStorable, IsStorableRow}
 use Rattle.sqlite_value.specs.Order.{Row}
 use Rattle.sql_texts.specs.Schema.{bureau, indexes}
 
--- what one row needs of its table, whatever number it gets
+-- the needs of one row, whatever number it gets
 pub record IsFitting (table : Table) (values : Row) : Type 0 where
   pub cast : cast_row table (Null ∷ values) ≡ Null ∷ values
   pub alone : table.references ≡ []
@@ -44,7 +44,7 @@ are_kept [] [] = true
 are_kept (column ∷ columns) (value ∷ values) = is_kept column.kind value && are_kept columns values
 are_kept _ _ = false
 
--- the values after the rowid are of the columns' kinds, and none lacks
+-- the values after the rowid are of the columns' kinds, and none is missing
 abbrev pub is_of_kinds : Table → Row → Bool
 is_of_kinds table row =
     are_kept table.columns (drop 1 row)
@@ -70,7 +70,7 @@ abbrev pub fit_together : List ℕ → Bool
 fit_together bounds =
     nat_lt 0 (length bounds) && (nat_le (length bounds) 2001 && nat_le (sum_by (λ most. 18 + most) bounds) (10 ^ 9))
 
--- how many bytes the values of an entry have, which ends with the rowid
+-- the numbers of bytes of the values of an entry, which ends with the rowid
 abbrev pub entry_bounds : List ℕ → List ℕ → List ℕ
 entry_bounds bounds columns = map (λ place. slice_index_or bounds place 0) columns ++ 0 ∷ []
 

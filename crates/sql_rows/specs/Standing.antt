@@ -1,4 +1,4 @@
--- What holds of a table of the schema: its rows among those of the store are those of its tree.
+-- A table of the schema: its rows among those of the store are those of its tree.
 use Rattle.std.specs.Prelude.{◌≡◌, ◌==◌, ℕ, Bool, List, Option, Some, cond, false, slice_get}
 use Rattle.std.proofs.Common.{ap}
 use Rattle.sqlite.specs.Table.{Table}
@@ -8,8 +8,8 @@ use Rattle.sql_texts.specs.Schema.{tables}
 use Rattle.sql_tables.specs.InTrees.{columns_of, stored_in}
 use Rattle.sql_tables.specs.Stored.{Stored}
 
--- The table at an index of the schema. It has a tree of its own, counts no rowids, and of the rows of the store it has one
--- list: `rows` are those, and `with_rows` puts others in their place.
+-- The table at an index of the schema. It has a tree of its own, counts no rowids, and has one list of the rows of the
+-- store: `rows` are those, and `with_rows` puts others in their place.
 pub record Stands (index : ℕ) (table : Table) (rows : Stored → List Row) (with_rows : List Row → Stored → Stored)
     : Type 0 where
   pub placed : slice_get tables index ≡ Some table
@@ -24,7 +24,7 @@ pub record Stands (index : ℕ) (table : Table) (rows : Stored → List Row) (wi
 
 -- ---- that it holds is one equation, which computes
 
--- what is looked at
+-- the parts that are looked at
 pub record Sight : Type 0 where
   pub placed : Option Table
   pub is_counted : Bool

@@ -1,4 +1,4 @@
-//! The keys by which rows are found: an id, a client's zone, and none if all rows are.
+//! The keys by which rows are found: an id, a client's zone, or none if all rows are asked for.
 ghost use Rattle.std.specs.Prelude.{◌≡◌, ◌≤◌, ℕ, Bool, drop, length, List, map, take};
 ghost use Rattle.std.specs.List.{range_with_len};
 ghost use Rattle.mcs_reader.specs.Id.{IsId};
@@ -18,16 +18,16 @@ pub trait Key {
     /// The values of those columns.
     ghost values: { Self → Values };
 
-    /// What holds of each key.
+    /// The law of each key.
     ghost is_fit: { Self → Type 0 };
 
     /// Whether a row's first columns are this key.
     ghost has: { Self → Values → Bool };
 
-    /// The tests of a text by which the rows of a key are found, which are its parameters.
+    /// The tests by which a text finds the rows of a key, which are its parameters.
     ghost tests: { List Term };
 
-    /// How many parameters these are.
+    /// The number of these parameters.
     ghost parameters: { ℕ };
 
     /// The key as it is bound to the first parameters of a text.
@@ -36,7 +36,7 @@ pub trait Key {
         ensures bound { bound (take parameters result) ≡ values self.now }
         ensures fit { is_fit self.now };
 
-    /// How many parameters these are.
+    /// The number of these parameters.
     fn count() -> usize
         ensures count { result ≡ parameters }
         ensures few { result ≤ 3 };
@@ -128,7 +128,7 @@ impl Key for Zone {
     ghost counted = { λ key. refl };
 }
 
-/// All rows of a table, which no column tells apart.
+/// All rows of a table, whatever their columns.
 #[derive(Clone, Copy)]
 pub struct All;
 

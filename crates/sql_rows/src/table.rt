@@ -1,4 +1,4 @@
-//! What a table of the schema is, whichever it is.
+//! A table of the schema, whichever it is.
 ghost use Rattle.std.specs.Prelude.{ℕ, List};
 ghost use Rattle.sqlite.specs.Table.{Table as SomeTable};
 ghost use Rattle.sqlite_value.specs.Order.{Row as Values};
@@ -7,7 +7,7 @@ ghost use Rattle.sql_rows.specs.Standing.{Stands};
 
 /// A table of the schema, whose rows are some of those of the store.
 pub trait Table {
-    /// Where it stands in the schema.
+    /// Its index in the schema.
     ghost index: { ℕ };
 
     /// Its columns, its key and its tree.
@@ -19,6 +19,6 @@ pub trait Table {
     /// The store with other rows of it.
     ghost with_rows: { List Values → Stored → Stored };
 
-    /// It stands there, and its rows are those of its tree.
+    /// It is there, and its rows are those of its tree.
     ghost stands: { Stands index table rows with_rows };
 }

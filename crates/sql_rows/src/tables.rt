@@ -1,4 +1,4 @@
-//! The tables: where each stands in the schema and in the store. The schema of `sql_texts` names their columns.
+//! The tables: the place of each in the schema and in the store. The schema of `sql_texts` names their columns.
 
 use crate::Table;
 
@@ -40,7 +40,7 @@ impl Table for LastChanges {
     ghost stands = { stands_by _ _ _ _ refl };
 }
 
-/// `sysmod`: records, without what they supersede and require under a condition.
+/// `sysmod`: records, without the ids that they supersede and those that they require under a condition.
 pub enum Sysmods {}
 
 impl Table for Sysmods {
@@ -59,7 +59,7 @@ impl Table for Sysmods {
     ghost stands = { stands_by _ _ _ _ refl };
 }
 
-/// `sysmod_sup`: what records supersede.
+/// `sysmod_sup`: the ids that records supersede.
 pub enum Sups {}
 
 impl Table for Sups {
@@ -97,7 +97,7 @@ impl Table for Holds {
     ghost stands = { stands_by _ _ _ _ refl };
 }
 
-/// `zone_head`: the zones of clients, with the patterns that are asked for.
+/// `zone_head`: the zones of clients, with their patterns.
 pub enum Heads {}
 
 impl Table for Heads {
@@ -135,7 +135,7 @@ impl Table for ZoneRows {
     ghost stands = { stands_by _ _ _ _ refl };
 }
 
-/// `received_list`: what clients have received.
+/// `received_list`: the SYSMODs that clients have received.
 pub enum Received {}
 
 impl Table for Received {
@@ -154,7 +154,7 @@ impl Table for Received {
     ghost stands = { stands_by _ _ _ _ refl };
 }
 
-/// `sysmod_cond`: what records require if a function is installed.
+/// `sysmod_cond`: the ids that records require if a function is installed.
 pub enum Conds {}
 
 impl Table for Conds {

@@ -1,4 +1,4 @@
--- What a change makes of the rows: those that it names go, and others come after those that stay.
+-- The rows after a change: those that it names go, and others come after those that stay.
 use Rattle.std.specs.Prelude.{ℕ, ◌&&◌, ◌++◌, Bool, false, not, List, [], ◌∷◌, map, filter, fold, Option, Some, None, option_map, unwrap_or, if◌then◌else◌}
 use Rattle.std.specs.List.{list_any}
 use Rattle.holddata.specs.HoldKey.{is_same_kind}
@@ -21,7 +21,7 @@ use Rattle.sql_tables.specs.Values.{hold_kind_in}
 
 -- ---- what becomes of the rows of one table
 
--- the rows that a test passes go, and these come
+-- the rows that pass a test go, and these come
 abbrev pub replaced : (Row → Bool) → List Row → List Row → List Row
 replaced test news rows = filter (λ row. not (test row)) rows ++ news
 
@@ -29,11 +29,11 @@ replaced test news rows = filter (λ row. not (test row)) rows ++ news
 abbrev pub coming : OneTable → List Row → Stored → Stored
 coming table news stored = table.with_rows (table.rows stored ++ news) stored
 
--- those that a test passes go
+-- the rows that pass a test go
 abbrev pub going : OneTable → (Row → Bool) → Stored → Stored
 going table test stored = table.with_rows (replaced test [] (table.rows stored)) stored
 
--- those that a test passes go, and these come
+-- the rows that pass a test go, and these come
 abbrev pub instead : OneTable → (Row → Bool) → List Row → Stored → Stored
 instead table test news stored = table.with_rows (replaced test news (table.rows stored)) stored
 
@@ -49,7 +49,7 @@ abbrev pub with_head : List ℕ → List ℕ → List Row → List Row
 with_head client zone heads =
     if list_any (is_of_both client zone) heads then heads else heads ++ head_row client zone [] ∷ []
 
--- what each effect of a client's change makes of the rows
+-- the rows after each effect of a client's change
 abbrev pub client_changed : List ℕ → Effect → Stored → Stored
 client_changed client (publication changes) stored = stored
 client_changed client (zone_put zone news) stored =

@@ -1,4 +1,5 @@
--- What is written is fit to be read again: ids are ids, and lists ascend if the bureau's lists do.
+-- The values that are written are fit to be read again: ids are ids, and lists ascend if the bureau's lists
+-- do.
 use Rattle.std.specs.Prelude.{◌≡◌, ℕ, true, List, IsTrue, IfSome, false, is_some}
 use Rattle.std.specs.List.{AllByRecursion, list_all}
 use Rattle.holddata.specs.Categories.{are_categories}
@@ -57,13 +58,13 @@ pub record IsHold (hold : Hold) : Type 0 where
   pub dated : IfSome hold.dated (λ number. IsTrue (is_date number))
   pub categories : IsTrue (are_categories hold.categories)
 
--- what is published; a release needs nothing
+-- a change that is published; a release needs nothing
 abbrev pub IsFitChange : Change → Type 0
 IsFitChange (Whole sysmod) = IsRecord sysmod
 IsFitChange (OfHold (Put hold)) = IsHold hold
 IsFitChange (OfHold (Release key)) = Unit {0}
 
--- what an effect writes
+-- the values that an effect writes
 abbrev pub IsFit : Effect → Type 0
 IsFit (publication changes) = AllByRecursion IsFitChange changes
 IsFit (zone_put zone rows) = IsId zone × AreZoneRows rows
@@ -99,7 +100,7 @@ IsAsked (Client name) (zone_dropped zone) tables = Unit {0}
 IsAsked (Client name) (received_put ids) tables = Unit {0}
 IsAsked Publisher effect tables = Unit {0}
 
--- a change that writes what is fit, into whatever tables
+-- a change that writes fit values, into whatever tables
 pub record CanBeWritten (caller : Caller) (effect : Effect) : Type 0 where
   pub named : IsNamed caller
   pub own : IsOwn caller effect

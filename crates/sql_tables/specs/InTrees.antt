@@ -8,7 +8,7 @@ use Rattle.sql_tables.specs.Stored.{Stored}
 abbrev pub columns_of : List Row → List Row
 columns_of rows = map (drop 1) rows
 
--- what the trees hold, by the trees' numbers
+-- the rows of the trees, by the trees' numbers
 abbrev pub stored_in : Trees → Stored
 stored_in trees = record {
   callers = columns_of (trees 1);

@@ -11,23 +11,23 @@ use Rattle.sql_tables.specs.Stored.{Stored}
 use Rattle.sql_tables.specs.Whole.{IsWhole}
 use Rattle.sql_tables.specs.Numbered.{AreNumbered}
 
--- the rows that a database holds
+-- the rows of a database
 abbrev pub held_by : Database → Stored
 held_by database = stored_in database.trees
 
--- the row of a version, after its rowid, which its first column is
+-- the row of a version, after its rowid, which is the same number as its first column
 abbrev pub version_rows : ℕ → List Row
 version_rows version = (Int (pos 1) ∷ Null ∷ Int (pos version) ∷ []) ∷ []
 
--- The trees list the tables of version 2 and obey them. In them stand rows that the bureau wrote, under numbers that rise,
--- and the row of version 2.
+-- The trees list the tables of version 2 and obey them. They have rows that the bureau wrote, under numbers that rise, and
+-- the row of version 2.
 pub record AreOurs (trees : Trees) : Type 0 where
   pub sound : IsSound bureau trees
   pub numbered : AreNumbered trees
   pub version : trees 0 ≡ version_rows 2
   pub whole : IsWhole (stored_in trees)
 
--- It has the tables of version 2, and in them rows that the bureau wrote.
+-- It has the tables of version 2, with rows that the bureau wrote.
 pub record IsOurs (database : Database) : Type 0 where
   pub schema : database.schema ≡ bureau
   pub rows : AreOurs database.trees

@@ -1,5 +1,5 @@
--- The rows of the tables: the values of their columns, in the order of the table and without the rowid. Each
--- row is read back as what was written; a row that isn't one is read as nothing.
+-- The rows of the tables: the values of their columns, in the order of the table and without the rowid. Each row is read
+-- back as what was written. A row that was never written is read as nothing.
 use Rattle.std.specs.Prelude.{ℕ, pos, List, [], ◌∷◌, Option, option_map, option_and_then}
 use Rattle.holddata.specs.declared.hold.Hold.{Hold}
 use Rattle.holddata.specs.declared.key.HoldKey.{HoldKey}
@@ -30,7 +30,7 @@ caller_found row =
 abbrev pub change_row : List ℕ → LastChange → Row
 change_row name change = id_value name ∷ Int (pos change.number) ∷ Blob change.reply ∷ []
 
--- the number and the reply, of the two columns that a read shows
+-- the number and the reply, from the two columns that a read shows
 abbrev pub change_found : Row → Option LastChange
 change_found shown = with (number_in (column shown 0)) (λ number.
     option_map (λ reply. record { number = number; reply = reply }) (bytes_in (column shown 1)))
@@ -48,19 +48,19 @@ sup_row id member = id_value id ∷ id_value member ∷ []
 abbrev pub cond_row : List ℕ → CondNeed → Row
 cond_row id cond = id_value id ∷ id_value cond.fmid ∷ id_value cond.need ∷ []
 
--- a function and what is required if it is installed, of the two columns that a read shows
+-- a function and the SYSMOD that is required if it is installed, from the two columns that a read shows
 abbrev pub cond_found : Row → Option CondNeed
 cond_found shown = with (id_in (column shown 0)) (λ fmid.
     option_map (λ need. record { fmid = fmid; need = need }) (id_in (column shown 1)))
 
--- what stands of a record beside its row, in rows of other tables
+-- the parts of a record that rows of other tables have
 pub record Beside : Type 0 where
-  -- what it requires under a condition
+  -- its requisites under a condition
   pub conds : List CondNeed
-  -- what it supersedes
+  -- the ids that it supersedes
   pub sup : List (List ℕ)
 
--- the record of a row, with what stands beside
+-- the record of a row, with the parts that other tables have
 abbrev pub sysmod_found : Beside → Row → Option Sysmod
 sysmod_found beside row =
     with (id_in (column row 0)) (λ id.
@@ -91,7 +91,7 @@ key_found row =
     with (hold_kind_in (column row 1)) (λ kind.
     option_map (λ reason. record { sysmod = sysmod; kind = kind; reason = reason }) (id_in (column row 2))))
 
--- what else a row says of the hold with this key
+-- the rest of the hold with this key, as a row says it
 abbrev pub hold_with : HoldKey → Row → Option Hold
 hold_with key row =
     with (optional_id_in (column row 3)) (λ fmid.
@@ -120,7 +120,7 @@ head_row client zone patterns = id_value client ∷ id_value zone ∷ texts_valu
 abbrev pub zone_row : List ℕ → List ℕ → ZoneRow → Row
 zone_row client zone row = id_value client ∷ id_value zone ∷ id_value row.sysmod ∷ state_value row.state ∷ []
 
--- the SYSMOD and its state, of the two columns that a read shows
+-- the SYSMOD and its state, from the two columns that a read shows
 abbrev pub zone_row_found : Row → Option ZoneRow
 zone_row_found shown = with (id_in (column shown 0)) (λ sysmod.
     option_map (λ state. record { sysmod = sysmod; state = state }) (state_in (column shown 1)))

@@ -1,6 +1,5 @@
--- What the database holds, as rows of its tables, and the bureau's tables that these rows stand for. Every list
--- of rows stands for some. Of two rows with one key, which no table allows, one counts. A row that no value was
--- written as counts for nothing.
+-- The rows that a database holds in its tables, and the bureau's tables that they stand for. Every list of rows stands for
+-- some. Of two rows with one key, which no table allows, one counts. A row that stands for nothing counts for nothing.
 use Rattle.std.specs.Prelude.{ℕ, ◌&&◌, Bool, false, List, [], ◌∷◌, map, filter, find, Option, Some, None, unwrap_or, option_map, option_and_then, if◌then◌else◌}
 use Rattle.std.specs.List.{filter_map}
 use Rattle.std.specs.Str.{bytes_eq}
@@ -109,12 +108,12 @@ first (row ∷ rows) = Some row
 
 -- ---- changes
 
--- the name under which a caller's last change stands; no client has the publisher's
+-- the name under which a caller's last change is kept; no client has the publisher's
 abbrev pub name_of : Caller → Option (List ℕ)
 name_of Publisher = Some publisher_name
 name_of (Client name) = if is_publisher name then None else Some name
 
--- what the rows of a name say
+-- the last change, as the rows of a name say it
 abbrev pub change_said : List Row → Option LastChange
 change_said rows = option_and_then (λ row. change_found (shown (1 ∷ 2 ∷ []) row)) (first rows)
 
@@ -126,19 +125,19 @@ last_of rows caller = unwrap_or (option_and_then (change_of rows) (name_of calle
 
 -- ---- what is published
 
--- what an id supersedes, in order
+-- the ids that an id supersedes, in order
 abbrev pub sup_of : List Row → List ℕ → List (List ℕ)
 sup_of sups id = in_order (filter_map (λ row. id_in (column row 1)) (filter (is_of id) sups))
 
--- what an id requires under a condition, in order
+-- the requisites of an id under a condition, in order
 abbrev pub conds_of : List Row → List ℕ → List CondNeed
 conds_of conds id = put_conds [] (filter_map (λ row. cond_found (shown (1 ∷ 2 ∷ []) row)) (filter (is_of id) conds))
 
--- what stands of an id beside the row of its record
+-- the parts of an id's record that rows of other tables have
 abbrev pub beside_of : Stored → List ℕ → Beside
 beside_of stored id = record { conds = conds_of stored.conds id; sup = sup_of stored.sups id }
 
--- the record of a row, if this stands of each id beside
+-- the record of a row, given those parts for each id
 abbrev pub sysmod_with : (List ℕ → Beside) → Row → Option Sysmod
 sysmod_with beside row = option_and_then (λ id. sysmod_found (beside id) row) (id_in (column row 0))
 
@@ -153,11 +152,11 @@ content_of stored = record {
 
 -- ---- what a client has
 
--- what a row of a zone says
+-- the SYSMOD and its state, as a row of a zone says them
 abbrev pub zone_row_said : Row → Option ZoneRow
 zone_row_said row = zone_row_found (shown (2 ∷ 3 ∷ []) row)
 
--- the rows of a zone as they stand
+-- the rows of a zone as they are stored
 abbrev pub rows_as_stored : List Row → List ℕ → List ℕ → List ZoneRow
 rows_as_stored rows client zone = filter_map zone_row_said (filter (is_of_both client zone) rows)
 
@@ -187,7 +186,7 @@ names_of heads client = in_order (filter_map (λ row. id_in (column row 1)) (fil
 abbrev pub zones_of : Stored → List ℕ → Zones
 zones_of stored client = map (λ zone. (zone, zone_of stored client zone)) (names_of stored.heads client)
 
--- what the rows of a client say that it has received
+-- the SYSMODs that a client has received, as its rows say it
 abbrev pub received_said : List Row → List (List ℕ)
 received_said rows = unwrap_or (option_and_then (λ row. ids_in (column row 1)) (first rows)) []
 

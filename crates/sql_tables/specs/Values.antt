@@ -1,6 +1,6 @@
--- How what the bureau keeps stands in the columns of its tables. An id is a text without blanks, and an absent id is the
--- empty text. A list is a text with commas between, and empty if there is nothing in it. Kinds, states and dates are
--- numbers. Each value is read back as what was written, and any other value as nothing.
+-- How the columns of the tables keep values. An id is a text without blanks, and an absent id is the empty text. A list is a
+-- text with commas between, empty if the list is. Kinds, states and dates are numbers. Each value is read back as what was
+-- written, and any other value as nothing.
 use Rattle.std.specs.Prelude.{ℕ, pos, negsuc, ◌==◌, Bool, List, [], ◌∷◌, map, Option, Some, None, option_map, option_and_then, if◌then◌else◌}
 use Rattle.std.specs.List.{join_with_byte, slice_split}
 use Rattle.holddata.specs.Categories.{are_categories}
@@ -35,7 +35,7 @@ bytes_in (Int n) = None
 bytes_in (Real x) = None
 bytes_in Null = None
 
--- a number from 0 on
+-- a number, if it is at least 0
 abbrev pub number_in : Value → Option ℕ
 number_in (Int (pos n)) = Some n
 number_in (Int (negsuc n)) = None
@@ -52,7 +52,7 @@ id_in value = id_of (text_in value)
 abbrev pub id_value : List ℕ → Value
 id_value id = Text (text_of id)
 
--- an id that may be absent, which an empty text says
+-- an id that may be absent: the empty text
 abbrev pub optional_id_with : List ℕ → Option (Option (List ℕ))
 optional_id_with [] = Some None
 optional_id_with (b ∷ text) = option_map Some (id_of (b ∷ text))
@@ -73,7 +73,7 @@ optional_id_value (Some id) = id_value id
 abbrev pub is_comma : ℕ → Bool
 is_comma b = b == 0x2C
 
--- what stands between the commas of a text; nothing in an empty one
+-- the parts between the commas of a text; none of an empty one
 abbrev pub parts_of : List ℕ → List (List ℕ)
 parts_of [] = []
 parts_of (b ∷ bytes) = slice_split is_comma (b ∷ bytes)
@@ -118,7 +118,7 @@ categories_in value = option_and_then categories_of (texts_in value)
 
 -- ---- kinds, states and dates
 
--- what bears a number
+-- the entry with a number
 abbrev pub with_number : {X : Type 0} → List (ℕ × X) → ℕ → Option X
 with_number [] number = None
 with_number (entry ∷ entries) number = if number == entry.0 then Some entry.1 else with_number entries number

@@ -1,5 +1,4 @@
--- Rows that the bureau wrote: each is the row of one thing that is fit to be written, and no two rows of a table
--- have the same key.
+-- Rows that the bureau wrote: each is the row of one fit thing, and no two rows of a table have the same key.
 use Rattle.std.specs.Prelude.{◌≡◌, ◌≢◌, ℕ, true, List, [], ◌∷◌, take}
 use Rattle.std.specs.List.{AllByRecursion, list_all}
 use Rattle.mcs_reader.specs.Id.{IsId}
@@ -16,32 +15,32 @@ use Rattle.sql_tables.specs.Stored.{Stored}
 abbrev pub AreRowsOf : {X : Type 0} → (X → Row) → (X → Type 0) → List Row → Type 0
 AreRowsOf {X} row_of Fits rows = AllByRecursion (λ row. (x : X) × Fits x × (row ≡ row_of x)) rows
 
--- no two rows have the same first columns, of which there are so many
+-- no two rows have the same first columns, so many of them
 abbrev pub HaveOwnKeys : ℕ → List Row → Type 0
 HaveOwnKeys columns [] = Unit {0}
 HaveOwnKeys columns (row ∷ rows) =
     AllByRecursion (λ other. take columns row ≢ take columns other) rows × HaveOwnKeys columns rows
 
--- one of those that a record lists, with the id of the record
+-- one entry of a record's list, with the id of the record
 pub record Listed (X : Type 0) : Type 0 where
   pub id : List ℕ
   pub one : X
 
--- one that it supersedes
+-- an id that it supersedes
 abbrev pub member_row : Listed (List ℕ) → Row
 member_row member = sup_row member.id member.one
 
 abbrev pub IsMember : Listed (List ℕ) → Type 0
 IsMember member = IsId member.id × IsId member.one
 
--- one that it requires under a condition
+-- a requisite under a condition
 abbrev pub condition_row : Listed CondNeed → Row
 condition_row condition = cond_row condition.id condition.one
 
 abbrev pub IsCondition : Listed CondNeed → Type 0
 IsCondition condition = IsId condition.id × IsCond condition.one
 
--- a zone of a client, with the patterns that are asked for
+-- a zone of a client, with its patterns
 pub record Head : Type 0 where
   pub client : List ℕ
   pub zone : List ℕ

@@ -1,4 +1,4 @@
--- What a statement that writes leaves of a connection in a transaction.
+-- The connection that a statement leaves which writes in a transaction.
 use Rattle.std.specs.Prelude.{◌≡◌, IsTrue, Result, OnOk}
 use Rattle.sqlite.specs.Effect.{Database, IsDatabase}
 use Rattle.sqlite.specs.State.{HasCleanDisk, KeepsCommit, State, Survives}
@@ -13,8 +13,9 @@ pub record IsKnown (database : Database) : Type 0 where
   pub sound : IsDatabase database
   pub numbered : AreNumbered database.trees
 
--- One or more statements of a transaction: nothing is committed, and done, they make this change of the rows that the
--- transaction sees, which stays open, and leave the version as it is. Refused, a stop and the rows that are committed are as before.
+-- One or more statements of a transaction: they commit nothing. Done, they make this change of the rows that the transaction
+-- sees, and the transaction stays open; they leave the version as it is. Refused, a stop and the committed rows are as
+-- before.
 pub record Changes {Answer Fault : Type 0} (old new : State) (result : Result Answer Fault) (change : Stored → Stored) : Type 0 where
   pub keeps : HasCleanDisk new → IsTrue old.in_transaction → KeepsCommit old new
   pub survives : Survives old new (λ trees. ⊥)

@@ -1,4 +1,4 @@
-//! What the rows of the tables stand for, and what a change makes of both, as laws.
+//! Laws on the tables that rows stand for, and on a change of both.
 ghost use Rattle.std.specs.Prelude.{◌≡◌, ℕ, suc, Bool, true, List, [], ◌∷◌, drop, map, filter, Some, None, if◌then◌else◌};
 ghost use Rattle.std.specs.List.{AllByRecursion, Contains, filter_map, list_any};
 ghost use Rattle.std.specs.List.Sorted.{IsPermutation};
@@ -40,7 +40,7 @@ pub fn opening()
         → tables_of (opened (map caller_row rows)) ≡ tables.opened rows }
 {}
 
-/// What a change makes of the rows stands for what it makes of the tables.
+/// The rows after a change stand for the tables after it.
 #[tactic(auto, using(crate::proofs::ChangeFacts::change_made))]
 pub fn change()
     ensures { (caller : SomeCaller) (effect : Effect) (last : LastChange) (stored : Stored)
@@ -49,8 +49,8 @@ pub fn change()
         ≡ tables_after caller effect last (tables_of stored) }
 {}
 
-/// What other callers make of the rows stands for what they make of the tables, if the callers before were read in the
-/// order of their names: `found` are those of the tables. And as many come and go.
+/// The rows with other callers stand for the tables with other callers, if the callers before were read in the order of
+/// their names: `found` are those of the tables. The same numbers of callers come and go.
 pub fn other_callers()
     ensures tables { (found rows : List SomeCallerRow) (stored : Stored)
         → AllByRecursion (λ row. IsId row.name) rows
@@ -76,7 +76,7 @@ pub fn whole_opened()
         → IsWhole (opened (map caller_row rows)) }
 {}
 
-/// Each change that writes what is fit leaves rows that are whole so.
+/// Each change that writes fit values leaves rows whole.
 pub fn whole_after()
     ensures { (caller : SomeCaller) (effect : Effect) (last : LastChange) (stored : Stored)
         → CanBeWritten caller effect → IsWhole stored
@@ -90,7 +90,7 @@ pub fn zone_rows()
         → IsPermutation (rows_as_stored rows client zone) found → found ≡ zone_rows_of rows client zone }
 {}
 
-/// A zone stands under its name if the client's heads have a row for it, with its rows and its patterns.
+/// A zone is there under its name if the client's heads have a row for it, with its rows and its patterns.
 #[tactic(auto, using(crate::proofs::ClientFacts::zone_found))]
 pub fn zone()
     ensures { (stored : Stored) (client zone : List ℕ) → zone_named zone (zones_of stored client)
@@ -98,8 +98,8 @@ pub fn zone()
         else None) }
 {}
 
-/// A read of holds in the order of their keys finds what the book has of them, if it finds just the holds of the rows
-/// whose keys are asked for.
+/// A read of holds in the order of their keys finds those of the book, if it finds exactly the holds of the rows whose
+/// keys are asked for.
 pub fn holds()
     ensures { (stored : Stored) (found : List SomeHold) (asked : HoldKey → Bool) → IsInKeyOrder found
         → ((hold : SomeHold) → Contains found hold
@@ -131,7 +131,7 @@ pub fn no_record()
         → record_of (content_of stored) id ≡ None }
 {}
 
-/// The one row of an id says its record, with what the rows of other tables say beside.
+/// The one row of an id says its record, together with the rows of other tables.
 pub fn record_of_row()
     ensures { (stored : Stored) (id : List ℕ) (row : Row) (sysmod : SomeSysmod)
         → filter (is_of id) stored.sysmods ≡ row ∷ [] → is_of id row ≡ true
@@ -139,7 +139,7 @@ pub fn record_of_row()
         → record_of (content_of stored) id ≡ Some sysmod }
 {}
 
-/// A read in order of just the ids of the records finds the ids that are catalogued.
+/// A read in order of exactly the ids of the records finds the ids that are catalogued.
 pub fn ids()
     ensures { (stored : Stored) (found : List (List ℕ)) → Ascend found
         → ((id : List ℕ) → Contains (ids_in (sysmods_of (beside_of stored) stored.sysmods)) id
@@ -149,7 +149,7 @@ pub fn ids()
         → found ≡ ids_of (content_of stored) }
 {}
 
-/// What a read shows of a row in its tree, if the rowid stands first, is what it shows of the row alone.
+/// A read shows the same columns of a row in its tree, after the rowid, as of the row alone.
 #[tactic(auto, using(crate::proofs::TreeFacts::shown_after))]
 pub fn columns()
     ensures { (indices : List ℕ) (row : Row) → shown indices (drop 1 row) ≡ shown (map suc indices) row }

@@ -1,17 +1,16 @@
-//! The bureau's tables in a database: what their rows stand for, and how a connection to the file is looked at.
+//! The bureau's tables in a database: what their rows stand for, and how contracts look at a connection to the file.
 //!
-//! - [`law`]: the rows stand for tables in order; a change of the rows is that change of the tables; what is read
-//!   of the rows is what the tables say
-//! - [`id_value`], [`date_value`] and so on: what stands in a column; [`id_in`] and so on: what it says
-//! - [`joined_ids`], [`joined_patterns`], [`categories_value`]: lists, of which each stands in one column
-//! - [`zone_row_in`], [`hold_in`], [`cond_in`], [`sysmod_in`], [`change_in`] and so on: what a row says
-//! - [`state_law`]: what holds of a database that is the bureau's own
+//! - [`law`]: the rows stand for tables in order; a change of the rows is that change of the tables; a read of the rows
+//!   finds what the tables say
+//! - [`id_value`], [`date_value`] and so on: the value for a column; [`id_in`] and so on: its meaning
+//! - [`joined_ids`], [`joined_patterns`], [`categories_value`]: lists, each in one column
+//! - [`zone_row_in`], [`hold_in`], [`cond_in`], [`sysmod_in`], [`change_in`] and so on: the meaning of a row
+//! - [`state_law`]: laws on the databases that are the bureau's own
 //! - [`NoMemory`]: memory ran out
 //!
-//! `specs/` has what stands in a column (`Values`) and in a row (`Rows`), the tables that all rows stand for
-//! (`Stored`), and what each change makes of the rows (`Changes`). It says which databases are the bureau's own
-//! (`Ours`), and what a read (`Reading`) and a statement that writes (`Writing`) leave of a connection. The crate opens
-//! no database.
+//! `specs/` defines the values of a column (`Values`) and of a row (`Rows`), the tables that all rows stand for
+//! (`Stored`), and the rows after each change (`Changes`). It says which databases are the bureau's own (`Ours`), and
+//! what a read (`Reading`) and a statement that writes (`Writing`) leave of a connection. The crate opens no database.
 #![tactic(auto)]
 
 pub mod law;

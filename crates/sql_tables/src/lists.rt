@@ -1,4 +1,4 @@
-//! Lists that stand in one column, with commas between.
+//! Lists in one column, with commas between.
 ghost use Rattle.std.specs.Prelude.{◌≡◌, map, option_map, IfOk};
 ghost use Rattle.std.specs.List.{slice_split};
 ghost use Rattle.mcs_reader.specs.Bytes.{bytes_of_each};
@@ -50,14 +50,14 @@ fn texts_of_patterns(alloc: Global, patterns: &[Pattern]) -> Result<Vec<&[u8]>, 
     Ok(texts)
 }
 
-/// The text of a hold's categories. It takes no memory.
+/// The text of a hold's categories.
 pub fn categories_value(categories: &Categories) -> ValueRef<'_>
     ensures { owned result ≡ spec.texts_value categories.now }
 {
     ValueRef::Text(categories.joined())
 }
 
-// The texts between the commas of a text, or `None` if the value is none.
+// The texts between the commas of a text, or `None` if the value is no text.
 fn texts_in<'a>(alloc: Global, value: ValueRef<'a>) -> Result<Option<Vec<&'a [u8]>>, NoMemory>
     ensures { IfOk result (λ found.
         option_map (λ texts. bytes_of_each texts.items) found ≡ spec.texts_in (owned value.entry)) }
@@ -111,7 +111,7 @@ fn ids_of(alloc: Global, texts: &[&[u8]]) -> Result<Option<Vec<Id>>, NoMemory>
     Ok(Some(ids))
 }
 
-/// The categories of a list, or `None` if they are none or don't ascend.
+/// The categories of a list, or `None` if a text in it is no category or they don't ascend.
 ///
 /// # Errors
 ///

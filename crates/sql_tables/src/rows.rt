@@ -1,4 +1,4 @@
-//! Rows as a read finds them. A row that no value was written as is `None`.
+//! Rows as a read finds them. A row that stands for nothing is `None`.
 ghost use Rattle.std.specs.Prelude.{◌≡◌, option_map, Some, None, IfOk, IfSome};
 ghost use Rattle.sqlite_value.specs.Value.{owned};
 ghost use Rattle.sqlite_value.specs.Order as order;
@@ -43,7 +43,7 @@ pub fn count_in(row: &Row) -> Option<u64>
     number_in(column(row, 0))
 }
 
-/// A SYSMOD of a zone with its state, of the columns `sysmod` and `state`.
+/// A SYSMOD of a zone with its state, by the columns `sysmod` and `state`.
 pub fn zone_row_in(row: &Row) -> Option<ZoneRow>
     ensures { result ≡ spec.zone_row_found row.now }
 {
@@ -52,7 +52,7 @@ pub fn zone_row_in(row: &Row) -> Option<ZoneRow>
     Some(ZoneRow { sysmod, state })
 }
 
-/// The key of a hold, of the columns `sysmod`, `kind` and `reason`.
+/// The key of a hold, by the columns `sysmod`, `kind` and `reason`.
 fn key_in(row: &Row) -> Option<HoldKey>
     ensures { result ≡ spec.key_found row.now }
 {
@@ -66,7 +66,7 @@ fn key_in(row: &Row) -> Option<HoldKey>
     })
 }
 
-/// A hold, of all columns of its table.
+/// A hold, by all columns of its table.
 ///
 /// # Errors
 ///
@@ -80,7 +80,7 @@ pub fn hold_in(alloc: Global, row: &Row) -> Result<Option<Hold>, NoMemory>
     hold_with(alloc, key, row)
 }
 
-// The hold with this key, of the other columns.
+// The hold with this key, by the other columns.
 fn hold_with(alloc: Global, key: HoldKey, row: &Row) -> Result<Option<Hold>, NoMemory>
     ensures { IfOk result (λ found. found ≡ spec.hold_with key row.now) }
 {
@@ -109,7 +109,7 @@ fn hold_with(alloc: Global, key: HoldKey, row: &Row) -> Result<Option<Hold>, NoM
     }))
 }
 
-/// A caller with its token, of all columns of its table.
+/// A caller with its token, by all columns of its table.
 ///
 /// # Errors
 ///
@@ -125,7 +125,7 @@ pub fn caller_in(alloc: Global, row: &Row) -> Result<Option<CallerRow>, NoMemory
     Ok(Some(CallerRow { name, token }))
 }
 
-/// A caller's last change, of the columns `number` and `body`: its number and the reply that is kept.
+/// A caller's last change, by the columns `number` and `body`: its number and the reply that is kept.
 ///
 /// # Errors
 ///
@@ -181,7 +181,7 @@ fn ascending_in(alloc: Global, list: ValueRef<'_>) -> Result<Option<Ids>, NoMemo
     Ok(Ids::from_ascending(ids))
 }
 
-/// A function and what is required if it is installed, of the columns `fmid` and `member`.
+/// A function and the SYSMOD that is required if it is installed, by the columns `fmid` and `member`.
 pub fn cond_in(row: &Row) -> Option<CondNeed>
     ensures { result ≡ spec.cond_found row.now }
 {
@@ -190,8 +190,8 @@ pub fn cond_in(row: &Row) -> Option<CondNeed>
     Some(CondNeed { fmid, need })
 }
 
-/// A record of the catalogue, of all columns of its table, with what it requires under a condition and what it
-/// supersedes.
+/// A record of the catalogue, by all columns of its table, with its requisites under a condition and the ids
+/// that it supersedes.
 ///
 /// # Errors
 ///

@@ -1,4 +1,4 @@
-//! What holds of the databases that are the bureau's own, as laws.
+//! Laws on the databases that are the bureau's own.
 ghost use Rattle.sqlite.specs.Effect.{Database, IsDatabase};
 ghost use Rattle.sql_tables.specs.Earlier.{AreOfVersion1, IsOfVersion1};
 ghost use Rattle.sql_tables.specs.Ours.{AreOurs, IsOurs};
@@ -9,8 +9,8 @@ pub fn known()
     ensures { (database : Database) → IsOurs database → IsKnown database }
 {}
 
-/// The trees alone say whose a database is. Whatever a connection took for its schema, a database that obeys it and has
-/// trees of the bureau's own has the bureau's tables, of version 2 or of version 1.
+/// The trees alone decide whose a database is. Whatever schema a connection took it to have, a database that obeys that
+/// schema and has trees of the bureau's own has the bureau's tables, of version 2 or of version 1.
 pub fn found()
     ensures ours { (database : Database) → IsDatabase database → AreOurs database.trees → IsOurs database }
     ensures earlier { (database : Database) → IsDatabase database → AreOfVersion1 database.trees

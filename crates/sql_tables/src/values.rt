@@ -19,7 +19,7 @@ pub(crate) fn text_in<'a>(value: ValueRef<'a>) -> &'a [u8]
     }
 }
 
-/// The bytes of a blob.
+/// The bytes of a blob; `None` for any other value.
 pub(crate) fn bytes_in<'a>(value: ValueRef<'a>) -> Option<&'a [u8]>
     ensures { option_map (λ bytes. bytes.now) result ≡ spec.bytes_in (owned value.entry) }
 {
@@ -29,7 +29,7 @@ pub(crate) fn bytes_in<'a>(value: ValueRef<'a>) -> Option<&'a [u8]>
     }
 }
 
-/// The number from 0 on.
+/// The number, if it is at least 0.
 pub(crate) fn number_in(value: ValueRef<'_>) -> Option<u64>
     ensures { result ≡ spec.number_in (owned value.entry) }
 {

@@ -1,4 +1,4 @@
--- What the texts create that make the tables and the index of version 2, one after the other.
+-- The tables and the index of version 2, as texts create them one after the other.
 use Rattle.std.specs.Prelude.{◌≡◌, ℕ, ◌+◌, List, [], ◌∷◌, ◌++◌, Some, drop, length, map, slice_get, take}
 use Rattle.std.specs.Borrow.{Bor}
 use Rattle.sqlite.specs.Table.{Table}
@@ -6,12 +6,12 @@ use Rattle.sqlite_schema.specs.declared.schema.Index.{Index}
 use Rattle.sql_texts.specs.Meaning.{MakesIndex, MakesTable}
 use Rattle.sql_texts.specs.Schema.{by_member, indexes, made, sysmod_sup, tables}
 
--- what one text creates: a table with its keys, or an index on the table that stands at a place
+-- what one text creates: a table with its keys, or an index on the table at a place
 pub data Creation : Type 0 where
   of_table : Table → Creation
   of_index : ℕ → Table → Index → Creation
 
--- The table of the version is there first. Then come the others in their order, and the index after the table that it is on.
+-- The table of the version is there first. Then come the others in their order, and the index after its table.
 abbrev pub creations : List Creation
 creations =
     map of_table (drop 1 (take 5 tables)) ++ of_index 4 sysmod_sup by_member ∷ map of_table (drop 5 tables)

@@ -1,4 +1,4 @@
--- What a query of one table finds: of the rows that pass its tests, the columns that it shows.
+-- The rows that a query of one table finds: those that pass its tests, by the columns that it shows.
 use Rattle.std.specs.Prelude.{ℕ, Bool, List, [], ◌∷◌, map, filter, false}
 use Rattle.std.specs.List.{list_all}
 use Rattle.std.specs.Str.{bytes_eq}
@@ -20,7 +20,7 @@ passes params tests row = list_all (holds (params ∷ row ∷ [])) tests
 abbrev pub passes_with : Row → List Term → Row → Row → Bool
 passes_with params tests first second = list_all (holds (params ∷ first ∷ second ∷ [])) tests
 
--- what is shown of a row of one table with each row of the other that passes with it
+-- what a query shows of a row of one table with each row of the other that passes with it
 abbrev pub pairs_shown : Row → List Term → List Term → Row → List Row → List Row
 pairs_shown params tests project first seconds =
     map (λ second. eval_all project (params ∷ first ∷ second ∷ [])) (filter (passes_with params tests first) seconds)

@@ -1,4 +1,4 @@
--- What a text of SQL means to a database with a schema. No text here has RETURNING, and none reads the time.
+-- The meaning of a text of SQL to a database with a schema. No text here has RETURNING, and none reads the time.
 use Rattle.std.specs.Prelude.{◌≡◌, ℕ, ◌+◌, List, [], ◌∷◌, codes, length, map, nat_lt, None, Ok, false, true}
 use Rattle.std.specs.Char.{is_ascii}
 use Rattle.std.specs.List.{list_all, range_with_len}
@@ -39,14 +39,14 @@ pub record Means (schema : Schema) (text : List ℕ) (command : Command) (parame
 abbrev pub selection : Query → List (List ℕ) → Command
 selection query names = Select (record { lets = []; body = query }) names
 
--- the text reads what the query answers, in columns of these names, and not the list of the tables itself
+-- the text reads the answer of the query, in columns of these names, and not the list of the tables itself
 pub record Reads (schema : Schema) (text : List ℕ) (query : Query) (names : List (List ℕ)) (parameters : ℕ)
     : Type 0 where
   pub statement : understood schema text ≡ Ok (statement (selection query names) parameters text)
   pub unlisted : reads_listing schema text ≡ false
 
--- The text is one that a database lists with what it makes, a table or an index (`kind`) of this name for the table of
--- that name: it is ASCII, it begins as such a text does, and it has less than a thousand bytes.
+-- A database lists the text with what it makes: a table or an index (`kind`) of this name for the table of that name.
+-- The text is ASCII, it begins as such a text does, and it has less than a thousand bytes.
 pub record IsListable (kind name table text : List ℕ) : Type 0 where
   pub ascii : list_all is_ascii text ≡ true
   pub fit : is_fit (Text kind) (Text name) (Text table) (Text text) ≡ true
@@ -60,7 +60,7 @@ pub record MakesTable (before : Schema) (text : List ℕ) (table : Table) (after
   pub defined : table_defined_by text ≡ Ok (record table { tree = 0 })
   pub made : created before table ≡ after
 
--- the text makes this index on the table that stands there in the schema, which takes one schema to the next
+-- the text makes this index on the table at that index of the schema, which takes one schema to the next
 pub record MakesIndex (before : Schema) (text : List ℕ) (table_index : ℕ) (table : Table) (index : Index)
     (after : Schema) : Type 0 where
   pub statement : understood before text ≡ Ok (statement (CreateIndex table_index) 0 text)

@@ -14,7 +14,7 @@ use Rattle.sqlite_sql.specs.declared.ops.CompareOp.TheVariants.{Eq, Lt}
 use Rattle.sqlite_value.specs.Keys.{ascending}
 use Rattle.sql_texts.specs.Schema.{hold_row}
 
--- two values are one
+-- two values are equal
 abbrev pub same : Term → Term → Term
 same = op2 (Compare Eq Binary)
 
@@ -36,7 +36,7 @@ query_of from filter project order = record {
   offset = lit (Int (pos 0));
 }
 
--- of one table's rows the columns at these indices, ordered by the columns at the others
+-- from one table's rows the columns at these indices, ordered by the columns at the others
 abbrev pub from_table : ℕ → List Term → List ℕ → List ℕ → Query
 from_table tree filter project order =
     query_of (inner tree end) filter (map (col 1) project) (map (col 1) order)
@@ -45,11 +45,11 @@ from_table tree filter project order =
 abbrev pub all_columns : ℕ → Table → List Term
 all_columns slot table = map (col slot) (range_with_len 1 (length table.columns))
 
--- how many rows there are
+-- the number of rows
 abbrev pub how_many : Aggregate
 how_many = record { op = CountRows; distinct = false; collation = Binary; argument = lit Null }
 
--- how many rows of a table a filter keeps
+-- the number of rows of a table that a filter keeps
 abbrev pub count_of : ℕ → List Term → Query
 count_of tree filter = record (query_of (inner tree end) filter (col 1 0 ∷ []) [])
     { group = Some (record { keys = []; collations = []; aggregates = how_many ∷ []; having = [] }) }
@@ -61,7 +61,7 @@ version = from_table 0 [] (2 ∷ []) (0 ∷ [])
 abbrev pub callers : Query
 callers = from_table 1 [] (1 ∷ 2 ∷ []) (1 ∷ [])
 
--- number and reply of a caller's last change
+-- the number and the reply of a caller's last change
 abbrev pub last_change : Query
 last_change = from_table 4 (is_given 1 0 ∷ []) (2 ∷ 3 ∷ []) (1 ∷ [])
 
@@ -76,7 +76,7 @@ sysmod_count = count_of 6 []
 abbrev pub hold_count : Query
 hold_count = count_of 11 []
 
--- a count is an integer of SQL, so that it reaches this far
+-- a count is an integer of SQL, so it reaches no further than this
 abbrev pub most_rows : ℕ
 most_rows = 9223372036854775807
 
@@ -84,16 +84,16 @@ most_rows = 9223372036854775807
 abbrev pub in_the_zone : List Term
 in_the_zone = same (col 2 1) (col 1 1) ∷ same (col 2 2) (col 1 2) ∷ []
 
--- the names of a client's zones, each with how many rows it has: slot 2 has that count
+-- the names of a client's zones, each with the number of its rows: slot 2 has that count
 abbrev pub zones : Query
 zones = query_of (inner 13 (counted most_rows (inner 15 end) in_the_zone end)) (is_given 1 0 ∷ [])
     (col 1 2 ∷ col 2 0 ∷ []) (col 1 2 ∷ [])
 
--- how many zones a client has
+-- the number of zones that a client has
 abbrev pub zone_count : Query
 zone_count = count_of 13 (is_given 1 0 ∷ [])
 
--- the holds of a kind on what is installed in a client's zone: slot 2 is the hold on what slot 1 has
+-- the holds of a kind on the SYSMODs installed in a client's zone: slot 2 is the hold on the SYSMOD of slot 1
 abbrev pub held_in : Query
 held_in = query_of (inner 15 (inner 11 end))
     (same (col 2 1) (col 1 3) ∷ is_given 1 0 ∷ is_given 2 1

@@ -74,14 +74,14 @@ last_change = table_of (codes "last_change") 4
     (1 ∷ [])
     (op2 (Compare Gt Binary) (col 1 2) (lit (Int (pos 0))) ∷ [])
 
--- the records of the catalogue, without what they supersede and what they require under a condition
+-- the records of the catalogue, without the ids that they supersede and those that they require under a condition
 abbrev pub sysmod : Table
 sysmod = table_of (codes "sysmod") 6
     (text_column (codes "id") ∷ number_column (codes "kind") ∷ text_column (codes "fmids")
     ∷ text_column (codes "pre") ∷ text_column (codes "req") ∷ [])
     (1 ∷ []) (is_between 2 0 3 ∷ [])
 
--- what each record supersedes
+-- the ids that each record supersedes
 abbrev pub sysmod_sup : Table
 sysmod_sup = table_of (codes "sysmod_sup") 8
     (text_column (codes "id") ∷ text_column (codes "member") ∷ []) (1 ∷ 2 ∷ []) []
@@ -107,12 +107,12 @@ zone_row = table_of (codes "zone_row") 15
     ∷ number_column (codes "state") ∷ [])
     (1 ∷ 2 ∷ 3 ∷ []) (is_between 4 0 2 ∷ [])
 
--- what each client has received
+-- the SYSMODs that each client has received
 abbrev pub received_list : Table
 received_list = table_of (codes "received_list") 17
     (text_column (codes "client") ∷ text_column (codes "ids") ∷ []) (1 ∷ []) []
 
--- what each record requires if a function is installed
+-- the ids that each record requires if a function is installed
 abbrev pub sysmod_cond : Table
 sysmod_cond = table_of (codes "sysmod_cond") 19
     (text_column (codes "id") ∷ text_column (codes "fmid") ∷ text_column (codes "member") ∷ [])

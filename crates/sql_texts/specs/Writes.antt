@@ -1,4 +1,4 @@
--- What is written, as commands on the tables by their indices in the schema.
+-- The commands that write, on the tables by their indices in the schema.
 use Rattle.std.specs.Prelude.{ℕ, ◌+◌, List, [], ◌∷◌, map, pos}
 use Rattle.std.specs.List.{range_with_len}
 use Rattle.sqlite.specs.Command.{Command}

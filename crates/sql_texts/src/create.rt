@@ -1,4 +1,4 @@
-//! The texts that make the tables of version 2, each over what those before it made.
+//! The texts that make the tables of version 2. Each needs those before it to have run.
 #![tactic(auto, unfolding(crate::proofs::OnLiterals::creation_on_literals))]
 
 ghost use Rattle.sql_texts.specs.Creation.{CreateAll, creations};
@@ -14,7 +14,7 @@ pub fn bureau_version() -> &'static str
      NOT NULL) STRICT"
 }
 
-/// The callers, each with the token by which it is known.
+/// The callers with their tokens.
 pub fn caller() -> &'static str
     ensures { MakesTable (made 1 0) result.now schema.caller (made 2 2) }
 {
@@ -29,7 +29,7 @@ pub fn last_change() -> &'static str
      CHECK (number > 0), body BLOB NOT NULL) STRICT"
 }
 
-/// The records of the catalogue, without what they supersede and what they require under a condition.
+/// The records of the catalogue, without the ids that they supersede and those that they require under a condition.
 pub fn sysmod() -> &'static str
     ensures { MakesTable (made 3 3) result.now schema.sysmod (made 4 4) }
 {
@@ -37,7 +37,7 @@ pub fn sysmod() -> &'static str
      BETWEEN 0 AND 3), fmids TEXT NOT NULL, pre TEXT NOT NULL, req TEXT NOT NULL) STRICT"
 }
 
-/// What each record supersedes.
+/// The ids that each record supersedes.
 pub fn sysmod_sup() -> &'static str
     ensures { MakesTable (made 4 4) result.now schema.sysmod_sup (made 5 5) }
 {
@@ -79,14 +79,14 @@ pub fn zone_row() -> &'static str
      sysmod)) STRICT"
 }
 
-/// What each client has received.
+/// The SYSMODs that each client has received.
 pub fn received_list() -> &'static str
     ensures { MakesTable (made 8 9) result.now schema.received_list bureau_1 }
 {
     "CREATE TABLE received_list (client TEXT NOT NULL PRIMARY KEY, ids TEXT NOT NULL) STRICT"
 }
 
-/// What each record requires if a function is installed. A file of version 1 has all tables but this.
+/// The ids that each record requires if a function is installed. A file of version 1 has all tables but this.
 pub fn sysmod_cond() -> &'static str
     ensures { MakesTable bureau_1 result.now schema.sysmod_cond bureau }
 {
@@ -94,8 +94,8 @@ pub fn sysmod_cond() -> &'static str
      PRIMARY KEY (id, fmid, member)) STRICT"
 }
 
-/// The texts that run after that of the version's table, in their order: each makes its table or the index over what those
-/// before it made.
+/// The texts that run after that of the version's table, in their order. Each makes its table, or an index on a table
+/// that is there.
 #[tactic(auto)]
 pub fn others() -> [&'static str; 10]
     ensures { CreateAll 1 0 creations result }

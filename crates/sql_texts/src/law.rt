@@ -1,4 +1,4 @@
-//! What a query of one table or of two finds, as laws.
+//! Laws on the rows that a query of one table or of two finds.
 ghost use Rattle.std.specs.Prelude.{◌≡◌, ℕ, List, map, filter, flat_map};
 ghost use Rattle.std.specs.List.Sorted.{IsPermutation};
 ghost use Rattle.sqlite.specs.Collation.TheVariants.{Binary};
@@ -14,8 +14,8 @@ ghost use Rattle.sqlite_value.specs.Order.{Row};
 ghost use Rattle.sql_texts.specs.Found.{is_text, pairs_shown, passes, shown};
 ghost use Rattle.sql_texts.specs.Reads.{from_table, query_of};
 
-/// A query of one table answers, of just the rows that pass its tests, the columns that it names, each row as
-/// often as it stands there.
+/// A query of one table answers the columns that it names of exactly the rows that pass its tests, each row
+/// as often as the table has it.
 pub fn table()
     ensures { (tree : ℕ) (tests : List Term) (project order : List ℕ)
         (db : Trees) (params : Row) (rows : List Row)
@@ -23,14 +23,14 @@ pub fn table()
         → IsPermutation (map (shown project) (filter (passes params tests) (db tree))) rows }
 {}
 
-/// A value is equal to a text just if it is that text, byte for byte.
+/// A value is equal to a text exactly if it is that text, byte for byte.
 pub fn text()
     ensures { (value : Value) (text : List ℕ)
         → is_true (binary (Compare Eq Binary) value (Text text)) ≡ is_text text value }
 {}
 
-/// A query of two tables answers what it shows of each row of the one with each row of the other that passes
-/// its tests with it.
+/// A query of two tables answers what it shows of each row of the one with each row of the other, if the two
+/// pass its tests together.
 pub fn join()
     ensures { (left right : ℕ) (tests project order : List Term) (db : Trees) (params : Row) (rows : List Row)
         → IsAnswer (query_of (inner left (inner right end)) tests project order) db params rows

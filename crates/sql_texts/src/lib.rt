@@ -1,13 +1,14 @@
-//! Texts of SQL that a store in a file runs, each with what it means to the database. No text is made while the
-//! program runs. Most texts of one table alone stand in its file of `sql_reads`, `sql_writes` and `sql_checks`.
+//! Texts of SQL that a store in a file runs, each with its meaning to the database. The program makes no text
+//! while it runs. Most texts of a single table are in its file of `sql_reads`, `sql_writes` and `sql_checks`.
 //!
 //! - [`create`]: the tables and the index of version 2
-//! - [`read`]: what is read of several tables, and what several crates read
-//! - [`law`]: what a query of one table or of two finds
-//! - [`write`]: how the version is written, and the text of a probe
+//! - [`read`]: the texts that read several tables, and those that several crates use
+//! - [`law`]: laws on the rows that a query of one table or of two finds
+//! - [`write`]: the texts that write the version, and the text of a probe
 //!
-//! A contract says what the database understands under the schema of version 2: a query over the trees of the
-//! tables, or a command on a table. `specs/` has the schema (`Schema`) and these (`Reads`, `Writes`).
+//! A contract says how the database understands a text under the schema of version 2: as a query over the trees
+//! of the tables, or as a command on a table. `specs/` has the schema (`Schema`), these queries (`Reads`) and
+//! these commands (`Writes`).
 #![tactic(auto)]
 
 pub mod create;

@@ -1,5 +1,5 @@
-//! The texts that read several tables or count, and those that several crates read. Each that may find several rows says in
-//! which order they come. The other texts of one table stand in its file of `sql_reads`.
+//! The texts that read several tables or count, and those that several crates use. Each that may find several rows
+//! orders them. The other texts of one table are in its file of `sql_reads`.
 #![tactic(auto, unfolding(sqlite::specs::Listing::understood, sqlite_tied::specs::Compute::everything))]
 
 ghost use Rattle.std.specs.Prelude.{codes, [], ◌∷◌};
@@ -22,7 +22,7 @@ pub fn callers() -> &'static str
     "SELECT name, token FROM caller ORDER BY name"
 }
 
-/// Number and reply of the last change of the caller ?1.
+/// The number and the reply of the last change of the caller ?1.
 pub fn last_change() -> &'static str
     ensures reads { Reads bureau result.now read.last_change (codes "number" ∷ codes "body" ∷ []) 1 }
 {
@@ -37,22 +37,21 @@ pub fn superseders() -> &'static str
      ORDER BY p.id"
 }
 
-/// How many SYSMODs are catalogued. It goes through all of them.
+/// The number of SYSMODs that are catalogued. It goes through all of them.
 pub fn sysmod_count() -> &'static str
     ensures { Reads bureau result.now read.sysmod_count (codes "count(*)" ∷ []) 0 }
 {
     "SELECT count(*) FROM sysmod"
 }
 
-/// How many holds there are. It goes through all of them.
+/// The number of holds. It goes through all of them.
 pub fn hold_count() -> &'static str
     ensures { Reads bureau result.now read.hold_count (codes "count(*)" ∷ []) 0 }
 {
     "SELECT count(*) FROM hold_row"
 }
 
-/// The zones of the client ?1, ascending by name, each with how many SYSMODs its list has. It goes
-/// through all of them.
+/// The zones of the client ?1, ascending by name, each with the number of its rows. It goes through all of them.
 pub fn zones() -> &'static str
     ensures { Reads bureau result.now read.zones (codes "zone" ∷ codes "sysmods" ∷ []) 1 }
 {
@@ -61,7 +60,7 @@ pub fn zones() -> &'static str
      WHERE h.client = ?1 ORDER BY h.zone"
 }
 
-/// How many zones the client ?1 has.
+/// The number of zones that the client ?1 has.
 pub fn zone_count() -> &'static str
     ensures { Reads bureau result.now read.zone_count (codes "count(*)" ∷ []) 1 }
 {

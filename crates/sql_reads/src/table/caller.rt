@@ -95,7 +95,7 @@ impl Listed<All> for Callers {
     ghost told = { λ all stored whole callers ascend. said_of_all caller_found stored.callers callers };
 }
 
-/// All callers, ascending by name, each with its token.
+/// Reads all callers, ascending by name, each with its token.
 ///
 /// # Errors
 ///
@@ -113,7 +113,7 @@ pub fn all_callers<S: Alter>(
     read_list::<All, Callers, S>(alloc, conn, &All)
 }
 
-/// The caller whose token this is, or `None` if no caller has it.
+/// Reads whose token this is, or `None` if no caller has it.
 ///
 /// # Errors
 ///

@@ -91,7 +91,7 @@ impl Scanned for Holds {
     ghost placed = { λ row. refl };
 }
 
-/// The holds on a SYSMOD, in the order of their keys.
+/// Reads the holds on a SYSMOD, in the order of their keys.
 ///
 /// # Errors
 ///

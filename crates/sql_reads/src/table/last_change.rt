@@ -23,7 +23,8 @@ use sqlite::types::ValueRef;
 use sqlite::{Alter, Connection, Row};
 use std::alloc::Global;
 
-/// The number of the caller's last change and the reply that is kept for it: 0 and nothing before the first.
+/// Reads the number of the caller's last change and the reply that is kept for it: 0 and an empty reply
+/// before the first.
 ///
 /// # Errors
 ///
@@ -45,7 +46,7 @@ pub fn last<S: Alter>(
     change_or_none(alloc, rows.as_slice())
 }
 
-// The name under which a caller's last change stands.
+// The name under which a caller's last change is kept.
 fn name(caller: &Caller) -> ValueRef<'_>
     requires { IsProper caller.now }
     ensures { IsNameOf caller.now (owned result) }
@@ -56,7 +57,7 @@ fn name(caller: &Caller) -> ValueRef<'_>
     }
 }
 
-// The number and the reply in the one row; 0 and nothing if there is no row.
+// The number and the reply in the one row; 0 and an empty reply if there is no row.
 fn change_or_none(alloc: Global, rows: &[Row]) -> Result<(u64, Vec<u8>), ReadFault>
     ensures { IfOk result (λ last. option_map (λ found. unwrap_or found no_change)
         (one_of change_found rows.now)

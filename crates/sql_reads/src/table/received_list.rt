@@ -1,4 +1,4 @@
-//! The table `received_list`: what a client has received.
+//! The table `received_list`: the SYSMODs that clients have received.
 ghost use Rattle.std.specs.Prelude.{◌≡◌, false, IfOk};
 ghost use Rattle.catalogue.specs.Ids.{Ascend};
 ghost use Rattle.sqlite.specs.Held.{state};
@@ -54,7 +54,7 @@ impl One<Id> for Received {
         (first (filter (is_of client) stored.received)) ids says };
 }
 
-/// The SYSMODs that a client has received, ascending.
+/// Reads the SYSMODs that a client has received, ascending.
 ///
 /// # Errors
 ///

@@ -1,4 +1,4 @@
-//! The table `sysmod`: the records, with what stands of them in other tables.
+//! The table `sysmod`: the records, which have parts in other tables.
 ghost use Rattle.std.specs.Prelude.{◌≡◌, false, IfOk, Some};
 ghost use Rattle.sqlite.specs.Held.{state};
 ghost use Rattle.catalogue.specs.Content.{ids_of, record_of};
@@ -40,7 +40,7 @@ impl Selection<All> for Sysmods {
     }
 }
 
-// The record of a SYSMOD, in one row, without what stands beside.
+// The record of a SYSMOD, in one row, without its parts in other tables.
 impl Selection<Id> for Sysmods {
     ghost use Rattle.std.specs.Prelude.{◌∷◌, []};
     ghost use Rattle.sql_texts.specs.Schema.{sysmod_columns};
@@ -81,7 +81,7 @@ impl Scanned for Sysmods {
     ghost placed = { λ row. refl };
 }
 
-/// The ids of all SYSMODs that are catalogued, ascending.
+/// Reads the ids of all SYSMODs that are catalogued, ascending.
 ///
 /// # Errors
 ///
@@ -97,7 +97,7 @@ pub fn ids<S: Alter>(alloc: Global, conn: &mut Connection<S>) -> Result<Vec<Id>,
     entries(alloc, rows.as_slice())
 }
 
-/// The record of a SYSMOD, or `None` if it isn't catalogued.
+/// Reads the record of a SYSMOD, or `None` if it isn't catalogued.
 ///
 /// # Errors
 ///
@@ -120,7 +120,7 @@ pub fn sysmod<S: Alter>(
     record_in(alloc, rows.as_slice(), conds, sup)
 }
 
-// What a SYSMOD requires under a condition, and what it supersedes.
+// The requisites of a SYSMOD under a condition, and the ids that it supersedes.
 fn beside<S: Alter>(
     alloc: Global,
     conn: &mut Connection<S>,
@@ -138,7 +138,8 @@ fn beside<S: Alter>(
     }
 }
 
-/// The record in the one row, of a SYSMOD that requires these under a condition, and supersedes these.
+/// The record in the one row of a SYSMOD, with these requisites under a condition and these superseded
+/// ids.
 pub(crate) fn record_in(
     alloc: Global,
     rows: &[Row],

@@ -1,4 +1,4 @@
-//! The table `sysmod_cond`: what a SYSMOD requires under a condition.
+//! The table `sysmod_cond`: the requisites of a SYSMOD under a condition.
 
 use crate::all_columns::AllColumns;
 use crate::entry::{Entry, Ordered};

@@ -1,4 +1,4 @@
-//! The table `sysmod_sup`: what a SYSMOD supersedes.
+//! The table `sysmod_sup`: the ids that a SYSMOD supersedes.
 ghost use Rattle.sql_reads.specs.Columns.{ShowsAll};
 ghost use Rattle.sql_texts.specs.Schema as schema;
 

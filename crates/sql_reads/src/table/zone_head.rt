@@ -1,4 +1,4 @@
-//! The table `zone_head`: the zones of a client, each with the patterns that are asked for in it.
+//! The table `zone_head`: the zones of a client, each with its patterns.
 ghost use Rattle.std.specs.Prelude.{◌≡◌, false, is_some, IfOk};
 ghost use Rattle.bureau_store.specs.Tables as tables;
 ghost use Rattle.bureau_store.specs.Tables.{PatternsAscend, zone_named};
@@ -75,7 +75,8 @@ impl One<Zone> for Heads {
         (first (filter (is_of_both key.client key.zone) stored.heads)) patterns says) };
 }
 
-/// The patterns of the fix categories that a client asks for in a zone, ascending; none if it has no such zone.
+/// Reads the patterns of the fix categories that a client asks for in a zone, ascending; none if it has no such
+/// zone.
 ///
 /// # Errors
 ///
@@ -100,7 +101,7 @@ pub fn patterns<S: Alter>(
     read_one::<Zone, Heads, S>(alloc, conn, &key)
 }
 
-/// Whether a client has a zone of this name.
+/// Reads whether a client has a zone of this name.
 ///
 /// # Errors
 ///

@@ -84,7 +84,7 @@ impl Listed<Zone> for ZoneRows {
     ghost told = { λ key stored whole. zone_rows_read stored.rows key.client key.zone };
 }
 
-/// The SYSMODs of a client's zone with their states, ascending; none if it has no such zone.
+/// Reads the SYSMODs of a client's zone with their states, ascending; none if it has no such zone.
 ///
 /// # Errors
 ///
