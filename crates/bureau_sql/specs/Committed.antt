@@ -1,4 +1,4 @@
--- What a change leaves of a connection at rest: it is committed whole, or nothing is.
+-- The connection at rest that a change leaves: it is committed whole, or not at all.
 use Rattle.std.specs.Prelude.{◌≡◌, IsTrue, OnErr, OnOk, Result}
 use Rattle.sqlite.specs.Effect.{Database}
 use Rattle.sqlite.specs.State.{HasCleanDisk, KeepsCommit, State, Survives}
@@ -26,5 +26,5 @@ pub record IsCommitted {Answer Fault : Type 0} (old new : State) (result : Resul
   pub done : OnOk result (HasCleanDisk new → IsTrue new.is_open
       × (IsOurs old.committed → (new.committed.schema ≡ bureau) × HaveChange old.committed change new.committed.trees))
   pub refused : OnErr result (HasCleanDisk new → KeepsCommit old new)
-  -- a stop may leave the change, and else what it might have left before
+  -- a stop may leave the change, or else what it might have left before
   pub survives : Survives old new (AreChanged old change)

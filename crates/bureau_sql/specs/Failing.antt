@@ -1,4 +1,4 @@
--- Why a change that is right isn't written, other than for want of memory.
+-- Why a right change isn't written, other than for want of memory.
 use Rattle.std.specs.Prelude.{◌≡◌, ◌⊎◌, ℕ, IsTrue, Err, IfErr, IsOk, IsSome, Result}
 use Rattle.bureau_store.specs.Store.{Update}
 use Rattle.bureau_store.specs.declared.fault.StoreFault.{StoreFault}
@@ -15,7 +15,8 @@ use Rattle.sql_writes.specs.Room.{AreUpTo, HasRoom}
 use Rattle.bureau_sql.specs.SqlState.{SqlState}
 use Rattle.bureau_sql.specs.SqlView.{IsOurStore, shown}
 
--- The device has failed since, a full one too, or the connection was shut. Or a statement may take only so many steps.
+-- The device has failed since, for example because it is full; or the connection was closed; or a statement may take only so
+-- many steps.
 abbrev pub CannotWrite : State → State → Type 0
 CannotWrite old new = HasFailed old new ⊎ IsSome old.step_limit
 

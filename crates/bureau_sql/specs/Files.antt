@@ -1,4 +1,4 @@
--- What the two files of a store hold between two runs: the file of the database and its log.
+-- The contents of a store's two files between two runs: the file of the database and its log.
 use Rattle.std.specs.Prelude.{◌≡◌, []}
 use Rattle.bureau_store.specs.Tables.{Tables}
 use Rattle.sqlite.specs.Files.{HoldsDatabase}

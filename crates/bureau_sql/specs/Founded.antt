@@ -1,4 +1,4 @@
--- What is left of a connection at rest by a transaction that leads from one kind of database to another.
+-- The connection at rest after a transaction that leads from one kind of database to another.
 use Rattle.std.specs.Prelude.{◌≡◌, ◌≢◌, ◌↔◌, ◌⊎◌, IsTrue, List, OnErr, OnOk, Result}
 use Rattle.bureau_store.specs.Store.{IsOfCall}
 use Rattle.bureau_store.specs.declared.caller.CallerRow.{CallerRow}
@@ -17,7 +17,7 @@ AreLed old From To trees = IsTrue old.is_open × (From old.committed → (databa
 pub record IsLed {Answer Fault : Type 0} (old new : State) (result : Result Answer Fault) (From To : Database → Type 0) : Type 0 where
   pub done : OnOk result (HasCleanDisk new → IsTrue old.is_open × IsTrue new.is_open × (From old.committed → To new.committed))
   pub refused : OnErr result (HasCleanDisk new → KeepsCommit old new)
-  -- a stop may leave such a database, and else what it might have left before
+  -- a stop may leave such a database, or else what it might have left before
   pub survives : Survives old new (AreLed old From To)
 
 -- what was committed is an empty database, and the trees are those of a store with these callers and nothing else
@@ -25,15 +25,15 @@ abbrev pub AreFounded : State → List CallerRow → Trees → Type 0
 AreFounded old callers trees =
     IsTrue old.is_open × IsEmpty old.committed × ((database : Database) × IsOpened callers database × (database.trees ≡ trees))
 
--- Why a store isn't made: of an open connection the fault is `Shape` just if the database isn't empty.
+-- Why a store isn't made: if the connection is open, the fault is `Shape` exactly if the database isn't empty.
 pub record IsNotMade (at : State) (fault : StoreFault) : Type 0 where
   pub taken : IsTrue at.is_open → (fault ≡ Shape) ↔ (IsEmpty at.committed → ⊥)
   pub other : fault ≢ Shape → IsOfCall fault
 
--- And of an empty database it is want of memory, or it couldn't be written.
+-- And if the database is empty, it is want of memory, or it couldn't be written.
 abbrev pub IsNotFounded : State → State → StoreFault → Type 0
 IsNotFounded at new fault = IsEmpty at.committed → (fault ≡ Shape) ⊎ ((fault ≡ Memory) ⊎ CannotWrite at new)
 
--- So it is with callers that are fit.
+-- It is so with callers that are fit.
 abbrev pub FailsToFound : State → State → List CallerRow → StoreFault → Type 0
 FailsToFound at new callers fault = AreFit callers → IsNotFounded at new fault

@@ -1,4 +1,4 @@
--- What the view of a store in a database keeps to, as laws.
+-- Laws on the view of a store in a database.
 use Rattle.std.specs.Prelude.{◌≡◌, refl}
 use Rattle.std.proofs.Common.{◌∙◌, ap, arith, inl, inr, subst, sym}
 use Rattle.catalogue.specs.Content.{Content, IsInOrder}

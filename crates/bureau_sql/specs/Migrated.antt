@@ -1,4 +1,4 @@
--- What is left of a file of version 1 by the transaction that makes it one of version 2.
+-- A file of version 1 after the transaction that makes it one of version 2.
 use Rattle.std.specs.Prelude.{◌≡◌, ◌≢◌, ◌⊎◌, IsTrue, Result}
 use Rattle.bureau_store.specs.declared.fault.StoreFault.{StoreFault}
 use Rattle.bureau_store.specs.declared.fault.StoreFault.TheVariants.{Device, Memory}
@@ -12,8 +12,8 @@ use Rattle.sql_writes.specs.Migrating.{HeldEarlier, HoldsAll, IsMigration}
 use Rattle.bureau_sql.specs.Founded.{IsLed}
 use Rattle.bureau_sql.specs.Opening.{IsTaken}
 
--- What was committed was taken for a database of version 1, and is no store of version 2. The trees are what the
--- three statements of the migration make of it. If it is ours, they are those of version 2 with its rows.
+-- What was committed was taken for a database of version 1, and is no store of version 2. The trees are those after the
+-- three statements of the migration. If it is ours, they are those of version 2 with its rows.
 pub record AreMigrated (old : State) (trees : Trees) : Type 0 where
   pub was_open : IsTrue old.is_open
   pub taken : IsTaken old.committed
@@ -35,7 +35,7 @@ pub record IsUntouched (old new : State) : Type 0 where
   pub left : HasCleanDisk new → (trees : Trees) → new.may_leave trees → old.may_leave trees ⊎ (IsTrue old.is_open × (trees ≡ old.committed.trees))
 
 -- So it is after a refusal for anything but the device. But if memory was too short to see whether the connection is open,
--- the device may have failed besides.
+-- the device may have failed too.
 abbrev pub LeavesUntouched : State → State → StoreFault → Type 0
 LeavesUntouched old new fault =
     HasCleanDisk new → fault ≢ Device → IsUntouched old new ⊎ ((fault ≡ Memory) × HasFailed old new)

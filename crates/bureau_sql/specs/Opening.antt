@@ -1,4 +1,4 @@
--- Why a connection isn't taken for a store, or its file not made one of version 2.
+-- Why a connection isn't taken for a store, or its file isn't made one of version 2.
 use Rattle.std.specs.Prelude.{◌≡◌, ◌≢◌, ◌≤◌, ◌⊎◌, ℕ, IsTrue, List, [], ◌∷◌, Ok, Option, Some, codes, length, map}
 use Rattle.std.specs.Borrow.{Bor}
 use Rattle.std.specs.List.{AllByRecursion, Contains}
@@ -30,7 +30,7 @@ use Rattle.sql_texts.specs.Schema.{bureau, bureau_1, columns_of, sysmod_cond}
 abbrev pub IsUnderstood : Schema → List ℕ → Type 0
 IsUnderstood schema text = (compiled : Compiled) × (understood schema text ≡ Ok compiled)
 
--- what is asked of the bureau's tables: a query, the names of its columns, and how many parameters it takes
+-- a question to the bureau's tables: a query, the names of its columns, and the number of its parameters
 pub record Asked : Type 0 where
   pub query : Query
   pub names : List (List ℕ)
@@ -43,7 +43,7 @@ asked query names parameters = record { query = query; names = names; parameters
 abbrev pub IsAskedBy : Asked → List ℕ → Type 0
 IsAskedBy what text = Reads bureau text what.query what.names what.parameters
 
--- Some text that asks it means something under these tables too: each table and column is there that it names.
+-- Some text that asks it means something under these tables too: each table and column that it names is there.
 abbrev pub CanAsk : Schema → Asked → Type 0
 CanAsk schema what = (text : List ℕ) × IsAskedBy what text × IsUnderstood schema text
 
@@ -64,11 +64,11 @@ of_version = asked read.version (codes "version" ∷ []) 0
 abbrev pub of_table : Table → Asked
 of_table table = asked (all_of table) (columns_of table) 0
 
--- of each other table of version 1 all its columns
+-- all columns of each other table of version 1
 abbrev pub of_tables : List Asked
 of_tables = map of_table tables_of_version_1
 
--- and of that of version 2, of requisites under a condition
+-- and those of the table that only version 2 has, of requisites under a condition
 abbrev pub of_conditions : Asked
 of_conditions = of_table sysmod_cond
 
@@ -95,7 +95,7 @@ CanMakeConditions schema = (text : List ℕ) × MakesTable bureau_1 text sysmod_
 abbrev pub CannotMakeConditions : Schema → Type 0
 CannotMakeConditions schema = (text : List ℕ) × MakesTable bureau_1 text sysmod_cond bureau × (IsOneStatement schema text → ⊥)
 
--- It tells version 1, has the tables of it, and lacks the one that version 2 has besides.
+-- It has version 1 and the tables of it, and lacks the one that only version 2 has.
 pub record IsTaken (database : Database) : Type 0 where
   pub version : HasVersion (Some 1) database
   pub tables : HasTables database.schema
@@ -103,17 +103,17 @@ pub record IsTaken (database : Database) : Type 0 where
 
 -- ---- why it isn't taken
 
--- The version can't be asked. Or it is this one, and one of the tables that every version has isn't there, or what this
--- version wants besides.
+-- The version can't be asked. Or it is this one, and one of the tables that every version has isn't there, or one that only
+-- this version has.
 abbrev pub HasOtherShape : ℕ → (Schema → Type 0) → Database → Type 0
 HasOtherShape wanted Lacks database =
     CannotAsk database.schema of_version
     ⊎ (HasVersion (Some wanted) database × (LacksTable database.schema ⊎ Lacks database.schema))
 
 module _ (wanted : ℕ) (Lacks : Schema → Type 0) (IsIt IsOtherOurs : Database → Type 0) (IsChanged : State → State → Type 0) where
-  -- Its tables are other ones than those of a version, and no database of ours of either version is refused so; or they are
-  -- of another version, which no database of ours of this one has; or memory ran out; or the device failed or was shut, or
-  -- the tables of the version show nothing; or a change was begun, for which there was no room, or which failed.
+  -- Its tables are other ones than those of a version, and no database of ours of either version is refused so. Or they are
+  -- of another version, which no database of ours of this one has. Or memory ran out. Or the device failed or was closed, or
+  -- the tables of the version show nothing. Or a change was begun, for which there was no room, or which failed.
   abbrev pub IsNotOf : State → State → StoreFault → Type 0
   IsNotOf old new Shape = IsTrue old.is_open × HasOtherShape wanted Lacks old.committed × (IsIt old.committed → ⊥) × (IsOtherOurs old.committed → ⊥)
   IsNotOf old new Version = IsTrue old.is_open × (IsIt old.committed → ⊥)
@@ -126,11 +126,12 @@ module _ (wanted : ℕ) (Lacks : Schema → Type 0) (IsIt IsOtherOurs : Database
 abbrev pub IsNoStore : State → State → StoreFault → Type 0
 IsNoStore = IsNotOf 2 LacksConditions IsOurs IsOfVersion1 (λ old new. ⊥)
 
--- Why a database of the bureau's own is refused: memory ran out, or the device failed or was shut.
+-- Why a database of the bureau's own is refused: memory ran out, or the device failed, or the connection was closed.
 abbrev pub IsOutOfReach : State → State → StoreFault → Type 0
 IsOutOfReach old new fault = (fault ≡ Memory) ⊎ ((fault ≡ Device) × HasFailed old new)
 
--- A change was begun of a database that was taken for one of version 1, and is refused. If it is ours, the device failed.
+-- A change was begun of a database that was taken for one of version 1, and was refused. If the database is ours, the device
+-- failed.
 abbrev pub IsNotMigrated : State → State → Type 0
 IsNotMigrated old new = IsTaken old.committed × (IsOfVersion1 old.committed → CannotWrite old new)
 
@@ -149,8 +150,8 @@ IsSeen Shaped Versioned old new Memory = Unit {0}
 IsSeen Shaped Versioned old new Device = HasFailed old new ⊎ WithholdsVersion old.step_limit old.committed
 IsSeen Shaped Versioned old new Size = ⊥
 
--- What an error of the database is told as: of a failure of the store below it is told what failed, and all else as the shape
--- of the tables.
+-- The fault for an error of the database: for a failure of the store below it is that failure, and for all else the shape of
+-- the tables.
 abbrev pub IsToldOf : Error → StoreFault → Type 0
 IsToldOf error Memory = error ≡ store_error OutOfMemory
 IsToldOf error Device =
@@ -163,7 +164,7 @@ IsToldOf error Size = ⊥
 abbrev pub IsOfBureau : Schema → Type 0
 IsOfBureau schema = (schema ≡ bureau) ⊎ (schema ≡ bureau_1)
 
--- a version that is told of databases of ours as it is
+-- databases of ours have the version that is told
 pub record TellsVersion (version : Option ℕ) (database : Database) : Type 0 where
   pub has : HasVersion version database
   pub ours : IsOurs database → version ≡ Some 2

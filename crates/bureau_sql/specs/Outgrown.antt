@@ -1,4 +1,4 @@
--- What a change that is refused for want of room says of a store.
+-- A store after a change that was refused for want of room.
 use Rattle.std.specs.Prelude.{◌≡◌}
 use Rattle.bureau_store.specs.Store.{Update}
 use Rattle.bureau_sql.specs.SqlState.{SqlState}

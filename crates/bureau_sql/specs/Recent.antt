@@ -1,4 +1,4 @@
--- What a store has read since its last change, and answers again.
+-- The reads of a store since its last change, which it answers again.
 use Rattle.std.specs.Prelude.{◌≡◌, ◌⊎◌, ℕ, IsTrue, List, [], Ok, Result, Some, Contains, length, map}
 use Rattle.std.specs.Option.{option_map}
 use Rattle.bureau_store.specs.Caller.{caller_with}
@@ -14,7 +14,7 @@ pub record TokenRead : Type 0 where
   pub token : List ℕ
   pub caller : Caller
 
--- which zones a client has, each with how many SYSMODs its list has
+-- the zones of a client, each with the number of its rows
 pub record ZonesRead : Type 0 where
   pub client : List ℕ
   pub zones : List (List ℕ × ℕ)
@@ -25,7 +25,7 @@ pub record RowsRead : Type 0 where
   pub zone : List ℕ
   pub rows : List ZoneRow
 
--- what is kept of each kind
+-- the answers of each kind that are kept
 pub record RecentLists : Type 0 where
   pub tokens : List TokenRead
   pub zones : List ZonesRead

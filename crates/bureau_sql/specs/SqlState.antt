@@ -6,7 +6,7 @@ use Rattle.sqlite.specs.Held.{Held, held_code}
 pub record SqlState (S : Type 0) : Type 0 where
   -- its connection, which is at rest
   pub conn : Held S
-  -- how often what lies below has failed
+  -- the number of failures of what lies below
   pub failures : ℕ
   -- memory was too short to see whether the connection was open, so the store closed
   pub unseen : Bool

@@ -1,4 +1,4 @@
--- How a store in a database is looked at, with all its tables.
+-- How contracts look at a store in a database, with all its tables.
 use Rattle.std.specs.Prelude.{◌≡◌, ◌≤◌, IsTrue}
 use Rattle.catalogue.specs.View.{View}
 use Rattle.bureau_store.specs.Tables.{Tables}
@@ -17,7 +17,7 @@ abbrev pub IsAtRest : State → Type 0
 IsAtRest at = (trees : Trees) → IsTrue at.is_open → at.may_leave trees → trees ≡ at.committed.trees
 
 module _ {S : Type 0} (g : Ghosts S) where
-  -- what its connection shows
+  -- the state of its connection
   abbrev pub shown : SqlState S → State
   shown store = state g store.conn
 
@@ -31,7 +31,7 @@ module _ {S : Type 0} (g : Ghosts S) where
       ((trees : Trees) → (shown store).may_leave trees → AreOurs trees)
       × (store.failures ≡ 0 → IsTrue (shown store).is_open × IsOurs (shown store).committed)
 
-  -- What a read leaves: nothing is committed, and the connection stays open if no failure is counted.
+  -- A read commits nothing, and the connection stays open if no failure is counted.
   pub record Stays (old new : SqlState S) : Type 0 where
     pub reads : OnlyReads (shown old) (shown new)
     pub failures_rise : old.failures ≤ new.failures

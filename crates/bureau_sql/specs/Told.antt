@@ -1,4 +1,4 @@
--- How what a connection was found to hold is told.
+-- How a store answers with what its connection found.
 use Rattle.std.specs.Prelude.{◌≡◌, ◌≢◌, ◌≤◌, ◌⊎◌, IsTrue, Result, IfErr, IfOk, Err, Ok}
 use Rattle.catalogue.specs.View.{HasFailed}
 use Rattle.bureau_store.specs.declared.fault.StoreFault.{StoreFault}
@@ -25,7 +25,7 @@ module _ {S : Type 0} (g : Ghosts S) where
       ((refusal ≡ device) × HasFailed (sql_view g) old new)
       ⊎ ((refusal ≢ device) × (new.failures ≡ old.failures) × (HasCleanDisk (shown g new) → IsTrue (shown g new).is_open))
 
-  -- What was found is told, and nothing else is.
+  -- The answer is what was found, and nothing else.
   pub record IsTold {Answer Fault Refusal : Type 0} (device : Refusal) (old new : SqlState S) (found : Result Answer Fault)
       (answer : Result Answer Refusal) : Type 0 where
     pub reads : OnlyReads (shown g old) (shown g new)
@@ -34,8 +34,8 @@ module _ {S : Type 0} (g : Ghosts S) where
     pub heard : IfOk found (λ told. answer ≡ Ok told)
     pub refused : IfErr answer (IsRefusedAs device old new)
 
-  -- A transaction was refused for something else than want of memory. Or the device has failed since; or the fault of the device
-  -- is told since memory was too short to see whether the connection was open.
+  -- A transaction was refused for something else than want of memory. Or the device has failed since. Or the fault is that
+  -- of the device because memory was too short to see whether the connection was open.
   abbrev pub IsRefusedFor : {Answer : Type 0} → Result Answer Error → SqlState S → SqlState S → StoreFault → Type 0
   IsRefusedFor made old new fault = (error : Error) × (made ≡ Err error)
       × ((error ≢ store_error OutOfMemory) ⊎ (HasFailedSince (shown g old) (shown g new) ⊎ ((fault ≡ Device) × IsTrue new.unseen)))

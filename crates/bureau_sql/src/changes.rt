@@ -1,4 +1,5 @@
-//! A change of a connection, in a transaction of its own that keeps the number and the reply too.
+//! A change over a connection, in a transaction of its own that also keeps the number and the
+//! reply.
 ghost use Rattle.std.specs.Prelude.{◌≡◌, ◌≤◌, ℕ, false};
 ghost use Rattle.sqlite.specs.Held.{state};
 ghost use Rattle.bureau_store.specs.Caller.{IsProper};

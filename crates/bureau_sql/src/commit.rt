@@ -1,4 +1,4 @@
-//! A change begins and ends here, and it is committed here alone.
+//! The beginning and the end of each change. Only here is a change committed.
 ghost use Rattle.std.specs.Prelude.{◌≡◌, IfErr, IsOk, IsTrue, OnErr, OnOk, false, true};
 ghost use Rattle.sqlite.specs.Held.{state};
 ghost use Rattle.sqlite.specs.State.{HasCleanDisk, KeepsCommit, Shows, Survives};
@@ -19,7 +19,7 @@ pub(crate) fn begin<S: Alter>(conn: &mut Connection<S>) -> Transaction<'_, S>
     conn.transaction()
 }
 
-/// Commits what was written. If something wasn't, nothing is committed.
+/// Commits what was written. If some of it wasn't, nothing is committed.
 pub(crate) fn end<S: Alter>(tx: Transaction<'_, S>, written: Result<(), Error>) -> Result<(), Error>
     ensures ended { tx.exit.0.now.in_transaction ≡ false }
     ensures written { OnOk result (IsOk written × (HasCleanDisk (state S.Store tx.exit.0.now)

@@ -21,7 +21,7 @@ use sql_texts::read;
 use sqlite::{Connection, Error, ErrorCode};
 use sqlite_trees::store::Alter;
 
-// Whether a text means something with the tables that the connection has. It isn't run.
+// Whether a text means something with the tables that the connection has. It doesn't run the text.
 fn can_read<S: Alter>(conn: &mut Connection<S>, text: &str) -> Result<(), StoreFault>
     requires rest { conn.old.in_transaction ≡ false }
     ensures reads { OnlyReads (state S.Store conn.old) (state S.Store conn.new) }
@@ -39,7 +39,7 @@ fn can_read<S: Alter>(conn: &mut Connection<S>, text: &str) -> Result<(), StoreF
     }
 }
 
-// Why a text isn't taken: the store below has failed, or the text isn't one statement with these tables.
+// The fault for a text that isn't taken: the store below has failed, or the text isn't one statement with these tables.
 fn fault_of(error: Error) -> StoreFault
     ensures { IsToldOf error result }
 {
@@ -136,7 +136,7 @@ fn has_version<S: Alter>(conn: &mut Connection<S>, wanted: u64) -> Result<(), St
     is_version(conn, text, wanted)
 }
 
-/// Whether a connection holds tables of a version, with which this text too means something, and is open.
+/// Whether a connection is open and holds tables of a version, with which this text too means something.
 pub(crate) fn holds<S: Alter>(
     conn: &mut Connection<S>,
     wanted: u64,
@@ -163,15 +163,15 @@ pub(crate) fn holds<S: Alter>(
     look(conn)
 }
 
-/// Finds the store that a connection holds: the tables of version 2. The connection isn't in a transaction, and stays as it
-/// was. [`SqlStore::over`](crate::SqlStore::over) is the store that was found.
+/// Looks whether a connection holds a store: the tables of version 2. The connection isn't in a transaction, and stays
+/// as it was. [`SqlStore::over`](crate::SqlStore::over) is the store that was found.
 ///
 /// # Errors
 ///
 /// [`StoreFault::Shape`] if a table of a store or one of its columns is missing, [`StoreFault::Version`] if the tables
-/// are of another version than 2; `Memory` if memory ran out, and `Device` if the device failed. A database that the
-/// bureau made is refused only if memory ran out, the device failed or the connection was shut, if no limit of steps is
-/// set.
+/// are of another version than 2; `Memory` if memory ran out, and `Device` if the device failed. If no limit of steps
+/// is set, a database that the bureau made is refused only if memory ran out, the device failed or the connection was
+/// closed.
 pub fn find_store<S: Alter>(conn: &mut Connection<S>) -> Result<(), StoreFault>
     requires rest { conn.old.in_transaction ≡ false }
     ensures is_open { OnOk result (HasCleanDisk (state S.Store conn.new)

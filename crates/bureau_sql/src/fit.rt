@@ -1,4 +1,5 @@
-//! What a change is handed is fit to be written, by its types.
+//! Facts for proofs: the types of a change say that it is fit to be written. These functions change nothing; their
+//! contracts say it.
 ghost use Rattle.std.specs.Prelude.{IfSome, IsTrue};
 ghost use Rattle.std.specs.Fn.{FnReturnsAt};
 ghost use Rattle.std.specs.List.{AllByRecursion};
@@ -14,7 +15,7 @@ use holddata::{Hold, HoldChange};
 use mcs_reader::Id;
 use zone_lists::{Pattern, ZoneRow};
 
-// Of each item what `show` shows of one.
+// Shows by `show` a fact of each item.
 fn each<T, F: Fn(&T)>(items: &[T], show: F)
     requires { F.IsAlwaysCallable show }
     ensures { AllByRecursion (λ item. FnReturnsAt F.Fn show item tt) items.now }
@@ -24,7 +25,7 @@ fn each<T, F: Fn(&T)>(items: &[T], show: F)
     }
 }
 
-// The bytes of an id are those of one.
+// The bytes of an id are an id's.
 fn id(id: &Id)
     ensures { IsId id.now }
 {
@@ -108,7 +109,7 @@ fn hold(hold: &Hold)
     let _text = hold.categories.joined();
 }
 
-// What one statement publishes.
+// The changes of one statement.
 fn change(change: &Change)
     ensures { IsFitChange change.now }
 {
@@ -119,7 +120,7 @@ fn change(change: &Change)
     }
 }
 
-/// What a change writes.
+/// The lists that a change writes.
 #[tactic(auto, using(crate::proofs::FitFacts::client_named, crate::proofs::FitFacts::all_patterns, crate::proofs::FitFacts::of_each))]
 pub(crate) fn effect(effect: &Effect<'_>)
     requires maker { IsProper (maker_of effect.now) }

@@ -1,4 +1,4 @@
-//! What holds of the files of a store, and of the callers of a new one, as laws.
+//! Laws on the files of a store, and on the callers of a new one.
 ghost use Rattle.std.specs.Prelude.{◌≡◌, ℕ, List, Ok};
 ghost use Rattle.bureau_store.specs.Callers.{callers_of};
 ghost use Rattle.bureau_store.specs.Tables.{Tables};
@@ -13,8 +13,8 @@ ghost use Rattle.sql_tables.specs.Stored.{tables_of};
 ghost use Rattle.sql_writes.specs.Making.{AreFit};
 ghost use Rattle.bureau_sql.specs.Files.{HoldsEarlier, HoldsStore};
 
-/// An opening that finds the database which the files hold finds the bureau's own if they hold it, with the tables
-/// that they hold: of this version, or of version 1.
+/// An opening finds the database which the files hold. If that is the bureau's own, the opening finds it so, with
+/// its tables: of this version, or of version 1.
 pub fn found()
     ensures ours { (image : Image) (database : Database) (this : Tables) → IsDatabase database
         → ((trees : Trees) → HoldsDatabase image trees → database.trees ≡ trees)
@@ -25,7 +25,7 @@ pub fn found()
         → IsOfVersion1 database × (tables_of (held_by_version_1 database) ≡ this) }
 {}
 
-/// The callers of a callers file are fit to be written: no rule of the tables speaks against them.
+/// The callers of a callers file are fit to be written: no rule of the tables refuses them.
 pub fn callers_fit()
     ensures { (text : List ℕ) (rows : List CallerRow) → callers_of text ≡ Ok rows → AreFit rows }
 {}

@@ -1,15 +1,15 @@
 //! The bureau's store in a database.
 //!
-//! - [`init`], [`find_store`], [`migrate`]: a store is made in the database of a connection, found there, or brought from
-//!   version 1 to version 2. The connection is one of the kit's `sqlite`, and is lent
+//! - [`init`], [`find_store`], [`migrate`]: make a store in the database of a connection, find one there, or bring it
+//!   from version 1 to version 2. The connection is one of the kit's `sqlite`, and is borrowed
 //! - [`SqlStore`]: the store of such a connection: [`SqlStore::over`], [`SqlStore::set_callers`],
 //!   [`SqlStore::into_connection`]. It is a `Published` and a `Store`
-//! - [`law`]: what an opening finds in the files of a store, and that the callers of a callers file can be written
+//! - [`law`]: what an opening finds in the files of a store, and that callers of a callers file can be written
 //!
-//! `specs/` says how such a store is looked at (`SqlView`), how what a connection gives is told (`Told`), what a change
-//! of it leaves (`Committed`), how it is made (`Founded`), why a connection isn't taken for one (`Opening`), what
-//! is left of a file of version 1 that becomes one of version 2 (`Migrated`), and what the files hold between two
-//! runs (`Files`).
+//! `specs/` says how contracts look at such a store (`SqlView`), how it answers with what a connection gives (`Told`),
+//! and what a change of it leaves (`Committed`). It says how a store is made (`Founded`), why a connection isn't taken
+//! for one (`Opening`), how a file of version 1 becomes one of version 2 (`Migrated`), and what the files hold between
+//! two runs (`Files`).
 //!
 //! ```
 //! use bureau_sql::{SqlStore, find_store, init};

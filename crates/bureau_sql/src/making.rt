@@ -1,4 +1,4 @@
-//! A store is made on a connection.
+//! Making a store on a connection.
 ghost use Rattle.std.specs.Prelude.{◌≡◌, ◌↔◌, IfErr, IsTrue, OnErr, OnOk, false, true};
 ghost use Rattle.bureau_store.specs.Tables.{opened};
 ghost use Rattle.sqlite.specs.Held.{state};
@@ -42,8 +42,8 @@ fn found<S: Alter>(conn: &mut Connection<S>, callers: &[CallerRow]) -> Result<()
     end(tx, written)
 }
 
-/// Makes a store with these callers, and empty otherwise, in a database that is empty. All is made in one transaction: a
-/// stop leaves what was there, or the store. The connection isn't in a transaction.
+/// Makes a store with these callers, and empty otherwise, in an empty database. All is made in one transaction: a stop
+/// leaves what was there, or the store. The connection isn't in a transaction.
 ///
 /// # Errors
 ///

@@ -1,4 +1,4 @@
-//! A file of version 1 becomes one of version 2.
+//! Making a file of version 1 one of version 2.
 ghost use Rattle.std.specs.Prelude.{◌≡◌, ◌≢◌, ◌⊎◌, IfErr, IsTrue, OnErr, OnOk, Some, false};
 ghost use Rattle.bureau_store.specs.Store.{IsOfCall};
 ghost use Rattle.bureau_store.specs.declared.fault.StoreFault.TheVariants.{Device, Memory};
@@ -37,8 +37,8 @@ fn migrated<S: Alter>(conn: &mut Connection<S>) -> Result<(), Error>
     end(tx, written)
 }
 
-// Why the transaction was refused. Only an open connection is told to be out of room. If memory is too short to see
-// whether it is open, that is told.
+// Why the transaction was refused. `Size` is told only if the connection is open. If memory is too short to see that,
+// `Memory` is told.
 fn refusal<S: Alter>(conn: &mut Connection<S>, error: Error) -> StoreFault
     requires rest { conn.old.in_transaction ≡ false }
     ensures reads { OnlyReads (state S.Store conn.old) (state S.Store conn.new) }
@@ -71,7 +71,7 @@ fn refusal<S: Alter>(conn: &mut Connection<S>, error: Error) -> StoreFault
 ///
 /// [`StoreFault::Version`] if the tables are of another version than 1, [`StoreFault::Shape`] if one of them or of
 /// their columns is missing, or if there is a table of requisites under a condition already; `Memory` or `Size` if
-/// memory or room ran out. Each of these leaves the file as it was, unless the device failed besides and memory was too
+/// memory or room ran out. Each of these leaves the file as it was, unless the device failed too and memory was too
 /// short to see it. `Device` if the device failed, or if the tables are somebody else's and their own rules refuse the
 /// change: then a stop may have left either.
 #[tactic(auto, using(crate::proofs::OpenFacts::conditions_to_make))]

@@ -31,7 +31,7 @@ pub(crate) fn look<S: Alter>(conn: &mut Connection<S>) -> Result<(), StoreFault>
     }
 }
 
-// What the refusal of ROLLBACK says.
+// The meaning of the refusal of ROLLBACK.
 fn heard(error: Error) -> Result<(), StoreFault>
     ensures open { OnOk result (error ≡ InvalidQuery) }
     ensures cause { IfErr result IsOfRead }

@@ -1,4 +1,4 @@
-//! What is published, as a store in a database keeps it.
+//! The published content of a store in a database.
 ghost use Rattle.std.specs.Prelude.{◌≡◌, IfOk, map};
 ghost use Rattle.catalogue.specs.Seen.{seen_in};
 ghost use Rattle.catalogue.specs.View.{MayAsk, Tells};
@@ -13,12 +13,12 @@ use mcs_reader::Id;
 use sqlite_trees::store::Alter;
 use std::alloc::Global;
 
-// Up to so many SYSMODs are read one after the other. They may stand far from each other, and a read of many goes
-// through all that stands between the first and the last.
+// Up to so many SYSMODs are read one after the other. They may be far apart, and a read of many goes through all
+// rows between the first and the last.
 const FEW: usize = 2048;
 
 impl<S: Alter> SqlStore<S> {
-    // What is published of SYSMODs that ascend: each table is read once.
+    // The published SYSMODs of a list that ascends: each table is read once.
     fn run_seen(&mut self, alloc: Global, ids: &[Id]) -> Result<Vec<Seen>, SourceFault>
         requires run { IsRun ids.now }
         ensures asks { MayAsk (sql_content_view S.Store) Device self.old self.new result }

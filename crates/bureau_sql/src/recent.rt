@@ -1,5 +1,5 @@
-//! What a store has read since its last change. It is answered again from here, so that a client that asks often costs
-//! little.
+//! A cache of what a store has read since its last change. It answers that again, so that a client that asks often
+//! costs little.
 ghost use Rattle.std.specs.Prelude.{◌≡◌, ◌⊎◌, Contains, IfOk, IfSome, Some, map, option_map};
 ghost use Rattle.bureau_sql.specs.Recent.{HasMore, nothing_read};
 ghost use Rattle.bureau_store.specs.Caller.{IsProper};
@@ -13,7 +13,7 @@ use std::alloc::Global;
 use std::marker::Model;
 use zone_lists::ZoneRow;
 
-// How many answers of each kind are kept.
+// The number of answers of each kind that are kept.
 const MOST: usize = 16;
 
 #[derive(Drop)]
@@ -87,7 +87,7 @@ impl Model for Recent {
 }
 
 impl Recent {
-    /// Nothing was read yet. It takes no memory.
+    /// Nothing was read yet.
     pub(crate) fn nothing(alloc: Global) -> Self
         ensures { result ≡ nothing_read }
     {
@@ -98,7 +98,7 @@ impl Recent {
         }
     }
 
-    /// Forgets all. It takes no memory.
+    /// Forgets all.
     pub(crate) fn forget(&mut self)
         ensures { self.new ≡ nothing_read }
     {
@@ -153,7 +153,7 @@ impl Recent {
 }
 
 impl Recent {
-    /// Keeps whose token this is, if that was found.
+    /// Keeps whose token this is, if the read found it.
     pub(crate) fn keep_caller(
         &mut self,
         alloc: Global,
@@ -174,7 +174,7 @@ impl Recent {
         put(&mut self.tokens, TokenRead { token, caller });
     }
 
-    /// Keeps the zones of a client, if they were found.
+    /// Keeps the zones of a client, if the read found them.
     pub(crate) fn keep_zones(
         &mut self,
         alloc: Global,
@@ -194,7 +194,7 @@ impl Recent {
         put(&mut self.zones, ZonesRead { client, zones });
     }
 
-    /// Keeps the rows of a client's zone, if they were found.
+    /// Keeps the rows of a client's zone, if the read found them.
     pub(crate) fn keep_rows(
         &mut self,
         alloc: Global,
@@ -218,7 +218,7 @@ impl Recent {
     }
 }
 
-// Puts an answer to the others, if there is memory for it. If there are as many as are kept, they go first.
+// Keeps an answer, if there is memory for it. If the most are kept already, they all go first.
 fn put<A: Drop>(kept: &mut Vec<A>, answer: A)
     ensures { (one : A) → Contains kept.new.items one → Contains kept.old.items one ⊎ (one ≡ answer) }
 {

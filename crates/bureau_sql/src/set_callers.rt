@@ -1,4 +1,4 @@
-//! A store gets the callers of a callers file.
+//! Giving a store the callers of a callers file.
 ghost use Rattle.std.specs.Prelude.{◌≡◌, IfOk, false, map};
 ghost use Rattle.std.specs.List.Sorted.{IsPermutation};
 ghost use Rattle.bureau_store.specs.SetCallers.{ChangesTo, SetsCallers, names_that_change, with_callers as tables_with};
@@ -17,7 +17,7 @@ use mcs_reader::Id;
 use sqlite::{Connection, Error};
 use sqlite_trees::store::Alter;
 
-// Callers of these names leave nothing, and then these are the callers: in one transaction.
+// Deletes all that the callers of these names have, and makes these the callers, in one transaction.
 fn replace<S: Alter>(
     conn: &mut Connection<S>,
     names: &[Id],
@@ -34,7 +34,7 @@ fn replace<S: Alter>(
 }
 
 impl<S: Alter> SqlStore<S> {
-    /// The callers, ascending by name.
+    /// Reads the callers, ascending by name.
     ///
     /// # Errors
     ///
@@ -51,8 +51,8 @@ impl<S: Alter> SqlStore<S> {
         self.answered(found)
     }
 
-    // Makes these the callers, and forgets what was read before. Those before are given, with the names of all that
-    // come or go.
+    // Makes these the callers, and forgets what was read before. The callers before are given, with the names of all
+    // that come or go.
     fn put_callers(
         &mut self,
         before: &[CallerRow],
@@ -71,14 +71,14 @@ impl<S: Alter> SqlStore<S> {
         self.made(made)
     }
 
-    /// The store has these callers, and no others: those of a callers file, by [`bureau_store::callers`]. Who was a
-    /// caller before keeps all and gets this token. Who is new begins with nothing, and who is gone leaves nothing.
-    /// It tells how many came and went. All is done in one transaction: a stop leaves the tables as they were, or
-    /// those with these callers.
+    /// Gives the store these callers, and no others: those of a callers file, by [`bureau_store::callers`]. A caller
+    /// that was there before keeps all and gets this token. A new one begins with nothing, and one that is gone leaves
+    /// nothing. The answer counts those that came and went. All is done in one transaction: a stop leaves the tables as
+    /// they were, or those with these callers.
     ///
     /// # Errors
     ///
-    /// `Memory` or `Size` if memory or room ran out; `Device` if the device failed, now or before, and if two of the
+    /// `Memory` or `Size` if memory or room ran out; `Device` if the device failed, now or before, or if two of the
     /// callers have one name or one token. The tables are as they were.
     pub fn set_callers(&mut self, callers: &[CallerRow]) -> Result<CallerCounts, StoreFault>
         ensures { SetsCallers (sql_view S.Store) callers.now self.old self.new result }

@@ -24,10 +24,11 @@ use sqlite_trees::store::Alter;
 use std::alloc::Global;
 use std::marker::Model;
 
-/// All that the bureau keeps, in a database. A contract sees the connection, which is at rest, and how often it failed.
+/// All that the bureau keeps, in a database. A contract sees the connection, which is at rest, and the number of its
+/// failures.
 ///
-/// Whose token it was, which zones a client has, and the rows of a zone are kept from when they were read until the
-/// next change, the last sixteen or fewer of each: they are answered without a query.
+/// Until the next change the store keeps whose token it was, the zones of a client, and the rows of a zone, as it read
+/// them: the last sixteen or fewer of each. It answers these without a query.
 #[derive(Drop)]
 pub struct SqlStore<S: Alter> {
     pub(crate) alloc: Global,
@@ -53,8 +54,8 @@ impl<S: Alter> Model for SqlStore<S> {
 }
 
 impl<S: Alter> SqlStore<S> {
-    /// The store that a connection holds, if one was made, found or migrated there. Nothing is looked at, and no
-    /// failure is counted yet. The connection isn't in a transaction.
+    /// The store in the database of a connection, if one was made, found or migrated there before. The call looks at
+    /// nothing, and no failure is counted yet. The connection isn't in a transaction.
     pub fn over(alloc: Global, conn: Connection<S>) -> SqlStore<S>
         requires rest { conn.in_transaction ≡ false }
         ensures same { (result.conn ≡ conn) × (result.failures ≡ 0) }
@@ -74,7 +75,7 @@ impl<S: Alter> SqlStore<S> {
         }
     }
 
-    /// The connection, with the tables as they are.
+    /// Returns the connection, with the tables as they are.
     pub fn into_connection(self) -> Connection<S>
         ensures { result ≡ self.conn }
     {
@@ -113,7 +114,7 @@ impl<S: Alter> SqlStore<S> {
 }
 
 impl<S: Alter> SqlStore<S> {
-    // Refuses a call with this fault if a failure has closed the store: then this call fails too.
+    // Refuses a call with this fault if a failure has closed the store, and counts that as a failure too.
     pub(crate) fn check_open<F: Copy>(&mut self, closed: F) -> Result<(), F>
         ensures closed { IfErr result (λ fault. (fault ≡ closed) × (self.new.conn ≡ self.old.conn)
             × (self.old.failures ≤ self.new.failures)
@@ -151,7 +152,7 @@ impl<S: Alter> SqlStore<S> {
         }
     }
 
-    // Tells that a read was refused. If memory ran out, the connection may have been closed, so it is looked at.
+    // The fault of a refused read. If memory ran out, the connection may have been closed, so it is looked at.
     fn refused(&mut self, fault: ReadFault) -> SourceFault
         ensures reads { OnlyReads (shown S.Store self.old) (shown S.Store self.new) }
         ensures rises { self.old.failures ≤ self.new.failures }
@@ -168,7 +169,7 @@ impl<S: Alter> SqlStore<S> {
         }
     }
 
-    // Tells what a read of the connection found.
+    // The answer of a read, by what the connection found.
     pub(crate) fn told<A>(&mut self, found: Result<A, ReadFault>) -> Result<A, SourceFault>
         ensures { IsTold S.Store Device self.old self.new found result }
     {
@@ -178,7 +179,7 @@ impl<S: Alter> SqlStore<S> {
         }
     }
 
-    // The same, of all tables.
+    // The same, for all tables.
     pub(crate) fn answered<A>(&mut self, found: Result<A, ReadFault>) -> Result<A, StoreFault>
         ensures told { IsTold S.Store StoreDevice self.old self.new found result }
         ensures refusal { IfErr result IsOfRead }
@@ -194,7 +195,7 @@ impl<S: Alter> SqlStore<S> {
 }
 
 impl<S: Alter> SqlStore<S> {
-    // Tells that a change was refused. Only an open connection is told to be out of memory or of room.
+    // The fault of a refused change. Only of an open connection it says that memory or room ran out.
     pub(crate) fn refused_change(&mut self, error: Error) -> StoreFault
         ensures reads { OnlyReads (shown S.Store self.old) (shown S.Store self.new) }
         ensures rises { self.old.failures ≤ self.new.failures }
@@ -214,7 +215,7 @@ impl<S: Alter> SqlStore<S> {
         if seen { fault } else { StoreFault::Device }
     }
 
-    // Tells what a change of the connection came to.
+    // The answer of a change, by that of the connection.
     pub(crate) fn made(&mut self, made: Result<(), Error>) -> Result<(), StoreFault>
         ensures told { IsTold S.Store StoreDevice self.old self.new made result }
         ensures refusal { IfErr result IsOfCall }
@@ -229,7 +230,7 @@ impl<S: Alter> SqlStore<S> {
     }
 }
 
-// What a refusal of the database may be told as: want of memory, or of room. All else is a failure.
+// The fault for an error of the database: want of memory, or of room. All else is a failure.
 pub(crate) fn refusal_of(error: Error) -> StoreFault
     ensures call { IsOfCall result }
     ensures memory { error ≡ store_error OutOfMemory → result ≡ StoreMemory }

@@ -1,4 +1,4 @@
-//! All tables, as a store in a database keeps them.
+//! All tables of a store in a database.
 ghost use Rattle.std.specs.Prelude.{◌≤◌, IfErr};
 ghost use Rattle.bureau_store.specs.Caller.{IsProper};
 ghost use Rattle.bureau_store.specs.Effects.{IsAscending, effect_as, maker_of};
@@ -102,7 +102,7 @@ impl<S: Alter> Store for SqlStore<S> {
         self.answered(found)
     }
 
-    // What was read before the change is forgotten.
+    // It forgets what was read before the change.
     fn make(&mut self, number: u64, reply: &[u8], effect: &Effect<'_>) -> Result<(), StoreFault>
         requires maker { IsProper (maker_of effect.now) }
         requires number { number ≤ greatest_number }

@@ -1,4 +1,4 @@
--- What a check of a database tells.
+-- The findings of a check of a database.
 use Rattle.std.specs.Prelude.{◌≡◌, List, [], ◌∷◌, IsTrue, None, Some, Option, Result, IfOk, map, pos}
 use Rattle.std.specs.List.{AllByRecursion}
 use Rattle.sqlite.specs.Effect.{Database}
@@ -15,37 +15,37 @@ use Rattle.sql_checks.specs.declared.checking.Finding.{Finding}
 use Rattle.sql_checks.specs.declared.checking.Finding.TheVariants.{Whole, OtherTables, OtherVersion, WrongRow}
 use Rattle.sql_checks.specs.declared.table.StoreTable.{StoreTable}
 
--- A look at a connection at rest. An open one stays open, and what is told is told of the database that is committed, if
--- that has the bureau's tables.
+-- A look at a connection at rest. If it was open, it stays open. The answer is true of the committed database, if that has
+-- the bureau's tables.
 pub record Looks {Answer Fault : Type 0} (old new : State) (result : Result Answer Fault) (Fact : Database → Answer → Type 0) : Type 0 where
   pub reads : OnlyReads old new
   pub is_open : IfOk result (λ answer. HasCleanDisk new → IsTrue old.is_open → IsTrue new.is_open)
   pub told : IfOk result (λ answer. HasCleanDisk new → IsTrue old.is_open → old.committed.schema ≡ bureau → Fact old.committed answer)
 
--- the table of the version has one row, which tells 2
+-- the table of the version has one row, which has 2
 abbrev pub TellsVersion2 : Database → Type 0
 TellsVersion2 database = map (shown (2 ∷ [])) (database.trees 0) ≡ (Int (pos 2) ∷ []) ∷ []
 
--- no table has a wrong row; or the one that is told has
+-- no table has a wrong row; or the one in the answer has
 abbrev pub WrongIn : List StoreTable → Stored → Option StoreTable → Type 0
 WrongIn tables stored None = AllByRecursion (λ table. KeepTo table stored) tables
 WrongIn tables stored (Some table) = KeepTo table stored → ⊥
 
--- the database is the bureau's own, as soon as its rows have numbers that rise: every store of the toolchain keeps rows so,
--- which no clause on a connection says
+-- the database is the bureau's own, provided that its rows have numbers that rise: every store of the toolchain keeps rows
+-- so, which no clause on a connection says
 abbrev pub IsOursIfNumbered : Database → Type 0
 IsOursIfNumbered database = AreNumbered database.trees → IsOurs database
 
--- What is found is so: the database is the bureau's own, and each of its rows is one that a read takes; or its tables are
--- others; or it has the bureau's tables, and they tell another version, or a row of the table that is told isn't such a row.
+-- The finding is true: the database is the bureau's own, and a read takes each of its rows; or its tables are others; or it
+-- has the bureau's tables, and they have another version, or the table in the answer has a row of another kind.
 abbrev pub IsFound : Database → Finding → Type 0
 IsFound database Whole = IsOursIfNumbered database × AreKept (held_by database)
 IsFound database OtherTables = database.schema ≡ bureau → ⊥
 IsFound database OtherVersion = (database.schema ≡ bureau) × (TellsVersion2 database → ⊥)
 IsFound database (WrongRow table) = (database.schema ≡ bureau) × (KeepTo table (held_by database) → ⊥)
 
--- A look at a connection at rest, whatever tables it has. An open one stays open, and what is told is told of the database that
--- is committed.
+-- A look at a connection at rest, whatever tables it has. If it was open, it stays open. The answer is true of the committed
+-- database.
 pub record Finds {Answer Fault : Type 0} (old new : State) (result : Result Answer Fault) (Fact : Database → Answer → Type 0) : Type 0 where
   pub reads : OnlyReads old new
   pub is_open : IfOk result (λ answer. HasCleanDisk new → IsTrue old.is_open → IsTrue new.is_open)

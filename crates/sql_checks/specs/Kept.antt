@@ -1,5 +1,5 @@
--- What each row of a store keeps to, so that it is one that the bureau writes, and that a read takes. Each table's file in `src/table/`
--- says what stands in the columns of its rows (`keeps_to`).
+-- The rules of each row of a store: the bureau writes such rows, and a read takes them. Each table's file in `src/table/`
+-- has the rules of its columns (`keeps_to`).
 use Rattle.std.specs.Prelude.{ℕ, List}
 use Rattle.sqlite.specs.Table.{Table}
 use Rattle.sqlite_value.specs.Order.{Row}
@@ -8,7 +8,7 @@ use Rattle.sql_checks.specs.Known.{AllKeep, Known}
 use Rattle.sql_checks.specs.contracts.table.StoreTableListed.TheImpl.{known-value}
 use Rattle.sql_checks.specs.declared.table.StoreTable.{StoreTable}
 
--- what is known of a table
+-- the facts on a table
 abbrev pub known_of : StoreTable → Known
 known_of = known-value.it
 
@@ -23,7 +23,7 @@ table_name table = (table_of table).name
 abbrev pub KeepsTo : StoreTable → Row → Type 0
 KeepsTo table = (known_of table).Keeps
 
--- all rows of a table keep to it
+-- all rows of a table keep to its rules
 abbrev pub KeepTo : StoreTable → Stored → Type 0
 KeepTo table = AllKeep (known_of table)
 

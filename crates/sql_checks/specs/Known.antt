@@ -1,4 +1,4 @@
--- What stands in the columns of a row, and what is known of a table: the file of each table says what its rows keep to.
+-- The columns of a row, and the facts on a table. The file of each table has the rules of its rows.
 use Rattle.std.specs.Prelude.{◌≡◌, ℕ, Bool, true, false, List, IsSome, Some}
 use Rattle.std.specs.List.{AllByRecursion}
 use Rattle.bureau_store.specs.Tables.{PatternsAscend}
@@ -40,10 +40,10 @@ pub record Known : Type 1 where
   pub table : Table
   -- its rows
   pub rows : Stored → List Row
-  -- what each of them keeps to
+  -- the rules of each of them
   pub Keeps : Row → Type 0
 
--- a table with these rows, which keep to such a thing
+-- a table with these rows and these rules
 abbrev pub known_by : Table → (Stored → List Row) → (Row → Type 0) → Known
 known_by table rows keeps_to = record { table = table; rows = rows; Keeps = keeps_to }
 
@@ -55,6 +55,6 @@ names_of known = columns_of known.table
 abbrev pub query_of : Known → Query
 query_of known = all_of known.table
 
--- all its rows keep to it
+-- all its rows keep to its rules
 abbrev pub AllKeep : Known → Stored → Type 0
 AllKeep known stored = AllByRecursion known.Keeps (known.rows stored)

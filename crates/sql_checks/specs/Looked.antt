@@ -1,4 +1,4 @@
--- No part of what is promised: private contracts cite it. How the rows of one table are looked through.
+-- No part of what is promised: private contracts cite it. The check of one table's rows.
 use Rattle.std.specs.Prelude.{◌≡◌, ◌↔◌, Bool, IfErr, IsTrue, Result}
 use Rattle.sqlite.specs.State.{HasCleanDisk, State}
 use Rattle.sql_reads.specs.declared.fault.ReadFault.{ReadFault}
@@ -8,7 +8,7 @@ use Rattle.sql_checks.specs.Checked.{Looks}
 use Rattle.sql_checks.specs.Known.{AllKeep, Known}
 use Rattle.sql_checks.specs.Refused.{IsCausedBy, IsUnshown, of_known}
 
--- It is told whether all rows of the table keep to it; or its rows aren't shown.
+-- The answer says whether all rows of the table keep to its rules; or its rows aren't shown.
 pub record IsLooked (known : Known) (old new : State) (result : Result Bool ReadFault) : Type 0 where
   pub looks : Looks old new result (λ database keeps. IsTrue keeps ↔ AllKeep known (held_by database))
   pub cause : IfErr result (λ fault. fault ≡ Device → HasCleanDisk new → IsCausedBy (IsUnshown (of_known known)) old new)

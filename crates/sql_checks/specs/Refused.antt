@@ -1,4 +1,4 @@
--- Why a look at a database is refused, if that isn't for want of memory.
+-- Why a look at a database is refused, other than for want of memory.
 use Rattle.std.specs.Prelude.{◌≡◌, ◌≤◌, ◌⊎◌, ℕ, nat_lt, List, [], ◌∷◌, Option, Some, None, codes, if◌then◌else◌, length, map, option_and_then, option_map, sum_by}
 use Rattle.std.specs.List.{Contains}
 use Rattle.bureau_store.specs.Tables.{LastChange, NamesAscend}
@@ -21,7 +21,7 @@ use Rattle.sql_checks.specs.Kept.{known_of}
 use Rattle.sql_checks.specs.Known.{Known, names_of, query_of}
 use Rattle.sql_checks.specs.declared.table.StoreTable.{StoreTable}
 
--- The device has failed, or the connection was shut; or there is this cause in what is committed, under the limit of steps.
+-- The device has failed, or the connection was closed; or the committed database has this cause, under the limit of steps.
 abbrev pub IsCausedBy : (Option ℕ → Database → Type 0) → State → State → Type 0
 IsCausedBy Cause old new = HasFailed old new ⊎ Cause old.step_limit old.committed
 
@@ -48,18 +48,18 @@ of_rows table = of_known (known_of table)
 abbrev pub of_callers : Question
 of_callers = record { query = read.callers; names = codes "name" ∷ codes "token" ∷ []; params = [] }
 
--- what a query counts
+-- the count of a query
 abbrev pub of_count : Query → Question
 of_count query = record { query = query; names = codes "count(*)" ∷ []; params = [] }
 
--- how many SYSMODs are catalogued, and how many holds there are
+-- the number of SYSMODs that are catalogued, and that of the holds
 abbrev pub of_sysmods : Question
 of_sysmods = of_count read.sysmod_count
 
 abbrev pub of_holds : Question
 of_holds = of_count read.hold_count
 
--- the last change of the caller of this name, and its zones, each with how many rows it has
+-- the last change of the caller of this name, and its zones, each with the number of its rows
 abbrev pub of_last : List ℕ → Question
 of_last name = record { query = read.last_change; names = codes "number" ∷ codes "body" ∷ []; params = Text (text_of name) ∷ [] }
 
@@ -71,7 +71,7 @@ IsAskedBy what text = Reads bureau text what.query what.names (length what.param
 
 -- ---- what the rows of an answer say
 
--- a count, if it isn't as much as the database can count: that may stand for more
+-- a count, unless it is the greatest number that the database can count: there may be more
 abbrev pub counted : ℕ → Option ℕ
 counted count = if nat_lt count read.most_rows then Some count else None
 
@@ -93,7 +93,7 @@ SaysCount rows count = count_said rows ≡ Some count
 abbrev pub SaysLast : List Row → ℕ → Type 0
 SaysLast rows number = number_said rows ≡ Some number
 
--- how many zones these are, and how many rows all of them have: no zone comes twice, and a number of 64 bits counts the rows
+-- the number of zones, and that of all their rows: no zone comes twice, and a number of 64 bits counts the rows
 pub record IsCountOf (zones : List (List ℕ × ℕ)) (counts : ℕ × ℕ) : Type 0 where
   pub ascend : NamesAscend (map (λ zone. zone.0) zones)
   pub many : counts.0 ≡ length zones
@@ -110,7 +110,7 @@ SaysCallers rows callers = (map Some callers ≡ map caller_found rows) × Names
 
 -- ---- why there is no answer
 
--- A text that asks it means something here, and shows nothing: the limit of steps ends it.
+-- A text that asks it means something here, and still shows nothing: the limit of steps ends it.
 abbrev pub IsWithheld : Question → Option ℕ → Database → Type 0
 IsWithheld what limit database = (text : List ℕ) × IsAskedBy what text × Withholds limit text what.params database
 
@@ -119,7 +119,7 @@ abbrev pub IsUnshown : Question → Option ℕ → Database → Type 0
 IsUnshown what limit database =
     (text : List ℕ) × IsAskedBy what text × (MeansNothing text database ⊎ Withholds limit text what.params database)
 
--- A text that asks it shows rows here that say no such thing.
+-- A text that asks it shows rows here without such an answer.
 abbrev pub SaysNothing : {A : Type 0} → Question → (List Row → A → Type 0) → Database → Type 0
 SaysNothing {A} what Says database =
     (text : List ℕ) × IsAskedBy what text × (rows : List Row) × Shows text what.params database rows × ((a : A) → Says rows a → ⊥)
@@ -132,28 +132,28 @@ abbrev pub IsUnread : Option ℕ → Database → Type 0
 IsUnread limit database =
     (database.schema ≡ bureau) × (IsWithheld of_version limit database ⊎ ((table : StoreTable) × IsWithheld (of_rows table) limit database))
 
--- It isn't said how many SYSMODs or holds there are.
+-- There is no answer to the number of SYSMODs or of holds.
 abbrev pub AreUncounted : Option ℕ → Database → Type 0
 AreUncounted limit database = IsUnsaid of_sysmods SaysCount limit database ⊎ IsUnsaid of_holds SaysCount limit database
 
--- It isn't said how much the caller of this name has.
+-- There is no answer to how much the caller of this name has.
 abbrev pub IsUncounted : List ℕ → Option ℕ → Database → Type 0
 IsUncounted name limit database = IsUnsaid (of_last name) SaysLast limit database ⊎ IsUnsaid (of_zones name) SaysZones limit database
 
--- It isn't said of one of these callers.
+-- There is none for one of these callers.
 abbrev pub AreUntallied : List CallerRow → Option ℕ → Database → Type 0
 AreUntallied callers limit database = (caller : CallerRow) × Contains callers caller × IsUncounted caller.name limit database
 
--- A store isn't tallied: one of these isn't said.
+-- A store can't be tallied: one of these answers is missing.
 abbrev pub IsUntallied : List CallerRow → Option ℕ → Database → Type 0
 IsUntallied callers limit database = AreUncounted limit database ⊎ AreUntallied callers limit database
 
 -- ---- No part of what is promised: private contracts cite it. What is asked of a database whose tables may be others.
 
--- the rows of some table
+-- the rows of some table aren't shown
 abbrev pub AreUnseen : Option ℕ → Database → Type 0
 AreUnseen limit database = (table : StoreTable) × IsUnshown (of_rows table) limit database
 
--- or the version
+-- or the version isn't
 abbrev pub IsUnseen : Option ℕ → Database → Type 0
 IsUnseen limit database = IsUnshown of_version limit database ⊎ AreUnseen limit database

@@ -1,4 +1,4 @@
--- No part of what is promised: private contracts cite it. The tables and the indexes that are looked for.
+-- No part of what is promised: private contracts cite it. The tables and the indexes that a check looks for.
 use Rattle.std.specs.Prelude.{List, [], ◌∷◌, map, Option, None, Some, false, pos}
 use Rattle.sqlite.specs.Collation.TheVariants.{Binary}
 use Rattle.sqlite.specs.Term.{Term, lit, col, op2}

@@ -1,4 +1,4 @@
--- How much a store has, and the text that tells it.
+-- How much a store has, and the text of that.
 use Rattle.std.specs.Prelude.{◌≡◌, ◌++◌, ℕ, List, [], ◌∷◌, Some, codes, decimal, length, map, sum_by}
 use Rattle.columns.specs.Columns.{text_of as text_in}
 use Rattle.mcs_reader.specs.Id.{text_of}
@@ -12,7 +12,7 @@ use Rattle.sql_checks.specs.declared.tallies.CallerLine.{CallerLine}
 use Rattle.sql_checks.specs.declared.tallies.CallerTally.{CallerTally}
 use Rattle.sql_checks.specs.declared.tallies.StoreTally.{StoreTally}
 
--- the zones under a name, all their rows, and the number of the last change
+-- the number of zones under a name, that of all their rows, and the number of the last change
 abbrev pub tally_of : Tables → List ℕ → CallerTally
 tally_of tables name = record {
   zones = length (tables.zones name);
@@ -24,7 +24,7 @@ tally_of tables name = record {
 abbrev pub line_of : Tables → CallerRow → CallerLine
 line_of tables caller = record { name = caller.name; has = tally_of tables caller.name }
 
--- how many SYSMODs and holds there are, and how much each of these callers has
+-- the numbers of SYSMODs and of holds, and how much each of these callers has
 pub record IsTallyOf (tables : Tables) (callers : List CallerRow) (tally : StoreTally) : Type 0 where
   pub sysmods : tally.sysmods ≡ length tables.content.sysmods
   pub holds : tally.holds ≡ length tables.content.holds
@@ -36,7 +36,7 @@ HasTallied callers database lines = IsOurs database → lines ≡ map (line_of (
 
 -- ---- the text
 
--- a caller, how many zones it has, how many rows they have, and the number of its last change
+-- a caller, the number of its zones, that of their rows, and the number of its last change
 abbrev pub tally_columns : List (ℕ × List ℕ)
 tally_columns = (1, codes "CALLER") ∷ (10, codes "ZONES") ∷ (17, codes "ROWS") ∷ (29, codes "LAST") ∷ []
 

@@ -1,4 +1,4 @@
-//! What a store is asked for a tally.
+//! The reads for a tally.
 ghost use Rattle.std.specs.Prelude.{◌≡◌, [], ℕ, false, length, map, sum_by, IfErr, IfOk};
 ghost use Rattle.std.specs.List.Sorted.{IsPermutation};
 ghost use Rattle.bureau_store.specs.Caller.{caller_named};
@@ -22,12 +22,12 @@ use sql_texts::read;
 use sqlite::{Alter, Connection};
 use std::alloc::Global;
 
-/// All callers, ascending by name, each with its token.
+/// Reads all callers, ascending by name, each with its token.
 ///
 /// # Errors
 ///
-/// Those of [`ReadFault`]. A failed device is told only if the device failed, the connection was shut, or the database
-/// shows no rows that say what is asked.
+/// Those of [`ReadFault`]. `Device` comes only if the device failed, the connection was closed, or the database has no
+/// rows that answer.
 pub fn every_caller<S: Alter>(
     alloc: Global,
     conn: &mut Connection<S>,
@@ -46,12 +46,12 @@ pub fn every_caller<S: Alter>(
     }
 }
 
-/// How many SYSMODs are catalogued and how many holds there are. It goes through all of them.
+/// Counts the SYSMODs that are catalogued and the holds. It goes through all of them.
 ///
 /// # Errors
 ///
-/// Those of [`ReadFault`]. A failed device is told only if the device failed, the connection was shut, or the database
-/// shows no rows that say what is asked.
+/// Those of [`ReadFault`]. `Device` comes only if the device failed, the connection was closed, or the database has no
+/// rows that answer.
 pub(crate) fn counts<S: Alter>(conn: &mut Connection<S>) -> Result<(u64, u64), ReadFault>
     requires rest { conn.old.in_transaction ≡ false }
     ensures mode { conn.new.in_transaction ≡ false }
@@ -68,7 +68,7 @@ pub(crate) fn counts<S: Alter>(conn: &mut Connection<S>) -> Result<(u64, u64), R
     }
 }
 
-// The count that a text tells.
+// The count that a text answers.
 fn count<S: Alter>(conn: &mut Connection<S>, text: &str) -> Result<u64, ReadFault>
     requires rest { conn.old.in_transaction ≡ false }
     requires read { IsRead text.now }
@@ -87,12 +87,12 @@ fn count<S: Alter>(conn: &mut Connection<S>, text: &str) -> Result<u64, ReadFaul
     }
 }
 
-/// How much the caller of this name has. It goes through all rows of its zones.
+/// Counts what the caller of this name has. It goes through all rows of its zones.
 ///
 /// # Errors
 ///
-/// Those of [`ReadFault`]. A failed device is told only if the device failed, the connection was shut, or the database
-/// shows no rows that say what is asked.
+/// Those of [`ReadFault`]. `Device` comes only if the device failed, the connection was closed, or the database has no
+/// rows that answer.
 pub(crate) fn caller_tally<S: Alter>(
     alloc: Global,
     conn: &mut Connection<S>,
@@ -135,7 +135,7 @@ fn last<S: Alter>(alloc: Global, conn: &mut Connection<S>, name: &Id) -> Result<
     }
 }
 
-// How many zones a caller has, and how many rows all of them have.
+// The number of a caller's zones, and that of all their rows.
 fn zones<S: Alter>(
     alloc: Global,
     conn: &mut Connection<S>,

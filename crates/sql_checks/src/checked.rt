@@ -1,4 +1,4 @@
-//! A table of a store as a check knows it: how it is made, and what its rows keep to.
+//! A table of a store as a check knows it: how the bureau makes it, and the rules of its rows.
 ghost use Rattle.std.specs.Prelude.{◌≡◌, ◌↔◌, IfOk, IsTrue};
 ghost use Rattle.sqlite_value.specs.Order.{Row as Values};
 ghost use Rattle.sql_checks.specs.Known.{Known};
@@ -14,23 +14,23 @@ use std::alloc::Global;
 
 /// A table of a store, apart from that of the version.
 pub(crate) trait Checked: AllColumns {
-    /// What each of its rows keeps to.
+    /// The rules of each of its rows.
     ghost keeps_to: { Values → Type 0 };
 
     /// How the bureau makes it.
     fn shape() -> TableShape
         ensures { table_of_shape result ≡ Self.table };
 
-    /// Whether a row is one that the bureau writes and that a read takes.
+    /// Whether the bureau writes such a row, and a read takes it.
     fn keeps(alloc: Global, row: &Row) -> Result<bool, NoMemory>
         ensures { IfOk result (λ keeps. IsTrue keeps ↔ keeps_to row.now) };
 
-    /// A row keeps to the table just if its columns do, as the text shows them.
+    /// A row keeps to the rules exactly if its columns do, as the text shows them.
     ghost as_shown: { (row : Values) → keeps_to (show (indices_of Self.table) row) ↔ keeps_to row };
 }
 
 /// One of the tables of a store.
 pub(crate) trait Listed {
-    /// What is known of it.
+    /// The facts on it.
     ghost known: { Self → Known };
 }

@@ -14,16 +14,16 @@ use sql_reads::ReadFault;
 use sqlite::{Alter, Connection};
 use std::alloc::Global;
 
-/// What is found of a database.
+/// The finding on a database.
 #[derive(Clone, Copy, Debug, PartialEq, Eq)]
 pub enum Finding {
-    /// It has the tables of version 2, and each row is one that the bureau writes.
+    /// It has the tables of version 2, and the bureau writes each of its rows.
     Whole,
-    /// Its tables or its indexes are others, or are made otherwise.
+    /// Its tables or its indexes are others, or are made in another way.
     OtherTables,
-    /// Its tables tell another version, or none.
+    /// Its tables have another version, or none.
     OtherVersion,
-    /// A row of this table is none that the bureau writes.
+    /// A row of this table isn't one that the bureau writes.
     WrongRow(StoreTable),
 }
 
@@ -38,7 +38,7 @@ fn has_tables<S: Alter>(alloc: Global, conn: &Connection<S>) -> Result<bool, Rea
     Ok(is_store_schema(alloc, conn.schema())?)
 }
 
-/// Looks a database through: its tables, their version, and each row of them.
+/// Looks through a database: its tables, their version, and each row of them.
 ///
 /// # Errors
 ///

@@ -1,11 +1,11 @@
-//! What a connection keeps to by itself, whatever its rows are.
+//! A law of every connection, whatever its rows are.
 ghost use Rattle.std.specs.Prelude.{◌≡◌, IsTrue, false};
 ghost use Rattle.sqlite.specs.Effect.{IsDatabase};
 ghost use Rattle.sqlite.specs.Held.{state};
 
 use sqlite::{Alter, Connection};
 
-/// What is committed obeys the rules of its own tables.
+/// The committed rows obey the rules of their own tables.
 pub fn sound<S: Alter>(conn: &Connection<S>)
     requires { conn.now.in_transaction ≡ false }
     ensures { IsTrue (state S.Store conn.now).is_open → IsDatabase (state S.Store conn.now).committed }

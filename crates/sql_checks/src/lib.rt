@@ -1,16 +1,16 @@
-//! Whether a database holds what the bureau writes.
+//! Checks whether a database holds what the bureau writes.
 //!
-//! - [`check`]: looks a connection's database through; [`Finding`]: what is found
+//! - [`check`]: looks through a connection's database; [`Finding`]: what it finds
 //! - [`every_caller`]: the callers of a store
 //! - [`store_tally`]: how much a store and some callers have; [`StoreTally`], [`CallerLine`], [`CallerTally`];
-//!   [`tally_text`]: the text that tells it
-//! - [`StoreTable`]: a table whose rows are looked through
+//!   [`tally_text`]: the same as text
+//! - [`StoreTable`]: a table whose rows are checked
 //! - [`is_store_schema`]: whether tables and indexes are those of version 2, made as the bureau makes them
-//! - [`law`]: what a connection keeps to by itself
+//! - [`law`]: a law of every connection
 //!
-//! `specs/` says what a row keeps to (`Kept`), what a check tells (`Checked`), how much a store has (`Tally`), and why
-//! each of these is refused (`Refused`). If a database is found to be whole, it is the bureau's own (`IsOurs` of
-//! `sql_tables`), which is what all that is promised of a store begins with.
+//! `specs/` has the rules of a row (`Kept`), the findings of a check (`Checked`), the amounts of a store (`Tally`),
+//! and why each of these is refused (`Refused`). A database that is found whole is the bureau's own (`IsOurs` of
+//! `sql_tables`), and with that begins all that is promised of a store.
 #![tactic(auto)]
 
 mod asked;

@@ -1,4 +1,4 @@
-//! How the rows of a table are looked through.
+//! Checking the rows of a table.
 ghost use Rattle.std.specs.Prelude.{◌≡◌, ◌↔◌, false, IfErr, IfOk, IsTrue};
 ghost use Rattle.std.specs.List.{AllByRecursion};
 ghost use Rattle.sqlite.specs.Held.{state};
@@ -10,7 +10,7 @@ use sql_reads::{ReadFault, rows_of};
 use sqlite::{Alter, Connection, Row};
 use std::alloc::Global;
 
-/// Whether all rows of a table are such that the bureau writes them.
+/// Whether the bureau writes such rows as all rows of a table are.
 ///
 /// # Errors
 ///

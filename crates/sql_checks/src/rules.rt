@@ -1,4 +1,4 @@
-//! Whether a table has the rule that is looked for.
+//! Whether a table has the rule that it should have.
 ghost use Rattle.std.specs.Prelude.{◌≡◌, ◌↔◌, [], IfOk, IsTrue};
 ghost use Rattle.sqlite.specs.Collation.TheVariants.{Binary};
 ghost use Rattle.sqlite.specs.Term.{lit, col, op2};
@@ -35,7 +35,7 @@ fn is_number(nodes: &[Node<'_>], depth: usize, at: usize, number: i64) -> bool
     }
 }
 
-// Whether the term compares so a column with a number.
+// Whether the term is this comparison of a column with a number.
 fn is_compared(
     nodes: &[Node<'_>],
     depth: usize,
@@ -80,7 +80,7 @@ fn is_up_to(nodes: &[Node<'_>], depth: usize, at: usize, place: usize, high: i64
     }
 }
 
-// Whether the terms are the one rule, or none if there is none.
+// Whether the terms are the one rule; none if there is none.
 fn are_rules(nodes: &[Node<'_>], roots: &[usize], rule: Option<Rule>) -> bool
     ensures { IsTrue result ↔ (terms_of nodes.now roots.now ≡ terms_of_rule rule) }
 {
@@ -91,7 +91,7 @@ fn are_rules(nodes: &[Node<'_>], roots: &[usize], rule: Option<Rule>) -> bool
     }
 }
 
-/// Whether the terms are this one rule, or none if there is none.
+/// Whether the terms are this one rule; none if there is none.
 pub(crate) fn has_rule(alloc: Global, terms: &Terms, rule: Option<Rule>) -> Result<bool, AllocError>
     ensures { IfOk result (λ is. IsTrue is ↔ (terms.now ≡ terms_of_rule rule)) }
 {

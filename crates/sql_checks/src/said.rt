@@ -1,4 +1,4 @@
-//! What the rows say that answer a question about a store.
+//! The answers in the rows that a store was asked for.
 ghost use Rattle.std.specs.Prelude.{◌≡◌, ◌<◌, ℕ, List, None, sum_by, IfOk, IfSome, IsErrOf};
 ghost use Rattle.bureau_store.specs.declared.caller.CallerRow.{CallerRow as SomeCallerRow};
 ghost use Rattle.sql_checks.specs.Refused as refused;
@@ -11,7 +11,7 @@ use sql_tables::{NoMemory, change_in, count_in};
 use sqlite::Row;
 use std::alloc::Global;
 
-// As much as the database can count.
+// The greatest number that the database can count.
 const MOST_ROWS: u64 = 9_223_372_036_854_775_807;
 
 /// The count in the one row.
@@ -31,7 +31,7 @@ fn one_count(rows: &[Row]) -> Option<u64>
     }
 }
 
-// A count, unless it is as much as the database can count: that may stand for more.
+// A count, unless it is the greatest number that the database can count: there may be more.
 fn counted(count: u64) -> Option<u64>
     ensures { result ≡ refused.counted count }
 {
@@ -66,7 +66,7 @@ fn number(alloc: Global, rows: &[Row]) -> Result<Option<u64>, NoMemory>
     }
 }
 
-/// How many zones there are, and how many rows all of them have.
+/// The number of zones, and that of all their rows.
 pub(crate) fn zones(alloc: Global, rows: &[Row]) -> Result<(u64, u64), ReadFault>
     ensures said { IfOk result (SaysZones rows.now) }
     ensures unsaid { IsErrOf result ReadFault.Device → (counts : ℕ × ℕ) → SaysZones rows.now counts → ⊥ }
@@ -77,7 +77,7 @@ pub(crate) fn zones(alloc: Global, rows: &[Row]) -> Result<(u64, u64), ReadFault
     }
 }
 
-// The same, of zones with how many rows each has.
+// The same, of zones with the number of rows of each.
 fn both_counts(zones: &[(Id, u64)]) -> Option<(u64, u64)>
     ensures said { IfSome result (IsCountOf zones.now) }
     ensures unsaid { result ≡ None → (counts : ℕ × ℕ) → IsCountOf zones.now counts → ⊥ }
@@ -91,7 +91,7 @@ fn both_counts(zones: &[(Id, u64)]) -> Option<(u64, u64)>
     }
 }
 
-// How many rows all zones have, unless that is beyond the greatest number.
+// The number of rows of all zones, unless that is beyond the greatest number.
 fn total(zones: &[(Id, u64)]) -> Option<u64>
     ensures said { IfSome result (λ total. total ≡ sum_by (λ zone. zone.1) zones.now) }
     ensures unsaid { result ≡ None → 18446744073709551615 < sum_by (λ zone. zone.1) zones.now }

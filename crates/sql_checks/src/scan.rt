@@ -1,4 +1,4 @@
-//! The rows of a table are looked through.
+//! Checking the rows of all tables.
 ghost use Rattle.std.specs.Prelude.{◌≡◌, ◌↔◌, IfErr, IsTrue, Some, false};
 ghost use Rattle.sqlite.specs.Held.{state};
 ghost use Rattle.sqlite.specs.State.{HasCleanDisk};
@@ -14,7 +14,7 @@ use sql_texts::read;
 use sqlite::{Alter, Connection, Row};
 use std::alloc::Global;
 
-// Whether the one row of the version tells 2.
+// Whether the one row of the version has 2.
 pub(crate) fn is_version_2<S: Alter>(conn: &mut Connection<S>) -> Result<bool, ReadFault>
     requires rest { conn.old.in_transaction ≡ false }
     ensures mode { conn.new.in_transaction ≡ false }

@@ -13,7 +13,7 @@ use sqlite_value::keys::{Collation, Order};
 use sqlite_value::value::Value;
 use std::alloc::{AllocError, Global};
 
-// Whether the column takes values of this kind alone, and NULL or not.
+// Whether the column takes values of this kind only, and NULL or not.
 fn is_column(column: &Column, name: &str, kind: Kind, not_null: bool) -> bool
     ensures { IsTrue result
         ↔ (column.now ≡ record (column_of kind name.now) { not_null = not_null }) }

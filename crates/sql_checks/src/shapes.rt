@@ -1,9 +1,9 @@
-//! What a table and an index are made of.
+//! The parts of a table and of an index.
 
 use sqlite_schema::schema::Kind;
 use sqlite_sql::ops::CompareOp;
 
-/// A rule of a table on the number in one of its columns, which have places from 1 on.
+/// A rule of a table on the number in one of its columns, which are counted from 1.
 #[derive(Clone, Copy)]
 pub(crate) enum Rule {
     /// It compares so with a number.
@@ -12,7 +12,7 @@ pub(crate) enum Rule {
     UpTo(usize, i64),
 }
 
-/// A table whose columns take values of their kind alone.
+/// A table whose columns take values of their kind only.
 #[derive(Clone, Copy)]
 pub(crate) struct TableShape {
     pub(crate) name: &'static str,

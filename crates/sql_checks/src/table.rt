@@ -1,4 +1,4 @@
-//! The tables of a store. How each is made, and what its rows keep to, stands in a file of its own.
+//! The tables of a store. Each has a file of its own, which says how it is made and which rules its rows have.
 ghost use Rattle.std.specs.Prelude.{◌≡◌, map};
 ghost use Rattle.sql_checks.specs.Shapes.{index_of_shape, table_of_shape};
 ghost use Rattle.sql_texts.specs.Schema as made;
@@ -33,9 +33,9 @@ pub enum StoreTable {
     LastChange,
     /// The records of the catalogue.
     Sysmod,
-    /// What each record supersedes.
+    /// The ids that each record supersedes.
     SysmodSup,
-    /// What each record requires if a function is installed.
+    /// The ids that each record requires if a function is installed.
     SysmodCond,
     /// The holds.
     HoldRow,
@@ -43,11 +43,11 @@ pub enum StoreTable {
     ZoneHead,
     /// The SYSMODs of the zones.
     ZoneRow,
-    /// What each client has received.
+    /// The SYSMODs that each client has received.
     ReceivedList,
 }
 
-// All of them, in the order in which they are declared, and looked through.
+// All of them, in the order in which they are declared and checked.
 const TABLES: [StoreTable; 9] = [
     StoreTable::Caller,
     StoreTable::LastChange,
@@ -112,7 +112,7 @@ impl StoreTable {
         }
     }
 
-    /// Whether all rows of the table are such that the bureau writes them.
+    /// Whether the bureau writes such rows as all rows of the table are.
     ///
     /// # Errors
     ///
@@ -158,7 +158,7 @@ pub(crate) fn tables() -> [TableShape; 10]
     ]
 }
 
-/// The indexes of all keys, and that by which superseders are found.
+/// The indexes of all keys, and the one by which superseders are found.
 pub(crate) fn indexes() -> [IndexShape; 11]
     ensures { map index_of_shape result ≡ made.indexes }
 {

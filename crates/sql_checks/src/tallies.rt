@@ -18,9 +18,9 @@ use std::alloc::Global;
 /// How much a caller has.
 #[derive(Clone, Copy, Debug, PartialEq, Eq)]
 pub struct CallerTally {
-    /// How many zones.
+    /// The number of its zones.
     pub zones: u64,
-    /// How many rows all of them have.
+    /// The number of all their rows.
     pub rows: u64,
     /// The number of the last change, 0 before the first.
     pub last: u64,
@@ -36,20 +36,20 @@ pub struct CallerLine {
 /// How much a store has.
 #[derive(Debug, Drop)]
 pub struct StoreTally {
-    /// How many SYSMODs are catalogued.
+    /// The number of SYSMODs that are catalogued.
     pub sysmods: u64,
-    /// How many holds there are.
+    /// The number of holds.
     pub holds: u64,
-    /// How much each of some callers has.
+    /// The amounts of some callers.
     pub callers: Vec<CallerLine>,
 }
 
-/// How much a store has, and how much each of these callers has in it.
+/// Counts what a store has, and what each of these callers has in it.
 ///
 /// # Errors
 ///
-/// Those of [`ReadFault`]. A failed device is told only if the device failed, the connection was shut, or the
-/// database shows no rows that say what is asked.
+/// Those of [`ReadFault`]. `Device` comes only if the device failed, the connection was closed, or the
+/// database has no rows that answer.
 pub fn store_tally<S: Alter>(
     alloc: Global,
     conn: &mut Connection<S>,

@@ -1,4 +1,4 @@
-//! The text that tells how much a store has.
+//! The text of how much a store has.
 ghost use Rattle.std.specs.Prelude.{◌≡◌, ◌++◌, ◌∷◌, [], ℕ, List, Option, decimal, length, IfOk, OnOk};
 ghost use Rattle.columns.specs.Table.{table_with};
 ghost use Rattle.sql_checks.specs.Tally as spec;
@@ -9,7 +9,7 @@ use itoa::Buffer;
 use sql_tables::NoMemory;
 use std::alloc::Global;
 
-// Where each column begins, and its name.
+// The column at which each field begins, and its name.
 const COLUMNS: [Column; 4] = [
     Column {
         start: 1,
@@ -29,8 +29,8 @@ const COLUMNS: [Column; 4] = [
     },
 ];
 
-/// How much a store has, in columns: a title with the version and how many callers, SYSMODs and holds there are,
-/// and a row for each caller with its zones, the rows of all of them, and the number of its last change.
+/// Prints how much a store has, in columns: a title with the version and the numbers of callers, SYSMODs and
+/// holds, and a row for each caller with its zones, the rows of all of them, and the number of its last change.
 ///
 /// # Errors
 ///

@@ -1,4 +1,4 @@
-//! Whether what stands in a column of a row is a value that the bureau writes.
+//! Whether the value in a column of a row is one that the bureau writes.
 ghost use Rattle.std.specs.Prelude.{◌≡◌, ◌↔◌, IfOk, IsSome, IsTrue};
 ghost use Rattle.sqlite_value.specs.Order as order;
 ghost use Rattle.sqlite_value.specs.Value.{owned};
@@ -19,21 +19,21 @@ pub(crate) fn column(row: &Row, at: usize) -> ValueRef<'_>
     row.get_ref(at).unwrap_or(ValueRef::Null)
 }
 
-/// Whether an id stands in a column.
+/// Whether a column has an id.
 pub(crate) fn is_id(row: &Row, at: usize) -> bool
     ensures { IsTrue result ↔ IsIdColumn row.now at }
 {
     id_in(column(row, at)).is_some()
 }
 
-/// Whether a text stands in a column.
+/// Whether a column has a text.
 pub(crate) fn is_text(row: &Row, at: usize) -> bool
     ensures { result ≡ is_any_text (order.column row.now at) }
 {
     matches!(column(row, at), ValueRef::Text(_))
 }
 
-/// Whether a number from 0 on stands in a column.
+/// Whether a column has a number of at least 0.
 pub(crate) fn is_number(row: &Row, at: usize) -> bool
     ensures { IsTrue result ↔ IsSome (value.number_in (order.column row.now at)) }
 {
@@ -43,14 +43,14 @@ pub(crate) fn is_number(row: &Row, at: usize) -> bool
     }
 }
 
-/// Whether bytes stand in a column.
+/// Whether a column has bytes.
 pub(crate) fn is_blob(row: &Row, at: usize) -> bool
     ensures { IsTrue result ↔ IsSome (value.bytes_in (order.column row.now at)) }
 {
     matches!(column(row, at), ValueRef::Blob(_))
 }
 
-/// Whether ids in ascending order, each once, stand in a column.
+/// Whether a column has ids in ascending order, each once.
 pub(crate) fn are_ids(alloc: Global, row: &Row, at: usize) -> Result<bool, NoMemory>
     ensures { IfOk result (λ are. IsTrue are ↔ AreIdsColumn row.now at) }
 {
@@ -60,7 +60,7 @@ pub(crate) fn are_ids(alloc: Global, row: &Row, at: usize) -> Result<bool, NoMem
     Ok(Ids::from_ascending(ids).is_some())
 }
 
-/// Whether patterns in ascending order, each once, stand in a column.
+/// Whether a column has patterns in ascending order, each once.
 pub(crate) fn are_patterns(alloc: Global, row: &Row, at: usize) -> Result<bool, NoMemory>
     ensures { IfOk result (λ are. IsTrue are ↔ ArePatternsColumn row.now at) }
 {

@@ -1,4 +1,4 @@
--- What a call says of the connection that a transaction lends, as it is before the call and after it.
+-- The contract of a call over the connection that a transaction lends, as it is before the call and after it.
 use Rattle.std.specs.Prelude.{◌≡◌, ℕ, Result}
 use Rattle.sqlite.specs.Effect.{Database}
 use Rattle.sqlite.specs.Held.{Held, state}

@@ -1,4 +1,4 @@
--- No part of what is promised: private contracts cite it. Whether rows stand in a table, which is asked of it.
+-- No part of what is promised: private contracts cite it. Whether a table has rows, as a read finds it.
 use Rattle.std.specs.Prelude.{◌≡◌, ℕ, Bool, false, IsTrue, List, [], ◌∷◌, Result, pos}
 use Rattle.std.specs.List.{list_any}
 use Rattle.sqlite.specs.Held.{Held, state}
@@ -17,11 +17,11 @@ use Rattle.sql_tables.specs.Writing.{Changes, IsKnown}
 use Rattle.sql_writes.specs.Excused.{Takes}
 use Rattle.sql_writes.specs.Records.{AreFree, IsBare}
 
--- of one row of a tree the rowid, if it has any
+-- the rowid of one row of a tree, if it has any
 abbrev pub first_in : ℕ → Query
 first_in tree = record (from_table tree [] (0 ∷ []) []) { limit = lit (Int (pos 1)) }
 
--- questions leave all rows as they are, and none comes
+-- reads leave all rows as they are, and add none
 pub record LeavesRows {Answer : Type 0} (old new : State) (result : Result Answer Error) : Type 0 where
   pub changes : Changes old new result (λ stored. stored)
   pub takes : Takes old new result 0 (λ stored. Unit {0})
@@ -42,13 +42,14 @@ FindsRows ghosts old new rows found =
     → ((state ghosts new).now ≡ (state ghosts old).now)
     × (found ≡ false → rows (held_by (state ghosts old).now) ≡ [])
 
--- if the answer says so, no record is catalogued, and no row stands of what one supersedes or requires under a condition
+-- if the answer says so, no record is catalogued, and no record has rows of superseded ids or of requisites under a
+-- condition
 abbrev pub FindsBare : {S : Type 0} → Ghosts S → Held S → Held S → Bool → Type 0
 FindsBare ghosts old new bare =
     IsTrue bare → HasCleanDisk (state ghosts new) → IsKnown (state ghosts old).now
     → IsBare (held_by (state ghosts old).now)
 
--- if the answer says so, no row stands under the ids of these records
+-- if the answer says so, the ids of these records have no rows
 abbrev pub FindsFree : {S : Type 0} → Ghosts S → Held S → Held S → List Change → Bool → Type 0
 FindsFree ghosts old new changes free =
     IsTrue free → HasCleanDisk (state ghosts new) → IsKnown (state ghosts old).now

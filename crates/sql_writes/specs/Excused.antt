@@ -1,5 +1,4 @@
--- What excuses that a statement of a transaction is refused, if its text is right and its values keep to the rules of the
--- tables.
+-- The excuses for a refused statement of a transaction, if its text is right and its values keep to the rules of the tables.
 use Rattle.std.specs.Prelude.{◌≡◌, ◌⊎◌, ◌<◌, ◌+◌, ◌^◌, ℕ, IfErr, IsSome, IsTrue, OnOk, Result}
 use Rattle.sqlite.specs.Effect.{Database}
 use Rattle.sqlite.specs.State.{HasCleanDisk, State, store_error}
@@ -10,7 +9,7 @@ use Rattle.sql_tables.specs.Ours.{held_by}
 use Rattle.sql_tables.specs.Reading.{HasFailed}
 use Rattle.sql_writes.specs.Room.{AreUpTo, IsRoomy}
 
--- Memory ran out. Or the device has failed since, or the connection was shut. Or a statement may take only so many steps.
+-- Memory ran out. Or the device has failed since, or the connection was closed. Or a statement may take only so many steps.
 abbrev pub Excuses : State → State → Error → Type 0
 Excuses old new error = (error ≡ store_error OutOfMemory) ⊎ (HasFailed old new ⊎ IsSome old.step_limit)
 

@@ -1,4 +1,4 @@
--- How the tables of version 2 come to be in an empty database.
+-- Making the tables of version 2 in an empty database.
 use Rattle.std.specs.Prelude.{◌≡◌, ◌≤◌, ◌<◌, ◌+◌, ◌^◌, ℕ, suc, pos, IsTrue, List, [], ◌∷◌, length, map, slice_get, take, OnOk, Result, Some}
 use Rattle.std.specs.List.{AllByRecursion}
 use Rattle.mcs_reader.specs.Id.{text_of}
@@ -23,7 +23,7 @@ pub record IsMade (so_many so_many_indexes : ℕ) (database : Database) : Type 0
   pub sound : IsDatabase database
   pub empty : AllByRecursion (λ table. database.trees table.tree ≡ []) (take so_many tables)
 
--- rows of callers, under numbers that follow one another from this on
+-- rows of callers, under numbers that follow one another from this one on
 abbrev pub caller_rows : ℕ → List CallerRow → List Row
 caller_rows first [] = []
 caller_rows first (caller ∷ callers) = (Int (pos first) ∷ caller_row caller) ∷ caller_rows (suc first) callers
@@ -40,16 +40,16 @@ abbrev pub AreApart : (CallerRow → List ℕ) → List CallerRow → Type 0
 AreApart text callers =
     (i j : ℕ) (one other : CallerRow) → slice_get callers i ≡ Some one → slice_get callers j ≡ Some other → text one ≡ text other → i ≡ j
 
--- Callers that can be written: no two have one name or one token, and neither a token nor their list is too long for a
--- database, of which a row has at most a billion bytes.
+-- Callers that can be written. No two have one name or one token. Neither a token nor their list is too long for a database,
+-- in which a row has at most a billion bytes.
 pub record AreFit (callers : List CallerRow) : Type 0 where
   pub names : AreApart (λ caller. text_of caller.name) callers
   pub tokens : AreApart (λ caller. caller.token) callers
   pub short : (i : ℕ) (one : CallerRow) → slice_get callers i ≡ Some one → length (text_of one.name) + length one.token + 100 ≤ 10 ^ 9
   pub few : length callers < 2 ^ 63
 
--- Statements of a transaction: nothing is committed, and done, they lead from such a database to such a one, as the
--- transaction sees them, which stays open. Refused, a stop and the rows that are committed are as before.
+-- Statements of a transaction: they commit nothing. Done, they lead from such a database to such a one, as the transaction
+-- sees them, and the transaction stays open. Refused, a stop and the committed rows are as before.
 pub record Leads {Answer Fault : Type 0} (old new : State) (result : Result Answer Fault) (From To : Database → Type 0) : Type 0 where
   pub keeps : HasCleanDisk new → IsTrue old.in_transaction → KeepsCommit old new
   pub survives : Survives old new (λ trees. ⊥)

@@ -42,7 +42,7 @@ statement_by command names text = record {
 pub record MeansBy (schema : Schema) (text : List ℕ) (command : Command) (names : List (List ℕ)) : Type 0 where
   pub statement : understood schema text ≡ Ok (statement_by command names text)
 
--- so many rows that begin with the same parameters, which are so many, and go on with so many of their own each
+-- so many rows that begin with the same parameters, so many of them, and go on with so many of their own each
 abbrev pub rows_alike : ℕ → ℕ → ℕ → List Term
 rows_alike shared own count =
     flat_map (λ k. lit Null ∷ map (col 0) (range_with_len 0 shared ++ range_with_len (shared + own * k) own)) (range_with_len 0 count)
@@ -53,7 +53,7 @@ insert_alike table_index shared own count = Insert table_index (Values (rows_ali
 
 -- ---- No part of what is promised: private contracts cite it.
 
--- what a statement is given for rows whose rowids are chosen
+-- rows before their rowids are chosen, as a statement has them
 abbrev pub unnumbered : List Row → List Row
 unnumbered all = map (λ values. Null ∷ values) all
 
@@ -67,8 +67,8 @@ pub record IsGiven (table : Table) (terms : List Term) (width : ℕ) (names : Li
   pub accepted : accepts_terms terms (stamped table params) ≡ true
   pub source : value_rows (stamped table params) width (length terms / width) terms ≡ unnumbered all
 
--- the parameters of a statement for so many things are as many as it has, of types that it takes, and make their rows: after
--- those of a key come those of each thing
+-- the parameters of a statement for so many things are as many as it has, of types that it takes, and make their rows: first
+-- those of a key, then those of each thing
 abbrev pub AreGiven : {X : Type 0} → Table → ℕ → ℕ → Row → (X → Row) → (X → Row) → List X → Type 0
 AreGiven table shared own key values_of row_of things =
     let params = key ++ flat_map values_of things in
@@ -83,6 +83,6 @@ abbrev pub AreNew : {X : Type 0} → (X → Row → Bool) → (X → Row) → Li
 AreNew is made [] rows = Unit {0}
 AreNew is made (one ∷ news) rows = (list_any (is one) rows ≡ false) × AreNew is made news (rows ++ made one ∷ [])
 
--- so it is if the rows of a key went
+-- it is so if the rows of a key went
 abbrev pub AreNewInPlace : {X : Type 0} → (X → Row → Bool) → (X → Row) → List X → (Row → Bool) → (Stored → List Row) → Type 0
 AreNewInPlace is made news has rows = (stored : Stored) → AreNew is made news (replaced has [] (rows stored))

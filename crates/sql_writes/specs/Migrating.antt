@@ -1,4 +1,4 @@
--- How a database of version 1 becomes one of version 2, with the rows that it holds.
+-- Making a database of version 1 one of version 2, with the rows that it holds.
 use Rattle.std.specs.Prelude.{◌≡◌, ℕ, List, [], Ok, Option, false}
 use Rattle.sqlite.specs.Calls.{IsWrite}
 use Rattle.sqlite.specs.Clock.{timed}
@@ -30,7 +30,7 @@ pub record HoldsAll (of_version : List Row) (stored : Stored) (database : Databa
 
 -- ---- whatever tables the database has
 
--- What a text, run without parameters in a transaction, makes of a database: what its command does, if that writes.
+-- The database after a text ran without parameters in a transaction: what its command does, if that writes.
 abbrev pub IsRunOf : List ℕ → Database → Database → Type 0
 IsRunOf text before after =
     (compiled : Compiled) × (understood before.schema text ≡ Ok compiled)
@@ -38,16 +38,16 @@ IsRunOf text before after =
     × Does limit (record { keys = Enforced; in_doubt = false; may_wait = false }) (timed [] compiled.formats now) before (text_of text compiled)
     compiled.returning compiled.command (Ok (tally, after)))
 
--- what is made of it by a text that makes the table of requisites under a condition
+-- the database after a text that makes the table of requisites under a condition
 abbrev pub IsWithConditions : Database → Database → Type 0
 IsWithConditions before after = (text : List ℕ) × MakesTable bureau_1 text sysmod_cond bureau × IsRunOf text before after
 
--- and then by one that deletes the rows of the version
+-- and then after one that deletes the rows of the version
 abbrev pub IsWithoutVersion : Database → Database → Type 0
 IsWithoutVersion before after =
     (between : Database) × IsWithConditions before between × (text : List ℕ) × Means bureau text (delete_of 0 0 []) 0 × IsRunOf text between after
 
--- and then by one that inserts that of version 2. So these three statements make one database of another, and nothing else does.
+-- and then after one that inserts that of version 2: exactly these three statements make one database of another
 abbrev pub IsMigration : Database → Database → Type 0
 IsMigration before after =
     (between : Database) × IsWithoutVersion before between × (text : List ℕ) × Means bureau text this_version 0 × IsRunOf text between after

@@ -32,16 +32,16 @@ IsShortRow row =
     (length row.fmids.items ≤ 300000000)
     × ((length row.pre.items ≤ 300000000) × (length row.req.items ≤ 300000000))
 
--- the columns of a row of what a record supersedes
+-- the columns of the row of a superseded id
 abbrev pub member_values : SupRow → Row
 member_values row = sup_row row.id row.member
 
--- the row of a record; what is said of a hold makes none
+-- the row of a record; a change of a hold makes none
 abbrev pub record_rows : Change → List Row
 record_rows (Whole sysmod) = sysmod_row sysmod ∷ []
 record_rows (OfHold change) = []
 
--- what a record supersedes, one by one
+-- the ids that a record supersedes, one by one
 abbrev pub pairs : List ℕ → List (List ℕ) → List SupRow
 pairs id members = map (λ member. record { id = id; member = member }) members
 
@@ -49,14 +49,14 @@ abbrev pub sups_of : Change → List SupRow
 sups_of (Whole sysmod) = pairs sysmod.id sysmod.sup
 sups_of (OfHold change) = []
 
--- how many rows come of a change beside the row of a record and those of what it supersedes
+-- the number of rows that a change adds beside the row of a record and those of the ids that it supersedes
 abbrev pub rest_count : Change → ℕ
 rest_count (Whole sysmod) = length sysmod.conds
 rest_count (OfHold change) = rows_of_change (OfHold change)
 
 -- ---- what they change
 
--- the row of a record goes, and those of what it supersedes
+-- the row of a record goes, and those of the ids that it supersedes
 abbrev pub record_gone : Stored → Change → Stored
 record_gone stored (Whole sysmod) = going sup_table (is_of sysmod.id) (going sysmod_table (is_of sysmod.id) stored)
 record_gone stored (OfHold change) = stored
@@ -65,11 +65,11 @@ record_gone stored (OfHold change) = stored
 abbrev pub with_sysmods : List SysmodRow → Stored → Stored
 with_sysmods rows = coming sysmod_table (map values_of rows)
 
--- rows of what records supersede come
+-- rows of superseded ids come
 abbrev pub with_members : List SupRow → Stored → Stored
 with_members rows = coming sup_table (map member_values rows)
 
--- what a record requires under a condition comes in place of what stands there, or a hold comes or goes
+-- the requisites of a record under a condition replace those that are there, or a hold comes or goes
 abbrev pub rest_put : Stored → Change → Stored
 rest_put stored (Whole sysmod) = instead cond_table (is_of sysmod.id) (map (cond_row sysmod.id) sysmod.conds) stored
 rest_put stored (OfHold change) = record stored { holds = holds_changed change stored.holds }
@@ -91,21 +91,21 @@ AreApart [] = Unit {0}
 AreApart (Whole sysmod ∷ changes) = AllByRecursion (IsApart sysmod.id) changes × AreApart changes
 AreApart (OfHold change ∷ changes) = AreApart changes
 
--- how many records there are
+-- the number of records
 abbrev pub records_in : List Change → ℕ
 records_in [] = 0
 records_in (Whole sysmod ∷ changes) = suc (records_in changes)
 records_in (OfHold change ∷ changes) = records_in changes
 
--- one change alone, or eight records with what comes of holds between them
+-- one change alone, or eight records with the changes of holds between them
 abbrev pub IsTogether : List Change → Type 0
 IsTogether changes = (length changes ≡ 1) ⊎ ((records_in (take 1 changes) ≡ 1) × (records_in changes ≡ 8) × AreApart changes)
 
--- none of what records supersede stands among these rows, nor comes twice
+-- none of the superseded ids of records is among these rows, nor comes twice
 abbrev pub AreNewMembers : List SupRow → List Row → Type 0
 AreNewMembers = AreNew (λ row. is_of_both row.id row.member) member_values
 
--- none of these records stands among these rows, nor comes twice
+-- none of these records is among these rows, nor comes twice
 abbrev pub AreNewRecords : List Change → List Row → Type 0
 AreNewRecords [] rows = Unit {0}
 AreNewRecords (Whole sysmod ∷ changes) rows =
@@ -114,12 +114,12 @@ AreNewRecords (OfHold change ∷ changes) rows = AreNewRecords changes rows
 
 -- ---- where nothing stands of them
 
--- the id of a record; what is said of a hold has none
+-- the id of a record; a change of a hold has none
 abbrev pub ids_in : Change → List (List ℕ)
 ids_in (Whole sysmod) = sysmod.id ∷ []
 ids_in (OfHold change) = []
 
--- no record is catalogued, and no row stands of what one supersedes or requires under a condition
+-- no record is catalogued, and no record has rows of superseded ids or of requisites under a condition
 abbrev pub IsBare : Stored → Type 0
 IsBare stored = (stored.sysmods ≡ []) × ((stored.sups ≡ []) × (stored.conds ≡ []))
 
@@ -128,18 +128,18 @@ abbrev pub NoneOf : List Row → Change → Type 0
 NoneOf rows (Whole sysmod) = list_any (is_of sysmod.id) rows ≡ false
 NoneOf rows (OfHold change) = Unit {0}
 
--- no row stands under the id of a record, and no two records are of one id
+-- no record's id has rows, and no two records have one id
 pub record AreFree (changes : List Change) (stored : Stored) : Type 0 where
   pub apart : AreApart changes
   pub sysmods : AllByRecursion (NoneOf stored.sysmods) changes
   pub sups : AllByRecursion (NoneOf stored.sups) changes
   pub conds : AllByRecursion (NoneOf stored.conds) changes
 
--- so it is if it was found
+-- it is so if a read found it so
 abbrev pub FreeIf : Bool → List Change → Stored → Type 0
 FreeIf found changes stored = IsTrue found → AreFree changes stored
 
--- a record that requires nothing under a condition
+-- a record without requisites under a condition
 abbrev pub HasNoRest : Change → Type 0
 HasNoRest (Whole sysmod) = sysmod.conds ≡ []
 HasNoRest (OfHold change) = ⊥

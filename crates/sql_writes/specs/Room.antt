@@ -1,4 +1,5 @@
--- How much room a change takes: how long what it writes is, how many rows it adds, and which numbers the tables have left.
+-- The room that a change takes: the length of what it writes, the number of rows that it adds, and the numbers that the
+-- tables have left.
 use Rattle.std.specs.Prelude.{◌≡◌, ◌<◌, ◌+◌, ◌^◌, ◌&&◌, ℕ, pos, negsuc, Bool, true, false, List, length, map, nat_le, sum_by}
 use Rattle.std.specs.List.{AllByRecursion, join_with_byte, list_all}
 use Rattle.mcs_reader.specs.Id.{text_of}
@@ -57,13 +58,13 @@ rows_made (zone_dropped zone) = 0
 rows_made (received_put ids) = 1
 rows_made (patterns_put zone patterns) = 1
 
--- with the one of the caller's last change
+-- with the row of the caller's last change
 abbrev pub rows_of : Effect → ℕ
 rows_of effect = rows_made effect + 1
 
 -- ---- the numbers of rows
 
--- whether a value is a number from 0 up to this one
+-- whether a value is a number between 0 and this one
 abbrev pub is_up_to : ℕ → Value → Bool
 is_up_to most (Int (pos n)) = nat_le n most
 is_up_to most (Int (negsuc n)) = false
@@ -76,7 +77,7 @@ is_up_to most Null = false
 abbrev pub are_up_to : ℕ → List Row → Bool
 are_up_to most rows = list_all (λ row. is_up_to most (rowid row)) rows
 
--- so have those of each
+-- and those of each table
 abbrev pub AreUpTo : ℕ → Trees → Type 0
 AreUpTo most trees = AllByRecursion (λ table. are_up_to most (trees table.tree) ≡ true) tables
 

@@ -1,4 +1,4 @@
-//! A store gets other callers.
+//! Giving a store other callers.
 ghost use Rattle.std.specs.Prelude.{◌≡◌, [], fold};
 ghost use Rattle.sql_tables.specs.Changes.{with_callers, without_caller};
 ghost use Rattle.sql_tables.specs.Stored.{caller_table};
@@ -10,7 +10,7 @@ use mcs_reader::Id;
 use sql_rows::{Heads, LastChanges, Received, ZoneRows};
 use sqlite::{Alter, Error, Transaction};
 
-/// The caller of this name leaves nothing: its last change, its zones and what it has received go.
+/// Deletes all that the caller of this name has: its last change, its zones and its received list.
 fn leave_nothing<S: Alter>(tx: &mut Transaction<'_, S>, name: &Id) -> Result<(), Error>
     ensures same { tx.new.conn.ghost_name ≡ tx.old.conn.ghost_name }
     ensures changes { Alters S.Store tx.old.conn.now tx.new.conn.now result
@@ -22,7 +22,7 @@ fn leave_nothing<S: Alter>(tx: &mut Transaction<'_, S>, name: &Id) -> Result<(),
     delete::rows_of::<Id, Received, S>(tx, name)
 }
 
-/// No caller is left, and those of these names leave nothing.
+/// Deletes all callers, and all that the callers of these names have.
 fn remove_callers<S: Alter>(tx: &mut Transaction<'_, S>, names: &[Id]) -> Result<(), Error>
     ensures same { tx.new.conn.ghost_name ≡ tx.old.conn.ghost_name }
     ensures changes { Alters S.Store tx.old.conn.now tx.new.conn.now result
@@ -35,7 +35,7 @@ fn remove_callers<S: Alter>(tx: &mut Transaction<'_, S>, names: &[Id]) -> Result
     Ok(())
 }
 
-/// Callers of these names leave nothing, and then these are the callers, and no others.
+/// Deletes all that the callers of these names have. Then makes these the callers, and no others.
 pub fn set_callers<S: Alter>(
     tx: &mut Transaction<'_, S>,
     names: &[Id],

@@ -19,8 +19,7 @@ use sql_rows::{Heads, LastChanges, Received, Zone, ZoneRows};
 use sqlite::{Alter, Error, Transaction};
 use std::alloc::Global;
 
-/// What a change makes of the rows, before its number is kept. A zone that is put keeps its patterns if it was there
-/// before.
+/// Makes the change of an effect, without its number. A zone that is put keeps its patterns if it was there before.
 fn change<S: Alter>(
     alloc: Global,
     tx: &mut Transaction<'_, S>,
@@ -77,7 +76,7 @@ fn publisher() -> Id
     }
 }
 
-/// The name under which the last change of whoever makes this one stands.
+/// The name under which the last change of this one's caller is kept.
 fn name(effect: &Effect<'_>) -> Id
     requires { IsProper (maker_of effect.now) }
     ensures { name_of (maker_of effect.now) ≡ Some result }

@@ -1,4 +1,4 @@
-//! Rows that go, by one statement. Rows that aren't there are no fault.
+//! Deleting rows, by one statement each. Rows that aren't there are no fault.
 ghost use Rattle.std.specs.Prelude.{◌≡◌, [], IfOk, fold};
 ghost use Rattle.catalogue.specs.declared.change.Change.TheVariants.{Whole};
 ghost use Rattle.sql_tables.specs.Changes.{going, is_under};
@@ -31,7 +31,7 @@ pub(crate) fn has_rows_of<K: Key, T: Asked<K>, S: Alter>(
     Ok(!found.is_empty())
 }
 
-/// The rows of a key, whether there are any or not.
+/// Deletes the rows of a key, by the statement that deletes.
 pub(crate) fn any_of<K: Key, T: Deletes<K>, S: Alter>(
     tx: &mut Transaction<'_, S>,
     key: &K,
@@ -45,7 +45,8 @@ pub(crate) fn any_of<K: Key, T: Deletes<K>, S: Alter>(
     run(tx, <T as Deletes<K>>::deletion(), &params[..K::count()])
 }
 
-/// The rows of a key. If mostly there are none, a read tells it sooner than a statement that deletes.
+/// Deletes the rows of a key, if a read finds any. If there mostly are none, the read is faster than a
+/// statement that deletes.
 pub(crate) fn rows_of<K: Key, T: Asked<K>, S: Alter>(
     tx: &mut Transaction<'_, S>,
     key: &K,
@@ -61,7 +62,7 @@ pub(crate) fn rows_of<K: Key, T: Asked<K>, S: Alter>(
     Ok(())
 }
 
-/// The row of a record, and those of what it supersedes.
+/// Deletes the row of a record, and those of the ids that it supersedes.
 fn record<S: Alter>(tx: &mut Transaction<'_, S>, id: &Id) -> Result<(), Error>
     ensures same { tx.new.conn.ghost_name ≡ tx.old.conn.ghost_name }
     ensures changes { Alters S.Store tx.old.conn.now tx.new.conn.now result
@@ -72,7 +73,7 @@ fn record<S: Alter>(tx: &mut Transaction<'_, S>, id: &Id) -> Result<(), Error>
     rows_of::<Id, Sups, S>(tx, id)
 }
 
-/// The rows of this record and of those that come with it, and those of what they supersede.
+/// Deletes the rows of this record and of those that come with it, and those of the ids that they supersede.
 pub(crate) fn records<S: Alter>(
     tx: &mut Transaction<'_, S>,
     first: &Sysmod,
@@ -93,7 +94,7 @@ pub(crate) fn records<S: Alter>(
     Ok(())
 }
 
-/// All callers.
+/// Deletes all callers.
 pub(crate) fn callers<S: Alter>(tx: &mut Transaction<'_, S>) -> Result<(), Error>
     ensures same { tx.new.conn.ghost_name ≡ tx.old.conn.ghost_name }
     ensures changes { Alters S.Store tx.old.conn.now tx.new.conn.now result (caller_table.with_rows []) }
@@ -101,7 +102,7 @@ pub(crate) fn callers<S: Alter>(tx: &mut Transaction<'_, S>) -> Result<(), Error
     run(tx, table::caller::deletion(), &[])
 }
 
-/// The hold with this key.
+/// Deletes the hold with this key.
 pub(crate) fn hold<S: Alter>(tx: &mut Transaction<'_, S>, key: &HoldKey) -> Result<(), Error>
     ensures same { tx.new.conn.ghost_name ≡ tx.old.conn.ghost_name }
     ensures changes { Alters S.Store tx.old.conn.now tx.new.conn.now result

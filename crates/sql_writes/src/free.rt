@@ -1,4 +1,4 @@
-//! Records under whose ids nothing stands: nothing has to be looked for and deleted before their rows come.
+//! Records whose ids have no rows: nothing has to be looked for and deleted before their rows come.
 ghost use Rattle.std.specs.Prelude.{◌≡◌, ◌++◌, IfOk, IsTrue, OnOk, flat_map};
 ghost use Rattle.std.specs.List.{AllByRecursion};
 ghost use Rattle.std.specs.List.Sorted.{IsPermutation};
@@ -25,7 +25,8 @@ fn has_rows<T: Bare, S: Alter>(tx: &mut Transaction<'_, S>) -> Result<bool, Erro
     Ok(!found.is_empty())
 }
 
-/// Whether no record is catalogued, and no row stands of what one supersedes or requires under a condition.
+/// Whether no record is catalogued, and no record has rows of superseded ids or of requisites under a
+/// condition.
 fn is_bare<S: Alter>(tx: &mut Transaction<'_, S>) -> Result<bool, Error>
     ensures same { tx.new.conn.ghost_name ≡ tx.old.conn.ghost_name }
     ensures asks { Asks S.Store tx.old.conn.now tx.new.conn.now result }
@@ -84,7 +85,8 @@ fn sorted_ids(alloc: Global, changes: &[Change]) -> Result<Vec<Id>, NoMemory>
     Ok(ids)
 }
 
-/// Whether no two are records of one id, of as many changes as there may be. It isn't told if memory runs out.
+/// Whether no two of the changes are records of one id, however many they are. It answers no if memory runs
+/// out.
 fn are_all_apart(alloc: Global, changes: &[Change]) -> bool
     ensures { IsTrue result → AreApart changes.now }
 {
@@ -94,7 +96,7 @@ fn are_all_apart(alloc: Global, changes: &[Change]) -> bool
     }
 }
 
-/// Whether no row stands under the ids of these records, and no two have one id. It is told only if nothing is
+/// Whether the ids of these records have no rows, and no two have one id. It answers yes only if nothing is
 /// catalogued: then three reads stand for those of each record.
 pub(crate) fn are_free<S: Alter>(
     alloc: Global,

@@ -1,4 +1,4 @@
-//! Rows that come by one statement, after those of their table.
+//! Inserting rows by one statement, after those of their table.
 ghost use Rattle.std.specs.Prelude.{◌≡◌, ◌⊎◌, ◌<◌, ◌≤◌, ◌+◌, ◌*◌, ◌++◌, List, ◌∷◌, [], false, flat_map, length, map, true};
 ghost use Rattle.std.specs.List.{AllByRecursion, list_all, list_any};
 ghost use Rattle.catalogue.specs.declared.change.Change.{Change};
@@ -30,7 +30,7 @@ use sqlite::types::ValueRef;
 use sqlite::{Alter, Error, Transaction};
 use std::alloc::Global;
 
-/// Things come that belong to a key, all by one statement.
+/// Inserts the rows of things that belong to a key, all by one statement.
 pub(crate) fn rows<'a, K: Key, T: Several<K>, S: Alter>(
     tx: &mut Transaction<'_, S>,
     text: &str,
@@ -52,7 +52,7 @@ pub(crate) fn rows<'a, K: Key, T: Several<K>, S: Alter>(
     run(tx, text, &params[..count])
 }
 
-/// A caller with its token. `opened` and `excused` speak of tables that were made with the callers before it.
+/// Inserts a caller with its token. `opened` and `excused` speak of tables that were made with the callers before it.
 pub(crate) fn caller<S: Alter>(tx: &mut Transaction<'_, S>, row: &CallerRow) -> Result<(), Error>
     ensures same { tx.new.conn.ghost_name ≡ tx.old.conn.ghost_name }
     ensures changes { Alters S.Store tx.old.conn.now tx.new.conn.now result
@@ -67,7 +67,7 @@ pub(crate) fn caller<S: Alter>(tx: &mut Transaction<'_, S>, row: &CallerRow) -> 
     run(tx, table::caller::insertion(), &params)
 }
 
-/// The last change of the caller of this name: its number and the reply that is kept.
+/// Inserts the last change of the caller of this name: its number and the reply that is kept.
 pub(crate) fn last_change<S: Alter>(
     tx: &mut Transaction<'_, S>,
     name: &Id,
@@ -86,7 +86,7 @@ pub(crate) fn last_change<S: Alter>(
     run(tx, table::last_change::insertion(), &params)
 }
 
-/// The row of a record of the catalogue, or those of eight.
+/// Inserts the row of a record of the catalogue, or those of eight.
 pub(crate) fn sysmods<'a, S: Alter>(
     tx: &mut Transaction<'_, S>,
     rows: &'a [SysmodRow],
@@ -103,7 +103,7 @@ pub(crate) fn sysmods<'a, S: Alter>(
     self::rows::<All, Sysmods, S>(tx, text, &All, rows)
 }
 
-/// A hold.
+/// Inserts a hold.
 pub(crate) fn hold<S: Alter>(tx: &mut Transaction<'_, S>, hold: &Hold) -> Result<(), Error>
     ensures same { tx.new.conn.ghost_name ≡ tx.old.conn.ghost_name }
     ensures changes { Alters S.Store tx.old.conn.now tx.new.conn.now result
@@ -125,7 +125,7 @@ pub(crate) fn hold<S: Alter>(tx: &mut Transaction<'_, S>, hold: &Hold) -> Result
     run(tx, table::hold_row::insertion(), &params)
 }
 
-/// The row of a key, with a list that is written as one text.
+/// Inserts the row of a key, with a list that is written as one text.
 pub(crate) fn joined<K: Key, T: Joined<K>, S: Alter>(
     alloc: Global,
     tx: &mut Transaction<'_, S>,

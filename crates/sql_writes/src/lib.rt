@@ -1,13 +1,13 @@
-//! What the bureau's changes write into a store's file, each in a transaction that is lent. Nothing is committed here.
+//! Writes the bureau's changes into a store's file, each in a transaction that it borrows. It commits nothing.
 //!
 //! - [`write`]: a change of a client or of the publisher, with its number and its reply
-//! - [`set_callers`]: a store gets other callers
-//! - [`create`]: the tables of version 2 with the callers, in an empty database
-//! - [`migrate`]: the tables of version 1 become those of version 2, with the rows that they hold
+//! - [`set_callers`]: gives a store other callers
+//! - [`create`]: makes the tables of version 2 with the callers, in an empty database
+//! - [`migrate`]: makes the tables of version 1 those of version 2, with the rows that they hold
 //!
-//! A contract says what a change makes of the rows that the transaction sees, in the words of `sql_tables`: `Alters`
-//! is `Changes` of `sql_tables` for the connection that the transaction lends. `specs/Making` says what `create` leads to,
-//! and `specs/Migrating` what `migrate` does.
+//! A contract says how a change alters the rows that the transaction sees, in the words of `sql_tables`: `Alters` is
+//! its `Changes` for the connection that the transaction lends. `specs/Making` says what `create` leads to, and
+//! `specs/Migrating` what `migrate` does.
 #![tactic(auto)]
 
 mod callers;

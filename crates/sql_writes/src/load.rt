@@ -1,4 +1,4 @@
-//! Lists of rows that come, in place of those that stand there.
+//! Replacing rows, list by list.
 ghost use Rattle.std.specs.Prelude.{◌≡◌, ◌⊎◌, ◌+◌, ◌∷◌, [], List, flat_map, length, map, true};
 ghost use Rattle.std.specs.List.{AllByRecursion, list_all};
 ghost use Rattle.catalogue.specs.declared.change.Change.{Change};
@@ -17,7 +17,7 @@ use sql_rows::{All, Key, Sups};
 use sqlite::{Alter, Error, Transaction};
 use std::alloc::Global;
 
-/// Things of a key come in place of those that stand there, as many by one statement as that may have.
+/// Replaces the rows of a key by those of these things, as many by one statement as it may have.
 pub(crate) fn replace<K: Key, T: InParts<K> + Leaves<K>, S: Alter>(
     tx: &mut Transaction<'_, S>,
     key: &K,
@@ -42,7 +42,7 @@ pub(crate) fn replace<K: Key, T: InParts<K> + Leaves<K>, S: Alter>(
     Ok(())
 }
 
-/// The row of a key, with a list that is written as one text, comes in place of the one that stands there.
+/// Replaces the row of a key, with a list that is written as one text.
 pub(crate) fn replace_joined<K: Key, T: Joined<K> + Leaves<K>, S: Alter>(
     alloc: Global,
     tx: &mut Transaction<'_, S>,
@@ -59,7 +59,8 @@ pub(crate) fn replace_joined<K: Key, T: Joined<K> + Leaves<K>, S: Alter>(
     insert::joined::<K, T, S>(alloc, tx, key, list)
 }
 
-/// Records come: the row of one or those of eight, and then what they supersede, eight rows by one statement.
+/// Inserts records: the row of one or those of eight, and then those of the ids that they supersede, eight rows by one
+/// statement.
 pub(crate) fn records<S: Alter>(
     tx: &mut Transaction<'_, S>,
     rows: &[SysmodRow],

@@ -1,4 +1,4 @@
-//! The tables of version 1 become those of version 2, with the rows that they hold.
+//! Making the tables of version 1 those of version 2, with the rows that they hold.
 ghost use Rattle.std.specs.Prelude.{◌≡◌, []};
 ghost use Rattle.sqlite.specs.Effect.{Database};
 ghost use Rattle.sql_tables.specs.Earlier.{IsOfVersion1};
@@ -37,8 +37,8 @@ fn without_version<S: Alter>(tx: &mut Transaction<'_, S>) -> Result<(), Error>
     run(tx, write::delete_version(), &[])
 }
 
-/// Makes the tables of version 1 those of version 2: the table of requisites under a condition comes, without a row,
-/// and the version is set. All rows stay.
+/// Makes the tables of version 1 those of version 2: it adds the table of requisites under a condition, without a
+/// row, and sets the version. All rows stay.
 pub fn migrate<S: Alter>(tx: &mut Transaction<'_, S>) -> Result<(), Error>
     ensures same { tx.new.conn.ghost_name ≡ tx.old.conn.ghost_name }
     ensures made { (stored : Stored)

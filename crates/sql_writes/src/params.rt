@@ -1,4 +1,4 @@
-//! What is bound to the parameters of a text that inserts: a key, and then things one after the other.
+//! The parameters of a text that inserts: a key, and then things one after the other.
 ghost use Rattle.std.specs.Prelude.{◌≡◌, ◌≤◌, ◌+◌, ◌*◌, ◌++◌, flat_map, length, take};
 ghost use Rattle.std.specs.List.{AllByRecursion};
 ghost use Rattle.sqlite.specs.Values.{bound};
@@ -7,7 +7,7 @@ use crate::table::Several;
 use sql_rows::Key;
 use sqlite::types::ValueRef;
 
-/// These values come next.
+/// Puts these values next.
 fn place<'a>(params: &mut [ValueRef<'a>; 40], at: usize, values: &[ValueRef<'a>])
     requires room { at + length values.now ≤ 40 }
     requires long { length params.now ≡ 40 }
@@ -20,7 +20,7 @@ fn place<'a>(params: &mut [ValueRef<'a>; 40], at: usize, values: &[ValueRef<'a>]
     }
 }
 
-/// How many parameters there are for a key and so many things.
+/// The number of parameters for a key and so many things.
 pub(crate) fn count_of<K: Key, T: Several<K>>(items: &[T::Item]) -> usize
     requires { T.counts (length items.now) }
     ensures count { result ≡ K.parameters + T.own * length items.now }
@@ -29,7 +29,7 @@ pub(crate) fn count_of<K: Key, T: Several<K>>(items: &[T::Item]) -> usize
     K::count() + <T as Several<K>>::width() * items.len()
 }
 
-/// A key and things as they are bound.
+/// A key and things as parameters.
 pub(crate) fn params_of<'a, K: Key, T: Several<K>>(
     key: &'a K,
     items: &'a [T::Item],

@@ -19,7 +19,7 @@ use sql_rows::Conds;
 use sqlite::{Alter, Error, Transaction};
 use std::alloc::Global;
 
-/// The hold comes in place of one with its key.
+/// Puts a hold in place of one with its key.
 fn put_hold<S: Alter>(tx: &mut Transaction<'_, S>, hold: &Hold) -> Result<(), Error>
     ensures same { tx.new.conn.ghost_name ≡ tx.old.conn.ghost_name }
     ensures changes { Alters S.Store tx.old.conn.now tx.new.conn.now result
@@ -31,7 +31,7 @@ fn put_hold<S: Alter>(tx: &mut Transaction<'_, S>, hold: &Hold) -> Result<(), Er
     insert::hold(tx, hold)
 }
 
-/// What a change publishes beside the row of a record and those of what it supersedes.
+/// Puts what a change publishes, but for the row of a record and those of the ids that it supersedes.
 fn put_rest<S: Alter>(tx: &mut Transaction<'_, S>, change: &Change) -> Result<(), Error>
     ensures same { tx.new.conn.ghost_name ≡ tx.old.conn.ghost_name }
     ensures changes { Alters S.Store tx.old.conn.now tx.new.conn.now result
@@ -49,8 +49,8 @@ fn put_rest<S: Alter>(tx: &mut Transaction<'_, S>, change: &Change) -> Result<()
     }
 }
 
-/// Whether nothing is left to put of a change beside the row of a record and those of what it supersedes, if `free`
-/// says that nothing stands of the record.
+/// Whether nothing of a change is left to put but the row of a record and those of the ids that it supersedes. `free`
+/// says that the record's id has no rows.
 fn is_put(change: &Change, free: bool) -> bool
     ensures free { IsTrue result → IsTrue free }
     ensures none { IsTrue result → HasNoRest change.now }
@@ -61,8 +61,8 @@ fn is_put(change: &Change, free: bool) -> bool
     }
 }
 
-/// The rows of records, and those of what they supersede, come in place of what stands there. `first` is the first of
-/// the changes, and `free` says that nothing stands of them.
+/// Puts the rows of records, and those of the ids that they supersede, in place of those that are there. `first` is the
+/// first of the changes, and `free` says that their ids have no rows.
 fn put_rows<S: Alter>(
     tx: &mut Transaction<'_, S>,
     first: &Sysmod,
@@ -90,8 +90,8 @@ fn put_rows<S: Alter>(
     load::records(tx, rows, sups)
 }
 
-/// A record comes in place of what stands there, or eight of them with the holds between them. `free` says that nothing
-/// stands of them.
+/// Puts a record in place of the one that is there, or eight of them with the holds between them. `free` says that
+/// their ids have no rows.
 fn put_records<S: Alter>(
     alloc: Global,
     tx: &mut Transaction<'_, S>,
@@ -121,8 +121,8 @@ fn put_records<S: Alter>(
     Ok(())
 }
 
-/// One change, or eight records at once with the holds between them: what they publish comes in place of what stands
-/// there, or a hold goes. `free` says that nothing stands of the records.
+/// Makes one change, or puts eight records at once with the holds between them. `free` says that the records' ids have
+/// no rows.
 fn put_together<S: Alter>(
     alloc: Global,
     tx: &mut Transaction<'_, S>,
@@ -143,7 +143,7 @@ fn put_together<S: Alter>(
     }
 }
 
-// By their texts: `as_bytes` says of each that it is an id's.
+// Compares them by their texts: `as_bytes` says of each that it is an id's.
 fn differ(one: &Id, other: &Id) -> bool
     ensures differ { IsTrue result → one.now ≢ other.now }
     ensures is_id { IsId one.now }
@@ -151,7 +151,7 @@ fn differ(one: &Id, other: &Id) -> bool
     one.as_bytes() != other.as_bytes()
 }
 
-/// Whether a change leaves the record of this id alone.
+/// Whether a change is no record of this id.
 fn is_apart(id: &Id, change: &Change) -> bool
     ensures { IsTrue result → IsApart id.now change.now }
 {
@@ -161,7 +161,7 @@ fn is_apart(id: &Id, change: &Change) -> bool
     }
 }
 
-/// Whether all changes leave the record of this id alone.
+/// Whether no change is a record of this id.
 fn are_others(id: &Id, changes: &[Change]) -> bool
     ensures { IsTrue result → AllByRecursion (IsApart id.now) changes.now }
 {
@@ -173,7 +173,7 @@ fn are_others(id: &Id, changes: &[Change]) -> bool
     true
 }
 
-/// Whether the changes after this one leave its record alone. A change of a hold has none.
+/// Whether the changes after this one are no records of its id. A change of a hold has none.
 fn is_first_apart(first: &Change, changes: &[Change]) -> bool
     ensures { IsTrue result → AreApart changes.now → AreApart (first.now ∷ changes.now) }
 {
@@ -208,7 +208,7 @@ fn records_of(change: &Change) -> usize
     }
 }
 
-/// How many changes there are up to the eighth record; none if fewer records are among the first 64.
+/// The number of changes up to the eighth record; none if fewer records are among the first 64.
 fn to_eighth(changes: &[Change]) -> usize
     ensures within { result ≤ length changes.now }
     ensures eight { 0 < result → records_in (take result changes.now) ≡ 8 }
@@ -223,8 +223,8 @@ fn to_eighth(changes: &[Change]) -> usize
     0
 }
 
-/// How many changes come at once: those up to the eighth record, if the first is a record and no two of them have one
-/// id, or the first alone.
+/// The number of changes that are made at once: those up to the eighth record, if the first is a record and no two of
+/// them have one id; or the first alone.
 fn together(changes: &[Change]) -> usize
     requires { 0 < length changes.now }
     ensures some { 0 < result }
@@ -238,7 +238,7 @@ fn together(changes: &[Change]) -> usize
     1
 }
 
-/// All changes of a publication in turn.
+/// Makes all changes of a publication in turn.
 pub(crate) fn put_changes<S: Alter>(
     alloc: Global,
     tx: &mut Transaction<'_, S>,

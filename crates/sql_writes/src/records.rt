@@ -1,5 +1,5 @@
-//! Records of the catalogue as rows: each with its lists as text, and what it supersedes one by one. A change of a hold
-//! makes no row here.
+//! Records of the catalogue as rows: each with its lists as text, and the ids that it supersedes one by one. A change
+//! of a hold makes no row here.
 ghost use Rattle.std.specs.Prelude.{◌≡◌, ◌++◌, IfOk, OnOk, flat_map, map};
 ghost use Rattle.sql_tables.specs.Rows as row;
 ghost use Rattle.sql_writes.specs.Records.{pairs, record_rows, sups_of, values_of};
@@ -9,18 +9,19 @@ use mcs_reader::Id;
 use sql_tables::joined_ids;
 use std::alloc::Global;
 
-/// A record without what it supersedes and what it requires under a condition, with its lists as they are written.
+/// A record without the ids that it supersedes and those that it requires under a condition, with its lists as they are
+/// written.
 #[derive(Drop)]
 pub struct SysmodRow {
     /// The SYSMOD.
     pub id: Id,
-    /// Which header it has.
+    /// The kind, by its header.
     pub kind: SysmodKind,
     /// The functions to which it applies.
     pub fmids: Vec<u8>,
-    /// What has to be installed before it.
+    /// The SYSMODs that have to be installed before it.
     pub pre: Vec<u8>,
-    /// What has to be installed with it.
+    /// The SYSMODs that have to be installed with it.
     pub req: Vec<u8>,
 }
 
@@ -29,7 +30,7 @@ pub struct SysmodRow {
 pub struct SupRow {
     /// The record.
     pub id: Id,
-    /// What it supersedes.
+    /// The superseded SYSMOD.
     pub member: Id,
 }
 
@@ -88,7 +89,7 @@ fn add_superseded(rows: &mut Vec<SupRow>, change: &Change) -> Result<(), NoMemor
     }
 }
 
-/// What records supersede, record by record.
+/// The ids that records supersede, record by record.
 pub(crate) fn sup_rows(alloc: Global, changes: &[Change]) -> Result<Vec<SupRow>, NoMemory>
     ensures { IfOk result (λ rows. rows.items ≡ flat_map sups_of changes.now) }
 {

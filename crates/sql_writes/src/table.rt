@@ -1,5 +1,4 @@
-//! What is special to a table where its rows are written, one file a table: the texts and what they mean, and how a
-//! thing is a row.
+//! The writes of each table, one file a table: their texts and what these mean, and how a thing becomes a row.
 ghost use Rattle.std.specs.Prelude.{◌≡◌, ◌≤◌, ◌<◌, ◌+◌, ◌*◌, ◌∷◌, [], ℕ, Bool, IfOk, List, codes, false, length, take, true};
 ghost use Rattle.std.specs.List.{list_any};
 ghost use Rattle.sqlite.specs.Cast.{cast_row};
@@ -40,9 +39,9 @@ use sqlite::types::ValueRef;
 use sqlite::{Alter, Error, Transaction};
 use std::alloc::Global;
 
-/// A table from which the rows of a key go.
+/// A table from which the rows of a key are deleted.
 pub trait Deletes<K: Key>: Table {
-    /// The text by which they go.
+    /// The text that deletes them.
     fn deletion() -> &'static str
         ensures { Means bureau result.now (delete_of Self.index Self.table.tree K.tests) K.parameters };
 
@@ -66,9 +65,9 @@ pub trait Bare: Table {
         ensures { Reads bureau result.now (first_in Self.table.tree) (codes "rowid" ∷ []) 0 };
 }
 
-/// A table whose rows of a key go before others come in their place, in the way that is fast for it.
+/// A table from which the rows of a key are deleted before others come in their place, in the way that is fast for it.
 pub trait Leaves<K: Key>: Deletes<K> {
-    /// They go, whether there are any or not.
+    /// Deletes them, whether there are any or not.
     fn leave<S: Alter>(tx: &mut Transaction<'_, S>, key: &K) -> Result<(), Error>
         ensures same { tx.new.conn.ghost_name ≡ tx.old.conn.ghost_name }
         ensures changes { Alters S.Store tx.old.conn.now tx.new.conn.now result
@@ -79,12 +78,12 @@ pub trait Leaves<K: Key>: Deletes<K> {
     }
 }
 
-/// A table into which things come that belong to a key, several by one statement.
+/// A table into which things of a key are inserted, several by one statement.
 pub trait Several<K: Key>: Table {
-    /// What comes.
+    /// The thing that comes.
     type Item;
 
-    /// How many columns of a row are of the thing alone, after those of the key.
+    /// The number of columns that are of the thing alone, after those of the key.
     ghost own: { ℕ };
 
     /// The values of those columns.
@@ -93,25 +92,25 @@ pub trait Several<K: Key>: Table {
     /// The row of a thing.
     ghost row_of: { K → Self.Item → Values };
 
-    /// What holds of each thing.
+    /// The law of each thing.
     ghost is_fit: { Self.Item → Type 0 };
 
-    /// What has to hold of a thing so that a database can store it.
+    /// The condition under which a database can store a thing.
     ghost is_short: { Self.Item → Type 0 };
 
     /// Whether a row has the key of the table that the row of a thing has.
     ghost is_same: { K → Self.Item → Values → Bool };
 
-    /// Whether so many may come by one statement.
+    /// Whether one statement may insert so many.
     ghost counts: { ℕ → Type 0 };
 
-    /// A thing as it is bound to the first of some parameters.
+    /// A thing as the first of some parameters.
     fn columns<'a>(item: &'a Self::Item) -> [ValueRef<'a>; 5]
         ensures long { length result ≡ 5 }
         ensures bound { bound (take own result) ≡ values_of item.now }
         ensures fit { is_fit item.now };
 
-    /// How many columns of a row are of the thing alone.
+    /// The number of columns that are of the thing alone.
     fn width() -> usize
         ensures width { result ≡ own }
         ensures few { result ≤ 5 };
@@ -127,11 +126,11 @@ pub trait Several<K: Key>: Table {
     ghost cast: { (key : K) (item : Self.Item)
         → cast_row Self.table (Null ∷ row_of key item) ≡ Null ∷ row_of key item };
 
-    /// No rule that speaks of one row is broken.
+    /// They break no rule that speaks of one row.
     ghost fits: { (key : K) (item : Self.Item) → K.is_fit key → is_fit item → is_short item
         → IsFitting Self.table (row_of key item) };
 
-    /// The keys of the table are told apart by the test.
+    /// The test tells the keys of the table apart.
     ghost unique: { (db : Trees) (others : List Values) (key : K) (item : Self.Item) → K.is_fit key → is_fit item
         → list_any (is_same key item) (columns_of others) ≡ false
         → are_unique bureau.indexes
@@ -139,30 +138,30 @@ pub trait Several<K: Key>: Table {
         (with_next others (row_of key item) ∷ []) ≡ true };
 }
 
-/// A table into which a list of things comes, so many by one statement.
+/// A table into which a list of things is inserted, so many by one statement.
 pub trait InParts<K: Key>: Several<K> {
-    /// How many at most.
+    /// The most that one statement may have.
     ghost most: { ℕ };
 
-    /// How many at most.
+    /// The most that one statement may have.
     fn most() -> usize
         ensures most { result ≡ most }
         ensures some { 0 < result };
 
-    /// The text by which so many come: the key, and then each of them.
+    /// The text that inserts so many: the key, and then each of them.
     fn insertion(count: usize) -> &'static str
         requires some { 0 < count }
         requires few { count ≤ most }
         ensures { MeansBy bureau result.now (insert_alike Self.index K.parameters Self.own count)
             (parameters_to (K.parameters + Self.own * count)) };
 
-    /// So many may come.
+    /// One statement may insert so many.
     ghost may_come: { (count : ℕ) → 0 < count → count ≤ most → Self.counts count };
 }
 
-/// A table of which a key has one row, with a list that is written as one text.
+/// A table with one row for a key, with a list that is written as one text.
 pub trait Joined<K: Key>: Several<K, Item = Vec<u8>> {
-    /// What the list has.
+    /// An entry of the list.
     type Part;
 
     /// The text of a list.
@@ -171,7 +170,7 @@ pub trait Joined<K: Key>: Several<K, Item = Vec<u8>> {
     /// The row of a key with a list.
     ghost row_with: { K → List Self.Part → Values };
 
-    /// The text by which the row comes: the key, and then the list.
+    /// The text that inserts the row: the key, and then the list.
     fn insertion() -> &'static str
         ensures { MeansBy bureau result.now (insert_alike Self.index K.parameters Self.own 1)
             (parameters_to (K.parameters + Self.own * 1)) };
@@ -181,7 +180,7 @@ pub trait Joined<K: Key>: Several<K, Item = Vec<u8>> {
         ensures row { IfOk result (λ made. (key : K) → Self.row_of key made ≡ row_with key list.now) }
         ensures short { IfOk result (λ made. is_short (text list.now) ≡ true → Self.is_short made) };
 
-    /// One may come.
+    /// One statement may insert one.
     ghost one: { Self.counts 1 };
 
     /// A row has the key of the table if it has this key.

@@ -1,4 +1,4 @@
-//! The texts that insert the rows of lists, each into one table: several at once if many come.
+//! The texts that insert the rows of lists, each into one table: several rows at once if many come.
 ghost use Rattle.std.specs.Prelude.{◌≡◌, ◌⊎◌, ◌<◌, ◌≤◌, ◌+◌, ◌*◌};
 ghost use Rattle.sql_texts.specs.Schema.{bureau};
 ghost use Rattle.sql_writes.specs.Many.{MeansBy, insert_alike, parameters_to};
@@ -35,7 +35,8 @@ const SUPS: [&str; 8] = [
      (?9, ?10), (?11, ?12), (?13, ?14), (?15, ?16)",
 ];
 
-/// So many rows of what records supersede: the record ?1 and a SYSMOD that it supersedes ?2, ?3 with ?4 and so on.
+/// So many rows of the ids that records supersede: the record ?1 and a SYSMOD that it supersedes ?2, ?3 with ?4 and
+/// so on.
 pub(crate) fn sups(count: usize) -> &'static str
     requires some { 0 < count }
     requires few { count ≤ 8 }
@@ -44,7 +45,8 @@ pub(crate) fn sups(count: usize) -> &'static str
     SUPS[count - 1]
 }
 
-/// One row of what a record requires under a condition: the record ?1, the function ?2 and what it asks for ?3.
+/// One row of the ids that a record requires under a condition: the record ?1, the function ?2 and the id that it
+/// requires ?3.
 pub(crate) fn conds(count: usize) -> &'static str
     requires some { 0 < count }
     requires few { count ≤ 1 }

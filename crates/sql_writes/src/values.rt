@@ -1,4 +1,4 @@
-//! What is bound to the parameters of a statement.
+//! The parameters of a statement.
 ghost use Rattle.std.specs.Prelude.{◌≡◌, ◌≤◌, pos};
 ghost use Rattle.bureau_store.specs.Store.{greatest_number};
 ghost use Rattle.sqlite_value.specs.Value.{owned};

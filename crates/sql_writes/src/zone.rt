@@ -9,7 +9,7 @@ use sql_rows::{Heads, Zone};
 use sqlite::{Alter, Error, Transaction};
 use std::alloc::Global;
 
-/// A client's zone has a head. One that wasn't there asks for no patterns.
+/// Gives a client's zone its head. A zone that wasn't there gets no patterns.
 pub(crate) fn keep_head<S: Alter>(
     alloc: Global,
     tx: &mut Transaction<'_, S>,

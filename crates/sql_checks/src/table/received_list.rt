@@ -1,4 +1,4 @@
-//! The table `received_list`: what each client has received.
+//! The table `received_list`: the SYSMODs that each client has received.
 
 use crate::checked::Checked;
 use crate::shapes::TableShape;

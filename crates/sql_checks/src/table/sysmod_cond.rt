@@ -1,4 +1,4 @@
-//! The table `sysmod_cond`: what each record requires if a function is installed.
+//! The table `sysmod_cond`: the ids that each record requires if a function is installed.
 
 use crate::checked::Checked;
 use crate::shapes::TableShape;

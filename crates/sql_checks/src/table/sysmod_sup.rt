@@ -1,4 +1,4 @@
-//! The table `sysmod_sup`: what each record supersedes.
+//! The table `sysmod_sup`: the ids that each record supersedes.
 
 use crate::checked::Checked;
 use crate::shapes::TableShape;

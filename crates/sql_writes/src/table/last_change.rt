@@ -25,7 +25,7 @@ impl Asked<Id> for LastChanges {
     }
 }
 
-/// The text by which a last change comes, with the columns ?1 to ?3 in the order of the table.
+/// The text that inserts a last change, with the columns ?1 to ?3 in the order of the table.
 pub(crate) fn insertion() -> &'static str
     ensures { Means bureau result.now (insert_given 2 3) 3 }
 {

@@ -1,4 +1,4 @@
-//! The table `received_list`: what a client has received.
+//! The table `received_list`: the SYSMODs that clients have received.
 #![tactic(auto, unfolding(sqlite::specs::Listing::understood, sqlite_tied::specs::Compute::everything))]
 
 use super::{Asked, Deletes, Joined, Leaves, Several};

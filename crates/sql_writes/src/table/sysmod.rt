@@ -1,4 +1,5 @@
-//! The table `sysmod`: records, without what they supersede and require under a condition.
+//! The table `sysmod`: records, without the ids that they supersede and those that they require under a
+//! condition.
 #![tactic(auto, unfolding(sqlite::specs::Listing::understood, sqlite_tied::specs::Compute::everything))]
 
 use super::{Asked, Bare, Deletes, Several};

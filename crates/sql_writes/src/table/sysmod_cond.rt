@@ -1,4 +1,4 @@
-//! The table `sysmod_cond`: what a record requires under a condition.
+//! The table `sysmod_cond`: the ids that a record requires under a condition.
 #![tactic(auto, unfolding(sqlite::specs::Listing::understood, sqlite_tied::specs::Compute::everything))]
 
 use super::{Asked, Bare, Deletes, InParts, Leaves, Several};
@@ -96,7 +96,8 @@ impl Several<Id> for Conds {
         ((is, refl), ((here.0, refl), ((here.1, refl), tt))) none };
 }
 
-// One by one: a connection keeps 64 texts compiled, and with more than one here it would have to compile others anew.
+// One row a statement: a connection keeps 64 texts compiled, and with more than one text here it would have to
+// compile others anew.
 impl InParts<Id> for Conds {
     ghost use Rattle.std.proofs.Common.{le_antisymm};
 

@@ -1,4 +1,4 @@
-//! The table `sysmod_sup`: what a record supersedes.
+//! The table `sysmod_sup`: the ids that a record supersedes.
 #![tactic(auto, unfolding(sqlite::specs::Listing::understood, sqlite_tied::specs::Compute::everything))]
 
 use super::{Asked, Bare, Deletes, InParts, Several};

@@ -1,4 +1,4 @@
-//! The table `zone_head`: that a client has a zone, and the patterns that it asks for in it.
+//! The table `zone_head`: the zones that a client has, and the patterns of each.
 #![tactic(auto, unfolding(sqlite::specs::Listing::understood, sqlite_tied::specs::Compute::everything))]
 
 use super::{Asked, Deletes, Joined, Leaves, Several};
