@@ -65,6 +65,7 @@ fn follow<P: Published, J: Judge<P>>(
         (λ content. J.is_right judge.old content → J.is_right judge.new content) }
 {
     let mut next = Some(*start);
+    // Each step adds a SYSMOD to the map, so no run comes to this bound. With it the loop is seen to end.
     'givers: for _ in 0..u64::MAX {
         let Some(id) = next else {
             return Ok(());

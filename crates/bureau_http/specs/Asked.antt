@@ -1,6 +1,5 @@
--- What of a request its bytes and the callers alone decide: the call that it makes, or why it makes none; whether
--- it has a token to be looked up; whether only the head of the reply is asked for; whether the connection ends
--- after the reply.
+-- The parts of a request that its bytes and the callers alone decide: the call that it makes, or why it makes none; whether
+-- it has a token to look up; whether it asks only for the head of the reply; whether the connection ends after the reply.
 use Rattle.std.specs.Prelude.{ℕ, ◌||◌, Bool, true, false, List, is_some, nat_le, Option, Some, None, Result, Ok, Err}
 use Rattle.requests.specs.Order.{is_bare}
 use Rattle.requests.specs.Request.{Parts, action_of, number_of}
@@ -58,7 +57,7 @@ most_requests = 10000
 abbrev pub has_token : Parts → Bool
 has_token parts = is_some parts.token
 
--- what a whole request asks, at its ordinal in the connection, counted from 1
+-- the question of a whole request, at its ordinal in the connection, counted from 1
 abbrev pub asked_whole : List CallerRow → ℕ → Parts → List ℕ → Asked
 asked_whole rows ordinal parts body = record {
   what = what_of rows parts body;
@@ -67,6 +66,6 @@ asked_whole rows ordinal parts body = record {
   closes = parts.closes || nat_le most_requests ordinal;
 }
 
--- what a head asks that is refused: its token isn't looked up, and the connection ends after the reply
+-- the question of a head that is refused: its token isn't looked up, and the connection ends after the reply
 abbrev pub asked_refused : Refusal → Bool → Asked
 asked_refused refusal bare = record { what = Err refusal; has_token = false; is_bare = bare; closes = true }

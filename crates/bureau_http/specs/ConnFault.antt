@@ -8,7 +8,8 @@ use Rattle.bureau_http.specs.declared.fault.ConnFault.TheVariants.{Read, Write, 
 use Rattle.bureau_http.specs.declared.fault.RunFault.{RunFault}
 use Rattle.bureau_http.specs.declared.fault.RunFault.TheVariants as run
 
--- The number that is printed, and what is at fault. Whoever ends a connection inside a request gave too little.
+-- The number that is printed, and what is at fault. A client that ends its connection inside a request gave too
+-- little.
 abbrev pub conn_told : ConnFault → AnyFault
 conn_told Read = of_machine 51
 conn_told Write = of_machine 52
@@ -19,7 +20,7 @@ conn_told Memory = of_machine 54
 abbrev pub run_told : RunFault → AnyFault
 run_told run.Memory = of_machine 54
 
--- bytes that aren't there
+-- the fault for bytes that weren't read
 abbrev pub of_transfer : TransferFault → ConnFault
 of_transfer (transfer.Read error) = Read
 of_transfer transfer.Memory = Memory

@@ -5,7 +5,7 @@ use Rattle.requests.specs.NextRequest.{IsNext, Next, clean_end, end_inside, refu
 use Rattle.bureau_store.specs.declared.caller.CallerRow.{CallerRow}
 use Rattle.bureau_http.specs.Asked.{Asked, asked_refused, asked_whole}
 
--- a whole request stands next, which doesn't end the connection
+-- a whole request comes next, which doesn't end the connection
 pub record IsRequest (rows : List CallerRow) (ordinal : ℕ) (bytes : List ℕ) (asked : Asked) (following : List ℕ) : Type 0 where
   pub parts : Parts
   pub body : List ℕ
@@ -29,8 +29,8 @@ IsLastBy (whole parts body following) rows ordinal asked = (asked ≡ asked_whol
 abbrev pub IsLast : List CallerRow → ℕ → List ℕ → Asked → Type 0
 IsLast rows ordinal bytes asked = (next : Next) × IsNext bytes next × IsLastBy next rows ordinal asked
 
--- How a connection stops: its input ends if no request has begun, or inside one; a request ends it; or it is cut off before,
--- if a read or write fails or memory runs out.
+-- How a connection stops: its input ends before a request has begun, or inside one; a request ends it; or it is cut off
+-- before, since a read or write fails or memory runs out.
 pub data Stop : Type 0 where
   clean : Stop
   inside : Stop
@@ -52,7 +52,7 @@ pub record IsConnection (rows : List CallerRow) (bytes : List ℕ) (asked : List
   pub stops : StopsAt stop rows (1 + length first) following last
   pub all : asked ≡ first ++ last
 
--- the stop isn't one from outside
+-- the connection stops by itself: nothing cuts it off
 abbrev pub IsOwn : Stop → Type 0
 IsOwn clean = Unit {0}
 IsOwn inside = Unit {0}

@@ -22,8 +22,8 @@ pub record Exchange : Type 0 where
 abbrev pub refusal_answer : Refusal → Answer
 refusal_answer refusal = plain (code_of (status_of refusal)) (text_of refusal)
 
--- What is answered to what makes no call: the refusal; or 503 if a token has to be looked up, since there may be no room for
--- that. What a call is answered, the run of the bureau decides.
+-- The answer to a request that makes no call: the refusal; or 503 if a token has to be looked up, since there may be no room
+-- for that. The run of the bureau decides how a call is answered.
 abbrev pub IsAnsweredBy : What → Bool → Answer → Type 0
 IsAnsweredBy (Ok call) has_token answer = Unit {0}
 IsAnsweredBy (Err refusal) has_token answer = (answer ≡ refusal_answer refusal) ⊎ ((has_token ≡ true) × (answer ≡ no_room))
@@ -61,11 +61,11 @@ status_numbered n =
     else if n == 431 then Status.HeadTooLarge
     else Status.ServiceUnavailable
 
--- the body, which tells of a 503 that there is no room
+-- the body; that of a 503 says that there is no room
 abbrev pub body_told : Answer → List ℕ
 body_told answer = if answer.status == 503 then codes "NO ROOM\n" else answer.body
 
--- what the path names, if it has other methods
+-- the resource that the path names, if it has other methods
 abbrev pub allow_by : What → ℕ → Option Resource
 allow_by (Ok call) status = None
 allow_by (Err refusal) status = if status == 503 then None else allow_of_refusal refusal

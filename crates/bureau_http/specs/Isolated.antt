@@ -14,7 +14,7 @@ use Rattle.bureau_http.specs.Exchange.{Exchange, calls_of, exchange_text}
 abbrev pub joined : List (List Exchange) → List Exchange
 joined connections = flat_map (λ exchanges. exchanges) connections
 
--- a caller's request with the answer that it has if only the caller's own history came before
+-- a caller's request with the answer that it would have if only the caller's own history came before
 abbrev pub own_exchange : Tables → Caller → Call → List Exchange → Exchange → Exchange
 own_exchange opening viewer call before exchange = record {
   asked = exchange.asked;

@@ -1,4 +1,4 @@
--- What serving a list of connections does, one after the other: one run of the bureau over all their requests.
+-- Serving a list of connections, one after the other: one run of the bureau over all their requests.
 use Rattle.std.specs.Prelude.{◌≡◌, ℕ, List, [], ◌∷◌, ◌++◌, length, map, take, drop, Result, Ok, Err}
 use Rattle.std.specs.Global.{Vec}
 use Rattle.std.specs.List.{AllByRecursion, flat_map}
@@ -10,7 +10,7 @@ use Rattle.bureau_http.specs.Exchange.{Exchange, IsAnswered, calls_of, replies_t
 use Rattle.bureau_http.specs.Isolated.{AreIsolated, joined}
 use Rattle.bureau_http.specs.Served.{IsOneRun}
 
--- a connection is these requests, up to a stop of its own; they are answered so, and the replies were written
+-- a connection is these requests, up to a stop of its own; these are the answers, and the replies were written
 pub record IsWhole (rows : List CallerRow) (bytes written : List ℕ) (exchanges : List Exchange) : Type 0 where
   pub stop : Stop
   pub own : IsOwn stop
@@ -31,8 +31,8 @@ AreWhole rows (bytes ∷ connections) (text ∷ written) (exchanges ∷ more) = 
 abbrev pub calls_in : List (List Exchange) → List CallBy
 calls_in connections = flat_map calls_of connections
 
--- All connections were served: their requests are one run of the bureau, in order, in which a change acts once, over
--- whichever of them it is sent, and each caller is answered, to the byte, as if alone.
+-- All connections were served. Their requests are one run of the bureau, in order. In it a change acts once, over whichever
+-- connections it is sent, and each caller is answered, to the byte, as if alone.
 pub record AreServed (Runs : Tables → List CallBy → Tables → Type 0) (this : Tables) (connections written : List (List ℕ)) : Type 0 where
   pub exchanges : List (List Exchange)
   pub ran : IsOneRun Runs this (calls_in exchanges)

@@ -1,4 +1,4 @@
--- What the log notes of a request: what of its head and of its answer, whatever the desk is and whoever writes the log.
+-- The log's note of a request: the facts of its head and of its answer, whatever the desk is and whoever writes the log.
 use Rattle.std.specs.Prelude.{◌≡◌, ◌≤◌, ◌⊎◌, ℕ, ◌-◌, List, [], length, Option, Some, None}
 use Rattle.log_lines.specs.Words.{none, word_of}
 use Rattle.log_lines.specs.declared.note.Note.{Note}
@@ -24,14 +24,14 @@ IsKnown rows parts answer caller = (caller ≡ caller_in rows parts.token) ⊎ (
 
 -- ---- a note
 
--- of this method, this path, and the reply
+-- the note of this method, this path, and the reply
 pub record IsNotedAs (verb place : List ℕ) (exchange : Exchange) (note : Note) : Type 0 where
   pub method : note.method ≡ word_of verb
   pub path : note.path ≡ word_of place
   pub status : note.status ≡ code_of (status_numbered exchange.answer.status)
   pub went : note.went ≡ length (exchange_text exchange)
 
--- of a whole request of so many bytes
+-- the note of a whole request of so many bytes
 pub record IsNotedOf (rows : List CallerRow) (parts : Parts) (len : ℕ) (exchange : Exchange) (note : Note) : Type 0 where
   pub known : Option Caller
   pub is_known : IsKnown rows parts exchange.answer known
@@ -39,7 +39,7 @@ pub record IsNotedOf (rows : List CallerRow) (parts : Parts) (len : ℕ) (exchan
   pub shown : IsNotedAs parts.method (path_of parts.target) exchange note
   pub came : note.came ≡ len
 
--- Of what stands next in these bytes. Of a head that is refused, nothing is known but that it came, and the reply.
+-- The note of what comes next in these bytes. Of a refused head it says only that it came, and the reply.
 abbrev pub IsNotedBy : Next → List CallerRow → List ℕ → Exchange → Note → Type 0
 IsNotedBy clean_end rows bytes exchange note = ⊥
 IsNotedBy end_inside rows bytes exchange note = ⊥

@@ -1,4 +1,4 @@
--- What a callers file and the bytes of connections make, over a store in memory that begins empty.
+-- What a callers file and the bytes of connections lead to, over a store in memory that begins empty.
 use Rattle.std.specs.Prelude.{◌≡◌, ◌⊎◌, ℕ, List, Ok, Err}
 use Rattle.faults.specs.declared.any.AnyFault.{AnyFault}
 use Rattle.bureau_store.specs.CallerFault as callers_fault
@@ -15,8 +15,8 @@ use Rattle.bureau_http.specs.declared.fault.RunFault.TheVariants as run
 use Rattle.bureau_http.specs.Isolated.{AreIsolated, joined}
 use Rattle.bureau_http.specs.List.{AreServed}
 
--- The callers are those of the file, the store begins with them and nothing else, and all connections were
--- served, one after the other: one run of the bureau, in which each caller is answered as if alone.
+-- The callers are those of the file. The store begins with them and nothing else. All connections were served, one after the
+-- other: one run of the bureau, in which each caller is answered as if alone.
 pub record IsReplayed (callers : List ℕ) (connections written : List (List ℕ)) : Type 0 where
   pub rows : List CallerRow
   pub read : callers_of callers ≡ Ok rows

@@ -1,5 +1,5 @@
--- What serving a connection does: the bureau's calls, and the bytes that are written. What a run is here is for the
--- contracts to say: one of the tables alone, or one in which what is told as accepted is kept.
+-- Serving a connection: the bureau's calls, and the bytes that are written. The contracts say what a run is here: one of the
+-- tables alone, or one in which what is told as accepted is kept.
 use Rattle.std.specs.Prelude.{◌≡◌, ◌⊎◌, ℕ, ◌+◌, Bool, List, [], ◌∷◌, ◌++◌, length, map, take, Option, Some, IfOk, Result, Ok, Err}
 use Rattle.std.specs.Io.KnownBytes.{Appends, prepend_known}
 use Rattle.std.specs.List.{AllByRecursion}
@@ -28,7 +28,7 @@ pub record HasExchanged (Runs : Tables → List CallBy → Tables → Type 0) (t
   pub run : Runs this (call_in exchange) next
   pub callers : next.callers ≡ this.callers
 
--- What the desk did is a run of the bureau from these tables, whatever it was asked.
+-- The calls of the desk are a run of the bureau from these tables, whatever it was asked.
 pub record HasRun (Runs : Tables → List CallBy → Tables → Type 0) (this : Tables) : Type 0 where
   pub calls : List CallBy
   pub closing : Tables
@@ -44,7 +44,7 @@ IsWritten (Err Memory) old new text = Appends old new text
 
 -- ---- a whole connection
 
--- how a connection stops, by what serving it answers
+-- how a connection stops, by the answer of serving it
 abbrev pub StopsBy : Result Served ConnFault → Stop → ℕ → Type 0
 StopsBy (Ok served) stop count = ((stop ≡ clean) ⊎ (stop ≡ closed)) × (served.requests ≡ count)
 StopsBy (Err Read) stop count = stop ≡ cut
@@ -52,13 +52,13 @@ StopsBy (Err Write) stop count = (stop ≡ cut) ⊎ (stop ≡ closed)
 StopsBy (Err EndInside) stop count = stop ≡ inside
 StopsBy (Err Memory) stop count = stop ≡ cut
 
--- What was read and what is left to read are these bytes, and what was read has neither a whole request at its front nor
--- a head that is refused.
+-- The bytes that were read and those that are left to read are these. Those that were read have neither a whole request at
+-- their front nor a head that is refused.
 abbrev pub IsUnfinishedOf : List ℕ → Option (List ℕ) → List ℕ → Type 0
 IsUnfinishedOf held left bytes = (prepend_known held left ≡ Some bytes) × IsUnfinished held
 
--- If a read failed or memory ran out, every request that had come whole was answered: no other whole request stands after
--- the last of them in what was read.
+-- If a read failed or memory ran out, every request that had come whole was answered: no other whole request comes after the
+-- last of them in what was read.
 abbrev pub StopsUnfinished : Result Served ConnFault → Option (List ℕ) → List ℕ → Type 0
 StopsUnfinished (Ok served) left following = Unit {0}
 StopsUnfinished (Err Read) left following = (held : List ℕ) × IsUnfinishedOf held left following
@@ -66,7 +66,7 @@ StopsUnfinished (Err Write) left following = Unit {0}
 StopsUnfinished (Err EndInside) left following = Unit {0}
 StopsUnfinished (Err Memory) left following = (held : List ℕ) × IsUnfinishedOf held left following
 
--- If a write failed, the replies before the last one were written whole, and of that one a front part. No request after it
+-- If a write failed, the replies before the last one were written whole, and a front part of the last. No request after it
 -- was served.
 pub record IsCutOff (old new : Option (List ℕ)) (exchanges : List Exchange) : Type 0 where
   pub before : List Exchange
@@ -101,9 +101,9 @@ pub record AreExchanged (rows : List CallerRow) (left old new : Option (List ℕ
   pub unfinished : StopsUnfinished answer left connection.following
   pub written : AreWritten answer old new exchanges
 
--- The bytes are requests and a stop. Those that make calls are a run of the bureau, in order, in which a change acts
--- once, however often it is sent; the others are answered as the bytes and the callers alone decide. The replies are
--- written, in order.
+-- The bytes are requests and a stop. Those that make calls are a run of the bureau, in order, in which a change acts once,
+-- however often it is sent. The bytes and the callers alone decide the answers to the others. The replies are written, in
+-- order.
 pub record IsServed (Runs : Tables → List CallBy → Tables → Type 0) (this : Tables) (left old new : Option (List ℕ)) (answer : Result Served ConnFault) (bytes : List ℕ) : Type 0 where
   pub exchanges : List Exchange
   pub ran : IsOneRun Runs this (calls_of exchanges)
@@ -111,7 +111,7 @@ pub record IsServed (Runs : Tables → List CallBy → Tables → Type 0) (this 
 
 -- ---- a step of it, which `serve_next` promises
 
--- a request stands next, which may end the connection
+-- a request comes next, which may end the connection
 abbrev pub IsAsked : List CallerRow → ℕ → List ℕ → Asked → Type 0
 IsAsked rows ordinal bytes asked = IsLast rows ordinal bytes asked ⊎ ((following : List ℕ) × IsRequest rows ordinal bytes asked following)
 
@@ -121,12 +121,12 @@ pub record Exchanged (Runs : Tables → List CallBy → Tables → Type 0) (this
   pub has : HasExchanged Runs this exchange
   pub written : Writes (exchange_text exchange)
 
--- the same, with what is noted of the request that stands next in these bytes
+-- the same, with the note of the request that comes next in these bytes
 abbrev pub ExchangedAs : (Tables → List CallBy → Tables → Type 0) → Tables → (Asked → Type 0) → (List ℕ → Type 0) → List ℕ → Note → Type 0
 ExchangedAs Runs this IsNow Writes bytes note = (done : Exchanged Runs this IsNow Writes) × IsNoted this.callers bytes done.exchange note
 
--- What serving the next request does: the bytes that were held and left to read began so, what the desk was asked is a run,
--- and the reply was written.
+-- Serving the next request: the bytes that were held and left to read began so, the calls of the desk are a run, and the
+-- reply was written.
 abbrev pub Serves : (Tables → List CallBy → Tables → Type 0) → Tables → ℕ → List ℕ → Option (List ℕ) → Option (List ℕ) → Option (List ℕ) → Result Step ConnFault → List ℕ → Type 0
 Serves Runs this ordinal held left old new (Ok step.CleanEnd) bytes = IsNext bytes clean_end × Runs this [] this × Appends old new []
 Serves Runs this ordinal held left old new (Ok (step.Stays note)) bytes =
@@ -144,7 +144,7 @@ Stays step.CleanEnd = ⊥
 Stays (step.Stays note) = Unit {0}
 Stays (step.Ends note) = ⊥
 
--- what holds if the input ended before a request stood whole
+-- true if the input ended before a whole request came
 abbrev pub IfEnded : Result Step ConnFault → Type 0 → Type 0
 IfEnded (Ok step.CleanEnd) Fact = Fact
 IfEnded (Ok (step.Stays note)) Fact = Unit {0}

@@ -1,4 +1,4 @@
--- No part of what is promised: private contracts cite it. What a request is told, between what the bureau answers and what is written.
+-- No part of what is promised: private contracts cite it. The answer to a request, between the bureau and what is written.
 use Rattle.std.specs.Prelude.{◌≡◌, ℕ, Bool, true, List, length, Option, None, Ok, Err}
 use Rattle.log_lines.specs.Words.{word_of}
 use Rattle.log_lines.specs.declared.note.Note.{Note}
@@ -48,14 +48,14 @@ pub record IsToldAs (verb place : List ℕ) (told : Told) (is_bare closes : Bool
   pub status : note.status ≡ code_of (status_numbered (answer_told told).status)
   pub went : note.went ≡ length (told_text told is_bare closes)
 
--- what is told is right for what was asked, and the tables are those after it
+-- the answer is right for the question, and the tables are those after it
 abbrev pub IsTold : Tables → What → Bool → Told → Tables → Type 0
 IsTold this what has_token (Answered reply) next =
     (call : Caller × Call) × (what ≡ Ok call) × IsStep this (record { caller = call.0; call = call.1; answer = reply_as reply }) next
 IsTold this what has_token (Refused refusal) next = (what ≡ Err refusal) × (next ≡ this)
 IsTold this what has_token NoRoom next = (has_token ≡ true) × (next ≡ this)
 
--- told from a look-up of the token alone: no answer of the desk's, nor that there is no room
+-- an answer from a look-up of the token alone: none of the desk's, nor that there is no room
 abbrev pub IsOfLookUp : Told → Type 0
 IsOfLookUp (Answered reply) = ⊥
 IsOfLookUp (Refused refusal) = Unit {0}

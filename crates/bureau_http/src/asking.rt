@@ -1,4 +1,4 @@
-//! What a whole request asks, and what it is told.
+//! The question of a whole request, and the answer to it.
 ghost use Rattle.std.specs.Prelude.{◌≡◌, true};
 ghost use Rattle.bureau.specs.Call.{report_on};
 ghost use Rattle.bureau.specs.Calls.{call_as};
@@ -21,7 +21,7 @@ use mcs_reader::Id;
 use questions::{Report, Wanted};
 use requests::{Action, Refusal, Request, Routes};
 
-/// Asks the desk what a whole request asks, and answers what it is told, and whose token it has.
+/// Asks the desk what a whole request asks. It returns the answer, and the caller whose token the request has.
 ///
 /// First the caller counts, then the path, the method, and the ids in the path; then the call goes to the desk.
 pub(crate) fn answer_to<D: Desk>(
@@ -98,7 +98,7 @@ fn call_of<'a>(action: Action, request: &Request, bytes: &'a [u8]) -> Call<'a>
     }
 }
 
-// The call for what is wanted of a report on a zone.
+// The call for a report on a zone, or for the plan of one.
 fn report_call<'a>(report: Report, wanted: Wanted, zone: Id) -> Call<'a>
     ensures { call_as result ≡ report_on report wanted zone }
 {

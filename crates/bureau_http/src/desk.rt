@@ -1,4 +1,4 @@
-//! A desk: who has a token, and what is answered to a call. The bureau over any store and judge is one.
+//! Desks: they know whose a token is, and answer calls. The bureau over any store and judge is one.
 ghost use Rattle.std.specs.Prelude.{◌≡◌, IfOk, IfSome};
 ghost use Rattle.catalogue.specs.View.{IsLawful, Tells, View};
 ghost use Rattle.bureau.specs.Answering.{IsAnswered};
@@ -11,15 +11,15 @@ ghost use Rattle.bureau_store.specs.Tables.{Tables};
 use bureau::{Call, Reply};
 use bureau_store::{Caller, StoreFault};
 
-/// What answers calls, over any store and any judge.
+/// Answers calls, over any store and any judge.
 ///
-/// What is told of its tables is told if they are this product's own as the call begins and what lies below has
-/// returned what was written, up to the call's end.
+/// What a call tells of the tables is promised only if they were this product's own as the call began, and if what
+/// lies below has returned what was written, up to the call's end.
 pub trait Desk {
-    /// How the desk is looked at, with its tables.
+    /// The view of the desk, with its tables.
     ghost tables_view: { View Self Tables };
 
-    /// The caller whose token this is, or `None` if no caller has it.
+    /// Finds the caller whose token this is, or `None` if no caller has it.
     ///
     /// # Errors
     ///
@@ -30,13 +30,13 @@ pub trait Desk {
             (λ this. found ≡ caller_with this.callers token.now)) }
         ensures proper { IfOk result (λ found. IfSome found IsProper) };
 
-    /// What is answered to a call: a step of the bureau that all callers share. What is told from the tables was told
-    /// by a desk that is open.
+    /// Answers a call, by a step of the bureau that all callers share. An answer from the tables comes only from a
+    /// desk that is open.
     fn answer(&mut self, caller: &Caller, call: &Call<'_>) -> Reply
         requires { IsProper caller.now }
         ensures { IsAnswered tables_view self.old self.new
             (record { caller = caller.now; call = call_as call.now; answer = reply_as result }) };
 
-    /// What the view keeps to.
+    /// The laws of the view.
     ghost tables_lawful: { IsLawful tables_view };
 }

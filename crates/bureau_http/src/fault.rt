@@ -13,14 +13,14 @@ pub enum ConnFault {
     /// A read failed, or was interrupted when no retry was left.
     #[error("the connection can't be read")]
     Read,
-    /// A write failed, took no byte, or was interrupted when no retry was left. Of the reply in hand a front
-    /// part was written, and the replies before it whole.
+    /// A write failed, took no byte, or was interrupted when no retry was left. A front part of the reply in
+    /// hand was written, and the replies before it whole.
     #[error("the connection can't be written")]
     Write,
     /// The input ended inside a request.
     #[error("the connection ended inside a request")]
     EndInside,
-    /// Memory ran out before the request in hand stood whole. It wasn't given to the bureau.
+    /// Memory ran out before the request in hand had come whole. It wasn't given to the bureau.
     #[error("memory ran out")]
     Memory,
 }

@@ -1,4 +1,4 @@
-//! What holds of the bytes of every connection.
+//! Laws on the bytes of every connection.
 ghost use Rattle.std.specs.Prelude.{◌≡◌, ℕ, List};
 ghost use Rattle.bureau_http.specs.Asked.{Asked};
 ghost use Rattle.bureau_http.specs.Connection.{IsConnection, IsOwn, Stop};

@@ -1,10 +1,12 @@
 //! The desk over connections: from the bytes that come in to the bytes that go out (RFC 9112).
 //!
-//! - [`Desk`]: what answers calls
-//! - [`serve_one`]: one connection, to its end; [`Served`], [`ConnFault`]
-//! - [`serve_next`]: the next request of a connection; [`Step`], with what the log notes of it; [`Retries`]
-//! - [`serve_list`]: connections in memory, one after the other; [`RunFault`]
-//! - [`replay`]: the same over a store in memory that begins with the callers of a file, with any judge
+//! - [`Desk`]: answers calls
+//! - [`serve_one`]: serves one connection, to its end; [`Served`], [`ConnFault`]
+//! - [`serve_next`]: serves the next request of a connection; [`Step`], with what the log notes of it;
+//!   [`Retries`]
+//! - [`serve_list`]: serves connections in memory, one after the other; [`RunFault`]
+//! - [`replay`]: does the same over a store in memory that begins with the callers of a file, with any
+//!   judge
 //! - [`one_connection`]: a law: a connection's bytes are requests and a stop in one way only
 //!
 //! ```

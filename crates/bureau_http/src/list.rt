@@ -13,9 +13,9 @@ use faults::NoMemory;
 use requests::Routes;
 use std::alloc::Global;
 
-/// Serves connections one after the other, each to its end, and gives what was written to each.
+/// Serves connections one after the other, each to its end, and returns what it wrote to each.
 ///
-/// A connection that ends inside a request ends alone.
+/// A connection that ends inside a request ends only itself.
 ///
 /// # Errors
 ///
@@ -48,6 +48,7 @@ fn serve_each<D: Desk>(
         AreServedAs (IsKeptRun D.tables_view desk.old desk.new) this
         (map (λ connection. connection.items) connections.now) result) }
 {
+    // These two do nothing. Their contracts are laws that the proof of this contract cites.
     isolation();
     repeats();
     let mut written = Vec::new(alloc);
@@ -66,7 +67,7 @@ fn serve_each<D: Desk>(
     Ok(written)
 }
 
-// Serves a connection, and gives what was written to it.
+// Serves a connection, and returns what it wrote to it.
 fn replies_to<D: Desk>(
     alloc: Global,
     desk: &mut D,

@@ -1,4 +1,4 @@
-//! What the log notes of a request.
+//! The log's notes of requests.
 ghost use Rattle.std.specs.Prelude.{◌≡◌, [], true};
 ghost use Rattle.log_lines.specs.Words.{none};
 ghost use Rattle.bureau_http.specs.Noted.{caller_word};
@@ -12,7 +12,7 @@ use bureau_store::Caller;
 use log_lines::{Note, Word};
 use requests::Request;
 
-/// What is noted of a whole request that a caller, if it is one's, was told this.
+/// The note of a whole request of this caller, if it is one's, with this answer.
 pub(crate) fn note_of(
     told: &Told,
     caller: Option<Caller>,
@@ -37,7 +37,7 @@ pub(crate) fn note_of(
     }
 }
 
-/// What is noted of a head that is refused, of which so many bytes came.
+/// The note of a head that is refused, of which so many bytes came.
 pub(crate) fn note_refused(told: &Told, came: usize, is_bare: bool) -> Note
     ensures caller { result.caller ≡ none }
     ensures told { IsToldAs [] [] told.now is_bare true result }

@@ -17,8 +17,8 @@ use std::alloc::Global;
 use verdicts::Judge;
 
 /// Serves connections one after the other over a store in memory that begins with the callers of a file and nothing
-/// else, and gives what was written to each. It is told what that is if the judge is right for every content, as a
-/// judge that keeps nothing is, and a new one.
+/// else. It returns what it wrote to each. The contract says what that is if the judge is right for every content:
+/// a judge that keeps nothing is, and so is a new one.
 ///
 /// # Errors
 ///
@@ -46,7 +46,7 @@ fn callers_in(alloc: Global, text: &[u8]) -> Result<Vec<CallerRow>, AnyFault>
     Ok(callers(alloc, text)?)
 }
 
-// What is written to connections that are served with these callers.
+// Serves connections with these callers, and returns what it wrote to each.
 fn serve_rows<J: Judge<ListStore> + Drop>(
     alloc: Global,
     judge: J,
@@ -62,7 +62,7 @@ fn serve_rows<J: Judge<ListStore> + Drop>(
     serve_store(alloc, judge, store, connections)
 }
 
-// What is written to connections that a store is served to.
+// Serves connections over a store, and returns what it wrote to each.
 fn serve_store<J: Judge<ListStore> + Drop>(
     alloc: Global,
     judge: J,

@@ -1,4 +1,4 @@
-//! Replies, from what is told to the bytes on the wire.
+//! Replies, from the answer to the bytes on the wire.
 ghost use Rattle.std.specs.Prelude.{◌≡◌, ◌++◌, ◌+◌, ◌≤◌, [], length, IfErr, OnOk, if◌then◌else◌};
 ghost use Rattle.std.specs.Io.KnownBytes.{Appends};
 ghost use Rattle.arrayvec.specs.ArrayVec.{array_vec_len};
@@ -18,12 +18,12 @@ use transfer::write_whole;
 // The bytes of a reply that go out in one write.
 const ROOM: usize = 1024;
 
-/// What a request is told.
+/// The answer to a request.
 #[derive(Debug, Drop)]
 pub(crate) enum Told {
-    /// What the bureau answers.
+    /// The bureau's answer.
     Answered(Reply),
-    /// Why it isn't given to the bureau.
+    /// The reason why the request isn't given to the bureau.
     Refused(Refusal),
     /// There was no room to learn whose token it has.
     NoRoom,
@@ -85,7 +85,7 @@ impl Told {
         self.head(closes).status.code().as_u16()
     }
 
-    // How many bytes the reply has.
+    // The number of bytes of the reply.
     pub(crate) fn len(&self, is_bare: bool, closes: bool) -> usize
         ensures { result ≡ length (told_text self.now is_bare closes) }
     {
@@ -116,7 +116,7 @@ impl Told {
     }
 }
 
-// The status of a number, of those that the bureau answers.
+// The status with this number, of those that the bureau answers.
 fn status_numbered(number: u16) -> Status
     ensures { result ≡ status_numbered number }
 {

@@ -25,25 +25,25 @@ use transfer::{Intake, RETRIES};
 // The most requests of a connection.
 const MOST_REQUESTS: u64 = 10_000;
 
-/// What a connection that was served to its end had.
+/// The amount of a connection that was served to its end.
 #[derive(Clone, Copy, Debug, PartialEq, Eq)]
 pub struct Served {
-    /// How many replies were written.
+    /// The number of replies that were written.
     pub requests: u64,
 }
 
-/// What came next in a connection.
+/// The next step of a connection.
 #[derive(Drop)]
 pub enum Step {
     /// The end of its input.
     CleanEnd,
-    /// A request, whose reply doesn't end the connection, and what is noted of it.
+    /// A request whose reply doesn't end the connection, with its note for the log.
     Stays(Note),
-    /// A request, whose reply ends the connection, and what is noted of it.
+    /// A request whose reply ends the connection, with its note for the log.
     Ends(Note),
 }
 
-/// How many interrupted reads and writes are made again.
+/// The number of interrupted reads and writes that are made again.
 #[derive(Clone, Copy, Debug)]
 pub struct Retries {
     /// Reads.
@@ -60,8 +60,8 @@ pub struct Retries {
 ///
 /// [`ConnFault::Read`] and [`ConnFault::Write`] if a read or write fails, or is interrupted for the 65th time in this
 /// connection; [`ConnFault::EndInside`] if its input ends inside a request; and [`ConnFault::Memory`] if memory runs
-/// out before the request in hand stands whole. The replies to the requests before it were written whole, and no
-/// request after it was served. After `Read` and `Memory` no request that had come whole is left unanswered.
+/// out before the request in hand has come whole. The replies to the requests before it were written whole, and no
+/// request after it was served. After `Read` and `Memory` every request that had come whole was answered.
 pub fn serve_one<D: Desk, R: Read, W: Write>(
     alloc: Global,
     desk: &mut D,
@@ -76,6 +76,7 @@ pub fn serve_one<D: Desk, R: Read, W: Write>(
         (IsServed (IsLawfulRun D.tables_view desk.old desk.new) this
         (R.remaining reader.new) (W.contents writer.old) (W.contents writer.new) result)) }
 {
+    // It does nothing. Its contract is a law that the proof of this contract cites.
     repeats();
     let routes = Routes::new(alloc)?;
     serve_connection(alloc, desk, &routes, reader, writer)
@@ -96,6 +97,7 @@ pub(crate) fn serve_connection<D: Desk, R: Read, W: Write>(
         (IsServed (IsKeptRun D.tables_view desk.old desk.new) this
         (R.remaining reader.new) (W.contents writer.old) (W.contents writer.new) result)) }
 {
+    // It does nothing. Its contract is a law that the proof of this contract cites.
     repeats();
     let mut intake = Intake::new(alloc);
     let mut retries = Retries {
@@ -124,16 +126,16 @@ pub(crate) fn serve_connection<D: Desk, R: Read, W: Write>(
     }
 }
 
-/// Serves what stands next in a connection: reads its request at this ordinal, counted from 1, answers it, and
+/// Serves the next request of a connection: it reads the request at this ordinal, counted from 1, answers it, and
 /// writes the reply. Bytes that came further stay in the intake, for the next one.
 ///
 /// It reads no byte if a whole request is at hand. If the input ends before, the bytes that came stay in the intake. In
-/// any case the bytes that are left, in the intake and in the reader, are the last of those that were there.
+/// any case the bytes that are left, in the intake and in the reader, are the last ones of those that were there.
 ///
 /// # Errors
 ///
-/// [`ConnFault::Read`], [`ConnFault::EndInside`] and [`ConnFault::Memory`] if no request stands whole; the desk is
-/// asked nothing then. [`ConnFault::Write`] if the request was answered, and a front part of the reply written.
+/// [`ConnFault::Read`], [`ConnFault::EndInside`] and [`ConnFault::Memory`] if no whole request came; then the desk was
+/// asked nothing. [`ConnFault::Write`] if the request was answered, and a front part of the reply written.
 pub fn serve_next<D: Desk, R: Read, W: Write>(
     desk: &mut D,
     routes: &Routes,
@@ -193,7 +195,7 @@ fn ends_after(request: &Request, ordinal: u64) -> bool
     request.closes() || ordinal >= MOST_REQUESTS
 }
 
-// Answers a whole request, and writes the reply. What is noted of it.
+// Answers a whole request, writes the reply, and returns the note for the log.
 fn serve_request<D: Desk, W: Write>(
     desk: &mut D,
     routes: &Routes,

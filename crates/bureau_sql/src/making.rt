@@ -73,6 +73,7 @@ pub fn init<S: Alter>(conn: &mut Connection<S>, callers: &[CallerRow]) -> Result
     if !is_empty(conn) {
         return Err(StoreFault::Shape);
     }
+    // It does nothing. Its contract tells the proof that the types of the callers make them fit to be written.
     fit::callers(callers);
     let made = found(conn, callers);
     let _settled = conn.is_autocommit();

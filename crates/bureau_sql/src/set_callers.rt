@@ -66,6 +66,7 @@ impl<S: Alter> SqlStore<S> {
     {
         self.check_open(StoreFault::Device)?;
         self.recent.forget();
+        // It does nothing. Its contract tells the proof that the types of the callers make them fit to be written.
         fit::callers(callers);
         let made = replace(&mut self.conn, names, callers);
         self.made(made)

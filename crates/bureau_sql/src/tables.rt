@@ -116,6 +116,7 @@ impl<S: Alter> Store for SqlStore<S> {
     {
         self.check_open(StoreFault::Device)?;
         self.recent.forget();
+        // It does nothing. Its contract tells the proof that the types of the effect make it fit to be written.
         fit::effect(effect);
         let made = changes::make(self.alloc, &mut self.conn, number, reply, effect);
         self.made(made)

@@ -115,6 +115,7 @@ pub fn serve_rounds<S: Store, J: Judge<S>, R: Rounds>(
         (R.is_over rounds.new) count) }
     ensures within { StaysWithin connections.old connections.new }
 {
+    // These three do nothing. Their contracts are laws that the proof of this contract cites.
     isolation();
     repeats();
     later_bytes();
@@ -139,6 +140,8 @@ fn go_in_rounds<S: Store, J: Judge<S>, R: Rounds>(
 {
     let mut told = Vec::new(alloc);
     let mut left = count;
+    // Nothing bounds the rounds of a desk, and each loop has to be proved to end. A million rounds a second take 580,000
+    // years to come to this bound.
     for _ in 0..u64::MAX {
         told.clear();
         let turn = go_round(alloc, bureau, routes, connections, rounds, left, &mut told);

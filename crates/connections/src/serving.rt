@@ -36,6 +36,7 @@ pub fn serve_events<D: Desk>(
         held_by connections.new.slots.items
         ≤ connections.old.shares.limit + 16384 * length connections.old.slots.items }
 {
+    // These three do nothing. Their contracts are laws that the proof of this contract cites.
     isolation();
     repeats();
     later_bytes();

@@ -11,13 +11,13 @@ use Rattle.log_lines.specs.Words.{none}
 abbrev pub three_digits : ℕ → List ℕ
 three_digits n = (48 + n / 100) ∷ two_digits (n % 100)
 
--- `1994-11-06T08:49:37.123Z`, by the numbers of a second and how many milliseconds of it have gone
+-- `1994-11-06T08:49:37.123Z`, by the numbers of a second and the milliseconds of it that have gone
 abbrev pub stamp_text : Parts → ℕ → List ℕ
 stamp_text p millis = four_digits p.year ++ codes "-" ++ two_digits p.mon ++ codes "-" ++ two_digits p.day ++ codes "T"
     ++ time_of_day p ++ codes "." ++ three_digits millis ++ codes "Z"
 
--- The word of the time so many nanoseconds after 1970 began: that of the second of the calendar which comes so many seconds after; and
--- from the year 10000 on none.
+-- The word of the time so many nanoseconds after 1970 began: that of the calendar's second so many seconds after. From the
+-- year 10000 on it is none.
 abbrev pub IsStamp : ℕ → List ℕ → Type 0
 IsStamp nanos word =
     ((date : HttpDate) × (unix_secs date ≡ nanos / 1000000000) × (word ≡ stamp_text date.parts (nanos % 1000000000 / 1000000)))

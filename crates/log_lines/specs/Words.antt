@@ -1,4 +1,4 @@
--- What a line of the log shows of a text.
+-- A text as a line of the log shows it.
 use Rattle.std.specs.Prelude.{ℕ, ◌≤◌, ◌&&◌, List, [], ◌∷◌, length, map, take, nat_le, if◌then◌else◌}
 use Rattle.std.specs.List.{AllByRecursion}
 
@@ -13,15 +13,15 @@ AreShown text = AllByRecursion IsShown text
 abbrev pub IsWord : List ℕ → Type 0
 IsWord text = (1 ≤ length text) × (length text ≤ 64) × AreShown text
 
--- what is shown of a byte: itself, or a question mark
+-- a byte as a line shows it: itself, or a question mark
 abbrev pub shown : ℕ → ℕ
 shown b = if nat_le 33 b && nat_le b 126 then b else 63
 
--- what stands if there is no text
+-- the word for no text
 abbrev pub none : List ℕ
 none = 45 ∷ []
 
--- what is shown of a text: its first 64 bytes
+-- a text as a line shows it: its first 64 bytes
 abbrev pub word_of : List ℕ → List ℕ
 word_of [] = none
 word_of (b ∷ text) = map shown (take 64 (b ∷ text))

@@ -1,11 +1,11 @@
 //! Lines of the log of a desk: one for each request, and one for each connection that failed.
 //!
 //! Each line is a few [`Word`]s, parted by single blanks, and a line end. A word has no blank and nothing that
-//! isn't printed, so whatever a client sends, it writes no line of its own. No call takes memory.
+//! isn't printed, so no client can begin a line of its own. No call takes memory.
 //!
-//! - [`Word`]: what a line shows of a text
+//! - [`Word`]: a text as a line shows it
 //! - [`time_word`]: the word of a time
-//! - [`Note`]: what is noted of a request; [`request_line`]: its line
+//! - [`Note`]: the facts on a request; [`request_line`]: its line
 //! - [`fault_line`]: the line of a connection that failed
 //! - [`Line`]: a line, with its line end
 //!

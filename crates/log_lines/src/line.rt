@@ -48,7 +48,8 @@ impl Line {
     }
 }
 
-/// The line of a request whose reply went out whole: when that was, and how many milliseconds the request took.
+/// The line of a request whose reply went out whole: the time of that, and the milliseconds that the request
+/// took.
 pub fn request_line(stamp: &Word, note: &Note, took: u64) -> Line
     ensures { result ≡ request_text stamp.now note.now took }
 {
@@ -64,7 +65,7 @@ pub fn request_line(stamp: &Word, note: &Note, took: u64) -> Line
     Line::of(bytes)
 }
 
-/// The line of a connection that failed: when that was, and the number of the fault.
+/// The line of a connection that failed: the time of that, and the number of the fault.
 pub fn fault_line(stamp: &Word, number: u16) -> Line
     ensures { result ≡ fault_text stamp.now number }
 {
@@ -76,7 +77,7 @@ pub fn fault_line(stamp: &Word, number: u16) -> Line
     Line::of(bytes)
 }
 
-// A word and the blank after it.
+// Appends a word and a blank.
 fn put_field(bytes: &mut ArrayVec<u8, 600>, word: &Word)
     requires room { array_vec_len bytes.old ≤ 530 }
     requires printed { ArePrinted bytes.old.items }
@@ -88,7 +89,7 @@ fn put_field(bytes: &mut ArrayVec<u8, 600>, word: &Word)
     bytes.push(b' ');
 }
 
-// A word.
+// Appends a word.
 fn put(bytes: &mut ArrayVec<u8, 600>, word: &Word)
     requires room { array_vec_len bytes.old ≤ 530 }
     requires printed { ArePrinted bytes.old.items }

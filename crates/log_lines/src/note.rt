@@ -1,7 +1,7 @@
-//! What is noted of a request.
+//! The facts on a request that the log notes.
 use crate::word::Word;
 
-/// What is noted of a request, once it is answered.
+/// The facts on a request that the log notes, once it is answered.
 #[derive(Drop)]
 pub struct Note {
     /// The name of the caller whose token it has.
@@ -12,8 +12,8 @@ pub struct Note {
     pub path: Word,
     /// The status of the reply.
     pub status: u16,
-    /// How many bytes the request has.
+    /// The number of bytes of the request.
     pub came: u64,
-    /// How many bytes the reply has.
+    /// The number of bytes of the reply.
     pub went: u64,
 }

@@ -20,7 +20,7 @@ pub fn time_word(since_1970: Duration) -> Word
     }
 }
 
-// The word of a second, and of so many milliseconds of it.
+// The word of a second, and of some milliseconds of it.
 fn stamp_at(date: &HttpDate, millis: u32) -> Word
     requires { millis < 1000 }
     ensures { result ≡ stamp_text date.now.parts millis }

@@ -29,7 +29,7 @@ impl Model for Word {
 }
 
 impl Word {
-    /// The word that stands if there is no text: `-`.
+    /// The word for no text: `-`.
     pub fn none() -> Word
         ensures { result ≡ none }
     {
@@ -38,8 +38,8 @@ impl Word {
         Word { bytes }
     }
 
-    /// What a line shows of a text: its first 64 bytes, with a question mark for each that is no printed character
-    /// of ASCII, or is a blank; and `-` if the text has none.
+    /// A text as a line shows it: its first 64 bytes, with a question mark for each that is a blank or no printed
+    /// character of ASCII; and `-` if the text is empty.
     pub fn of(text: &[u8]) -> Word
         ensures { result ≡ word_of text.now }
     {
@@ -87,7 +87,7 @@ impl Word {
     }
 }
 
-// As many bytes of a text as a word may have.
+// The first bytes of a text, as many as a word may have.
 fn first(text: &[u8]) -> &[u8]
     ensures first { result.now ≡ take 64 text.now }
     ensures short { length result.now ≤ 64 }
@@ -99,7 +99,7 @@ fn first(text: &[u8]) -> &[u8]
     first
 }
 
-// What a line shows of a byte.
+// A byte as a line shows it.
 fn shown(byte: u8) -> u8
     ensures { result ≡ shown byte }
 {

@@ -1,4 +1,4 @@
--- Where the head of a request ends in the bytes of a connection (RFC 9112, sections 2.1 and 2.2).
+-- The end of a request's head in the bytes of a connection (RFC 9112, sections 2.1 and 2.2).
 use Rattle.std.specs.Prelude.{ℕ, ◌≤◌, ◌+◌, ◌-◌, ◌==◌, ◌&&◌, ◌||◌, Bool, List, [], ◌∷◌, length, filter, take, drop, nat_lt, nat_le, Option, Some, None, option_map, if◌then◌else◌}
 use Rattle.requests.specs.Text.{begins_with}
 use Rattle.requests.specs.declared.front.Front.{Front}
@@ -11,7 +11,7 @@ line_feed = 10
 abbrev pub carriage_return : ℕ
 carriage_return = 13
 
--- how many bytes the line end has that the bytes begin with: LF or CRLF, and 0 if there is none
+-- the number of bytes of the line end with which the bytes begin: LF or CRLF, and 0 if there is none
 abbrev pub line_end_len : List ℕ → ℕ
 line_end_len [] = 0
 line_end_len (b ∷ bytes) =
@@ -21,7 +21,7 @@ line_end_len (b ∷ bytes) =
 abbrev pub is_in_empty_line : ℕ → List ℕ → Bool
 is_in_empty_line b after = b == line_feed || (b == carriage_return && begins_with line_feed after)
 
--- how many bytes the empty lines take that the bytes begin with
+-- the number of bytes of the empty lines with which the bytes begin
 abbrev pub empty_lines_len : List ℕ → ℕ
 empty_lines_len [] = 0
 empty_lines_len (b ∷ bytes) =
@@ -31,15 +31,15 @@ empty_lines_len (b ∷ bytes) =
 abbrev pub without_empty_lines : List ℕ → List ℕ
 without_empty_lines bytes = drop (empty_lines_len bytes) bytes
 
--- how many LF there are
+-- the number of LFs
 abbrev pub feeds : List ℕ → ℕ
 feeds bytes = length (filter (λ b. b == line_feed) bytes)
 
--- how many lines a head has between its first and its blank one
+-- the number of lines that a head has between its first and its blank one
 abbrev pub lines_between : List ℕ → ℕ
 lines_between bytes = feeds (without_empty_lines bytes) - 2
 
--- how many bytes a head has, its blank line among them: it ends with the first LF that a line end follows
+-- the number of bytes of a head, with its blank line: it ends with the first LF that a line end follows
 abbrev pub head_len : List ℕ → Option ℕ
 head_len [] = None
 head_len (b ∷ bytes) =
@@ -62,7 +62,7 @@ abbrev pub front_with : Option ℕ → ℕ → List ℕ → Front
 front_with (Some n) limit bytes = Head n
 front_with None limit bytes = without_end limit bytes
 
--- the front of bytes where a head, with the empty lines before it, may have `limit` bytes
+-- the front of bytes in which a head, with the empty lines before it, may have `limit` bytes
 abbrev pub front_of : ℕ → List ℕ → Front
 front_of limit bytes = front_with (whole_len (take limit bytes)) limit bytes
 
@@ -70,7 +70,7 @@ front_of limit bytes = front_with (whole_len (take limit bytes)) limit bytes
 unfoldable pub head_limit : ℕ
 head_limit = 16384
 
--- a head that is whole lies in the bytes, and is no longer than a head may be
+-- a whole head lies in the bytes, and is no longer than a head may be
 abbrev pub EndsWithin : Front → List ℕ → Type 0
 EndsWithin (Head n) bytes = (n ≤ length bytes) × (n ≤ 16384)
 EndsWithin CleanEnd bytes = Unit {0}

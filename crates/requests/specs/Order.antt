@@ -1,4 +1,4 @@
--- What a whole head decides, in the order of the checks: its lines, HTTP's grammar, its target, its body's length.
+-- The decision on a whole head, in the order of the checks: its lines, HTTP's grammar, its target, its body's length.
 use Rattle.std.specs.Prelude.{◌≡◌, ℕ, Bool, true, false, List, [], codes, nat_lt, Option, Some, None, Result, Ok, Err}
 use Rattle.std.specs.Str.{bytes_eq}
 use Rattle.httparse.specs.Grammar.{RequestHead, ReadsRequest}
@@ -23,7 +23,7 @@ abbrev pub by_length : Parts → Result ℕ Refusal → Decision
 by_length parts (Ok n) = Ok (parts, n)
 by_length parts (Err refusal) = Err (refusal, is_bare parts)
 
--- what a head decides with this method, this target, this minor version and these fields
+-- the decision on a head with this method, this target, this minor version and these fields
 abbrev pub by_parts : List ℕ → List ℕ → ℕ → List Pair → Decision
 by_parts method target minor fields = by_length (parts_by method target minor fields) (body_len method target fields)
 
@@ -31,7 +31,7 @@ abbrev pub by_head : Option RequestHead → Decision
 by_head None = Err (BadRequest, false)
 by_head (Some head) = by_parts head.method head.target head.minor (pairs_of head)
 
--- what the bytes are read as: a whole head, or none
+-- the reading of the bytes: a whole head, or none
 abbrev pub IsRead : List ℕ → Option RequestHead → Type 0
 IsRead bytes None = IsNoHead bytes
 IsRead bytes (Some head) = ReadsRequest bytes head []
@@ -40,11 +40,11 @@ abbrev pub IsDecidedBy : Bool → List ℕ → Decision → Type 0
 IsDecidedBy true bytes decision = decision ≡ Err (HeadTooLarge, false)
 IsDecidedBy false bytes decision = (read : Option RequestHead) × IsRead bytes read × (decision ≡ by_head read)
 
--- a head of over 64 lines between its first and its blank one is refused; any other decides by what it is read as
+-- a head of over 64 lines between its first and its blank one is refused; the decision on any other is by its reading
 abbrev pub IsDecided : List ℕ → Decision → Type 0
 IsDecided bytes decision = IsDecidedBy (nat_lt 64 (lines_between bytes)) bytes decision
 
--- what an answer says
+-- the decision that an answer has
 abbrev pub decision_of : List ℕ → Result (Head × ℕ) Refused → Decision
 decision_of bytes (Ok ready) = Ok (parts_at bytes ready.0, ready.1)
 decision_of bytes (Err refused) = Err (refused.refusal, refused.is_bare)

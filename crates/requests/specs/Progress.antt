@@ -1,4 +1,4 @@
--- Looking for the request that stands next in bytes that come piece by piece.
+-- The search for the next request in bytes that come piece by piece.
 use Rattle.std.specs.Prelude.{◌≡◌, ℕ, ◌+◌, ◌<◌, ◌≤◌, Bool, List, ◌++◌, length, take, Ok, Err}
 use Rattle.requests.specs.NextRequest.{IsUnfinished}
 use Rattle.requests.specs.Order.{IsDecided}
@@ -8,8 +8,8 @@ use Rattle.requests.specs.declared.head_end.Ending.TheVariants.{EmptyLines}
 use Rattle.requests.specs.declared.progress.Progress.{Progress}
 use Rattle.requests.specs.declared.refusal.Refusal.{Refusal}
 
--- What is known of these bytes: no head ends in those that were seen; and once a head has come, they hold no whole request as
--- long as they are fewer than it has.
+-- No head ends in those of the bytes that were looked at. Once a head has come, the bytes hold no whole request as long as
+-- they are fewer than it has.
 pub record HasSeen (bytes : List ℕ) (progress : Progress) : Type 0 where
   pub within : progress.seen ≤ length bytes
   pub short : progress.seen ≤ 16384
@@ -17,7 +17,7 @@ pub record HasSeen (bytes : List ℕ) (progress : Progress) : Type 0 where
   pub fewer : 0 < progress.wanted → length bytes < progress.wanted → IsUnfinished bytes
   pub enough : 0 < progress.wanted → progress.wanted ≤ length bytes → IsUnfinished bytes → ⊥
 
--- It is known of these bytes, and stays so whatever comes after them.
+-- It is so of these bytes, and stays so whatever comes after them.
 abbrev pub Sees : List ℕ → Progress → Type 0
 Sees bytes progress = (more : List ℕ) → HasSeen (bytes ++ more) progress
 

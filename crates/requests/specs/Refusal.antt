@@ -1,4 +1,4 @@
--- How a refusal is answered.
+-- The replies to refusals.
 use Rattle.std.specs.Prelude.{ℕ, List, codes, Option, Some, None}
 use Rattle.requests.specs.declared.refusal.Refusal.{Refusal}
 use Rattle.requests.specs.declared.resource.Resource.{Resource}
@@ -14,7 +14,7 @@ status_of Refusal.LengthRequired = Status.LengthRequired
 status_of Refusal.TooLarge = Status.PayloadTooLarge
 status_of Refusal.HeadTooLarge = Status.HeadTooLarge
 
--- what the path names, if it has other methods
+-- the resource that the path names, if it has other methods
 abbrev pub allow_of_refusal : Refusal → Option Resource
 allow_of_refusal Refusal.BadRequest = None
 allow_of_refusal Refusal.UnknownToken = None

@@ -24,7 +24,7 @@ type_line is_json = line (codes "content-type: ") (type_name is_json)
 abbrev pub length_line : ℕ → List ℕ
 length_line length = line (codes "content-length: ") (decimal length)
 
--- the methods that there are, if the one asked for isn't among them
+-- the methods of the resource, if the one asked for isn't among them
 abbrev pub allow_line : Option Resource → List ℕ
 allow_line None = []
 allow_line (Some resource) = line (codes "allow: ") (allow_of resource)
@@ -36,7 +36,7 @@ challenge_line status = if code_of status == 401 then line (codes "www-authentic
 abbrev pub close_line : Bool → List ℕ
 close_line closes = if closes then line (codes "connection: ") (codes "close") else []
 
--- the head of a reply, its empty line among it
+-- the head of a reply, with its empty line
 abbrev pub head_text : ReplyHead → List ℕ
 head_text head =
     status_line head.status ++ (type_line head.is_json ++ (length_line head.length ++ (allow_line head.allow

@@ -1,4 +1,4 @@
--- What a request asks for: what of it its bytes alone decide (RFC 9112, sections 3, 6 and 9).
+-- The parts of a request that its bytes alone decide (RFC 9112, sections 3, 6 and 9).
 use Rattle.std.specs.Prelude.{ℕ, ◌==◌, ◌&&◌, ◌||◌, not, Bool, List, [], ◌∷◌, length, map, codes, nat_le, nat_lt, Option, Some, None, Result, Ok, Err, option_map, if◌then◌else◌}
 use Rattle.std.specs.List.{list_all, list_any}
 use Rattle.std.specs.Option.{option_zip}
@@ -16,7 +16,7 @@ use Rattle.requests.specs.declared.refusal.Refusal.{Refusal}
 use Rattle.requests.specs.declared.refusal.Refusal.TheVariants.{BadRequest, NotFound, MethodNotAllowed, LengthRequired, TooLarge}
 use Rattle.requests.specs.declared.resource.Resource.{Resource}
 
--- what a head asks for: its method, its target, the caller's token and the number of a change, if there is just one of each,
+-- the parts of a head: its method, its target, the caller's token and the number of a change, if there is just one of each,
 -- and whether the connection ends after the reply
 pub record Parts : Type 0 where
   pub method : List ℕ
@@ -59,7 +59,7 @@ question_mark = 63
 abbrev pub is_path : List ℕ → Bool
 is_path target = begins_with slash target && list_all (λ b. nat_lt b 128) target
 
--- the path: what stands before the first `?`
+-- the path: the target before the first `?`
 abbrev pub path_of : List ℕ → List ℕ
 path_of target = before question_mark target
 
@@ -77,7 +77,7 @@ sysmod_in path = id_in (before slash (after slash (after slash (after slash (aft
 
 -- ---- the action
 
--- what a method asks for at a path that names this, if the path has the ids that are wanted
+-- the action of a method at a resource that has it, with the ids of the path; none if an id that it needs is none
 abbrev pub action_at : Resource → List ℕ → List ℕ → Option Action
 action_at Resource.Publication method path = Some Action.Publish
 action_at (Resource.Catalogue form) method path = Some (Action.Counts form)
@@ -97,7 +97,7 @@ abbrev pub resource_or : Option Resource → List ℕ → List ℕ → Result Ac
 resource_or None method path = Err NotFound
 resource_or (Some resource) method path = if takes resource method then action_or (action_at resource method path) else Err (MethodNotAllowed resource)
 
--- what a method asks for at a path: first the path, then the method, then the ids in the path
+-- the action of a method at a path: first the path counts, then the method, then the ids in the path
 abbrev pub asked : List ℕ → List ℕ → Result Action Refusal
 asked method path = resource_or (resource_at path) method path
 
@@ -118,11 +118,11 @@ within most n = if nat_le n most then Ok n else Err TooLarge
 abbrev pub has_body : List ℕ → Bool
 has_body method = bytes_eq method (codes "POST") || bytes_eq method (codes "PUT")
 
--- the length that a `content-length` tells
+-- the length by a `content-length`
 abbrev pub length_told : List ℕ → Result ℕ Refusal
 length_told value = if is_number value then within longest_body (digits_value 10 value) else Err BadRequest
 
--- the length if there is none
+-- the length without one
 abbrev pub length_untold : List ℕ → Result ℕ Refusal
 length_untold method = if has_body method then Err LengthRequired else Ok 0
 

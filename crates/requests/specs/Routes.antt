@@ -15,7 +15,7 @@ use Rattle.questions.specs.declared.report.Report.TheVariants.{ErrSysmods, Missi
 use Rattle.questions.specs.declared.wanted.Form.TheVariants.{Text, Json}
 use Rattle.questions.specs.declared.wanted.Wanted.TheVariants as wanted
 
--- the paths, with what they name
+-- the paths, with the resources that they name
 unfoldable pub table : List (List ℕ × Resource)
 table =
     (codes "/publish", Resource.Publication)
@@ -57,7 +57,7 @@ with_entry rows entry = with_route rows (entry.0.now, entry.1)
 unfoldable pub routes : Rows
 routes = fold with_route [] table
 
--- what a path names, if anything
+-- the resource that a path names, if it names one
 abbrev pub resource_at : List ℕ → Option Resource
 resource_at path = option_map (λ route. route.value) (first routes path)
 
@@ -76,7 +76,7 @@ methods_of Resource.Chain = codes "GET" ∷ []
 abbrev pub is_among : List (List ℕ) → List ℕ → Bool
 is_among names method = list_any (bytes_eq method) names
 
--- whether there is such a method at a path
+-- whether a path has such a method
 abbrev pub takes : Resource → List ℕ → Bool
 takes resource = is_among (methods_of resource)
 

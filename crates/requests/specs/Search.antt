@@ -1,5 +1,5 @@
--- No part of what is promised: private contracts cite it. The search for the end of a head, byte by byte: what stands
--- before the next byte decides.
+-- No part of what is promised: private contracts cite it. The search for the end of a head, byte by byte: the bytes before
+-- the next one decide.
 use Rattle.std.specs.Prelude.{ℕ, ◌+◌, ◌==◌, Bool, true, false, List, [], ◌∷◌, Option, Some, None, Result, Ok, Err, if◌then◌else◌}
 use Rattle.requests.specs.HeadEnd.{line_feed, carriage_return}
 use Rattle.requests.specs.declared.front.Front.{Front}
@@ -24,7 +24,7 @@ abbrev pub go_on : Option Ending → (Ending → Result ℕ Ending) → Result �
 go_on None search = Ok 1
 go_on (Some ending) search = counted (search ending)
 
--- how many bytes there are up to the end of the head, or the ending after them all
+-- the number of bytes up to the end of the head, or the ending after them all
 unfoldable pub search : Ending → List ℕ → Result ℕ Ending
 search ending [] = Err ending
 search ending (b ∷ bytes) = go_on (after ending b) (λ next. search next bytes)
@@ -48,7 +48,7 @@ ends_clean (Err Line) = false
 ends_clean (Err Feed) = false
 ends_clean (Err FeedReturn) = false
 
--- what the end of the input makes of an ending
+-- the front of an input that ends after such bytes
 abbrev pub ended : Ending → Front
 ended EmptyLines = CleanEnd
 ended EmptyLinesReturn = EndInside

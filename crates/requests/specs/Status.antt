@@ -18,7 +18,7 @@ code_of UnprocessableEntity = 422
 code_of HeadTooLarge = 431
 code_of ServiceUnavailable = 503
 
--- what a status is called
+-- the phrase of a status
 abbrev pub phrase_of : Status → List ℕ
 phrase_of Success = codes "OK"
 phrase_of BadRequest = codes "Bad Request"

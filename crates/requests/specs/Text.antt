@@ -9,15 +9,15 @@ abbrev pub begins_with : ℕ → List ℕ → Bool
 begins_with byte [] = false
 begins_with byte (b ∷ bytes) = b == byte
 
--- how many bytes stand before the first of this kind
+-- the number of bytes before the first of this kind
 abbrev pub before_len : ℕ → List ℕ → ℕ
 before_len byte text = prefix_len (λ b. not (b == byte)) text
 
--- what stands before the first of this kind, or the whole text if there is none
+-- the text before the first of this kind, or the whole text if there is none
 abbrev pub before : ℕ → List ℕ → List ℕ
 before byte text = take (before_len byte text) text
 
--- what stands after it, which is nothing if there is none
+-- the text after it; empty if there is none
 abbrev pub after : ℕ → List ℕ → List ℕ
 after byte text = drop (before_len byte text + 1) text
 
@@ -35,7 +35,7 @@ trim_end text = take (length text - suffix_len is_blank text) text
 abbrev pub trimmed : List ℕ → List ℕ
 trimmed text = trim_end (trim_start text)
 
--- the elements of a comma list: what stands between its commas
+-- the elements of a comma list: the texts between its commas
 abbrev pub comma : ℕ
 comma = 44
 

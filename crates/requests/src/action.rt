@@ -1,4 +1,4 @@
-//! What a request asks the bureau for.
+//! The actions that requests ask for.
 ghost use Rattle.std.specs.Prelude.{◌≡◌, ℕ, List};
 ghost use Rattle.requests.specs.Request as Spec;
 
@@ -6,18 +6,18 @@ use crate::resource::Resource;
 use mcs_reader::Id;
 use questions::{Form, Report, Wanted};
 
-/// What a request asks the bureau for.
+/// The action that a request asks for.
 #[derive(Clone, Copy, Debug, PartialEq, Eq)]
 pub enum Action {
     /// Publishes the statements in the body.
     Publish,
-    /// Tells how much is published.
+    /// Counts what is published.
     Counts(Form),
     /// Lists the caller's zones.
     ListZones(Form),
     /// Puts the zone in the body in place of this one.
     PutZone(Id),
-    /// Takes this zone away.
+    /// Drops this zone.
     DropZone(Id),
     /// Puts the fix categories in the body in place of this zone's.
     PutPatterns(Id),
@@ -25,11 +25,12 @@ pub enum Action {
     PutReceived,
     /// Reports on this zone, or plans what the report asks for.
     Report(Report, Wanted, Id),
-    /// Tells what to install in this zone with this SYSMOD.
+    /// Finds the plan for this SYSMOD in this zone.
     Chain(Id, Id),
 }
 
-// What a method asks for at what a path with these ids names, if it has those that are wanted.
+// The action of a method at a resource that has it, with the ids of the path. `None` if an id that
+// the action needs is none. At a zone the method is DELETE or PUT.
 pub(crate) fn action_at(
     resource: Resource,
     method: &[u8],

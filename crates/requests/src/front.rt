@@ -12,10 +12,10 @@ use transfer::{Intake, TransferFault};
 // The most bytes of a head, with the empty lines before it.
 pub(crate) const HEAD_LIMIT: usize = 16_384;
 
-// How many bytes of a body a read asks for at most.
+// The most bytes of a body that one read asks for.
 const CHUNK: usize = 65_536;
 
-/// What the bytes of a connection begin with.
+/// The beginning of a connection's bytes.
 #[derive(Clone, Copy, Debug, PartialEq, Eq)]
 pub enum Front {
     /// Empty lines, if any, and a head: so many bytes together.
@@ -85,7 +85,7 @@ pub(crate) fn within_limit(bytes: &[u8]) -> &[u8]
     shown
 }
 
-// Goes on with a search in bytes of which the first were seen.
+// Goes on with a search in bytes of which the first were searched already.
 pub(crate) fn find_on(bytes: &[u8], seen: usize, ending: Ending) -> Result<usize, Ending>
     requires within { seen ≤ length bytes.now }
     requires seen { search Ending.EmptyLines (take seen bytes.now) ≡ Err ending }
@@ -99,7 +99,7 @@ pub(crate) fn find_on(bytes: &[u8], seen: usize, ending: Ending) -> Result<usize
     }
 }
 
-// What the end of the input makes of a head that has no end.
+// The front of an input that ends before its head does.
 fn at_end(ending: Ending) -> Front
     ensures { result ≡ ended ending }
 {
@@ -110,8 +110,8 @@ fn at_end(ending: Ending) -> Front
     }
 }
 
-/// Reads until there are so many bytes, or the input ends, and no byte if they are at hand. The bytes stay in
-/// the intake.
+/// Reads until there are so many bytes, or the input ends. It reads no byte if they are at hand. The bytes stay
+/// in the intake.
 ///
 /// # Errors
 ///

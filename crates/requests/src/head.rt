@@ -1,4 +1,4 @@
-//! The head of a request: where in its bytes stands what the bureau is asked for.
+//! The head of a request: the spans of its parts in its bytes.
 ghost use Rattle.std.specs.Prelude.{◌≡◌, true, option_map, IfErr};
 ghost use Rattle.requests.specs.Head.{LiesIn, parts_at};
 ghost use Rattle.requests.specs.Order.{is_bare};
@@ -13,7 +13,7 @@ use crate::text::cut;
 use httparse::spans::Span;
 use std::str;
 
-/// Where the parts of a head are in its bytes.
+/// The spans of a head's parts in its bytes.
 #[derive(Clone, Copy, Debug)]
 pub struct Head {
     pub(crate) method: Span,
@@ -75,11 +75,11 @@ impl Head {
         change_number(self.number?.of(bytes))
     }
 
-    /// What the request asks the bureau for, by its path, its method and the ids in the path.
+    /// The action that the request asks for, by its path, its method and the ids in the path.
     ///
     /// # Errors
     ///
-    /// In this order: no such path; no such method there; a part of the path that is no id.
+    /// The first of these: no such path; no such method there; a part of the path that is no id.
     pub fn action(&self, bytes: &[u8], routes: &Routes) -> Result<Action, Refusal>
         requires within { LiesIn bytes.now self.now }
         requires path { Spec.is_path (parts_at bytes.now self.now).target ≡ true }

@@ -5,7 +5,7 @@ ghost use Rattle.requests.specs.Search.{search, after};
 
 use crate::text::begins_with;
 
-/// What stands before the next byte of a connection, as far as the end of a head is concerned.
+/// The bytes before the next one of a connection, as far as the end of a head depends on them.
 #[derive(Clone, Copy, Debug, PartialEq, Eq)]
 pub(crate) enum Ending {
     /// Empty lines, or nothing.
@@ -36,7 +36,7 @@ impl Ending {
     }
 }
 
-/// How many bytes there are up to the end of a head, or else the ending after them all.
+/// The number of bytes up to the end of a head, or else the ending after them all.
 pub(crate) fn find_end(start: Ending, bytes: &[u8]) -> Result<usize, Ending>
     ensures found { result ≡ search start bytes.now }
     ensures within { IfOk result (λ count. count ≤ length bytes.now) }
@@ -51,7 +51,7 @@ pub(crate) fn find_end(start: Ending, bytes: &[u8]) -> Result<usize, Ending>
     Err(ending)
 }
 
-// How many lines a head has between its first and its blank one.
+// The number of lines that a head has between its first and its blank one.
 pub(crate) fn lines_between(bytes: &[u8]) -> usize
     ensures { result ≡ HeadEnd.lines_between bytes.now }
 {
@@ -65,7 +65,7 @@ fn feeds(bytes: &[u8]) -> usize
     bytes.iter().filter(|b| **b == b'\n').count()
 }
 
-// How many bytes the empty lines take that the bytes begin with.
+// The number of bytes of the empty lines at the beginning.
 fn empty_lines_len(bytes: &[u8]) -> usize
     ensures value { result ≡ HeadEnd.empty_lines_len bytes.now }
     ensures within { result ≤ length bytes.now }

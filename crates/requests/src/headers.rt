@@ -8,7 +8,7 @@ ghost use Rattle.httparse.specs.Spans.{header_bytes, span_bytes, IsHeaderWithin,
 use crate::text::has_word;
 use httparse::spans::{HeaderSpan, Span};
 
-// Where the value of the field with this name is, if just one field has it.
+// The span of the value of the field with this name, if just one field has it.
 pub(crate) fn sole(bytes: &[u8], fields: &[HeaderSpan], name: &[u8]) -> Option<Span>
     requires { AreWithin bytes.now fields.now }
     ensures value { option_map (span_bytes bytes.now) result

@@ -1,17 +1,17 @@
 //! Requests from the bytes of a connection, and the heads of replies to its bytes (RFC 9112).
 //!
-//! A connection's bytes are empty lines and heads, each with the body after it. [`read_front`] reads
-//! as far as the end of a head, [`decide`] says what the head is and how long its body, [`read_whole`]
-//! reads the body. What came further stays in the intake, for the next request.
+//! The bytes of a connection are empty lines and heads, each with the body after it. [`read_front`] reads as far
+//! as the end of a head, [`decide`] says what the head is and how long its body, and [`read_whole`] reads the
+//! body. Bytes that came further stay in the intake, for the next request.
 //!
-//! - [`read_front`], [`Front`]: what the bytes of a connection begin with
+//! - [`read_front`], [`Front`]: the beginning of a connection's bytes
 //! - [`decide`]: a whole [`Head`] and the length of its body, or why it is [`Refused`]
-//! - [`read_next`], [`NextRequest`], [`Request`]: all of this together; [`one_reading`]: it can be read in one way
-//!   only; [`later_bytes`]: bytes that come later change nothing of it
-//! - [`Progress`]: whether bytes that come piece by piece hold a whole request yet, at a look at each byte
-//! - [`Head`]: the token, the number and the [`Action`] that a request asks for, by its [`Routes`]
-//! - [`Resource`]: what a path names
-//! - [`read_whole`]: so many bytes, or all that there are
+//! - [`read_next`], [`NextRequest`], [`Request`]: all of this together; [`one_reading`]: bytes can be read in one
+//!   way only; [`later_bytes`]: bytes that come later change nothing of it
+//! - [`Progress`]: whether bytes that come piece by piece hold a whole request yet; it looks at each byte once
+//! - [`Head`]: the token, the number and the [`Action`] of a request, by its [`Routes`]
+//! - [`Resource`]: the resource that a path names
+//! - [`read_whole`]: so many bytes, or all if there are fewer
 //! - [`Refusal`]: why a request isn't given to the bureau, with its [`Status`] and its text
 //! - [`ReplyHead`], [`head_text`]: the head of a reply
 //!

@@ -1,4 +1,4 @@
-//! Reading what stands next in a connection: a whole request, or its end.
+//! Reading the next request of a connection: a whole one, or the connection's end.
 ghost use Rattle.std.specs.Prelude.{◌≡◌, ◌^◌, ◌<◌, ◌≤◌, true, drop, length, option_map, take, IfOk, IfErr, IfSome};
 ghost use Rattle.std.specs.Io.KnownBytes.{Keeps, prepend_known};
 ghost use Rattle.requests.specs.Head.{LiesIn};
@@ -18,7 +18,7 @@ use crate::routes::Routes;
 use std::io::Read;
 use transfer::{Intake, TransferFault};
 
-/// What stands next in a connection.
+/// The next request of a connection, or its end.
 #[derive(Clone, Copy, Debug)]
 pub enum NextRequest {
     /// The end of the input, if no request has begun.
@@ -31,7 +31,7 @@ pub enum NextRequest {
     Whole(Request),
 }
 
-/// Where a whole request is at the front of an intake's bytes.
+/// The spans of a whole request at the front of an intake's bytes.
 #[derive(Clone, Copy, Debug)]
 pub struct Request {
     pub(crate) head: Head,
@@ -90,7 +90,7 @@ impl Request {
         self.head.path(self.head_bytes(bytes))
     }
 
-    /// How many bytes it has: its head, with the empty lines before it, and its body.
+    /// The number of its bytes: its head, with the empty lines before it, and its body.
     pub fn len(&self) -> usize
         requires { request_len self.now < 2 ^ 64 }
         ensures { result ≡ request_len self.now }
@@ -114,11 +114,11 @@ impl Request {
         self.head.number(self.head_bytes(bytes))
     }
 
-    /// What it asks the bureau for, by its path, its method and the ids in the path.
+    /// The action that it asks for, by its path, its method and the ids in the path.
     ///
     /// # Errors
     ///
-    /// In this order: no such path; no such method there; a part of the path that is no id.
+    /// The first of these: no such path; no such method there; a part of the path that is no id.
     pub fn action(&self, bytes: &[u8], routes: &Routes) -> Result<Action, Refusal>
         requires { IsAt bytes.now self.now }
         ensures action { result ≡ Spec.action_of (parts_in bytes.now self.now) }
@@ -138,7 +138,7 @@ impl Request {
     }
 }
 
-/// Reads what stands next in a connection, and no byte if that is at hand. Its bytes stay in the intake.
+/// Reads the next request of a connection, and no byte if that is at hand. Its bytes stay in the intake.
 ///
 /// # Errors
 ///
@@ -171,7 +171,7 @@ pub fn read_next<R: Read>(
     }
 }
 
-// Reads what a head of so many bytes is followed by.
+// Reads the request of a head of so many bytes.
 fn read_request<R: Read>(
     intake: &mut Intake,
     reader: &mut R,

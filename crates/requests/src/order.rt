@@ -1,4 +1,4 @@
-//! What a whole head decides, in the order of the checks.
+//! Deciding on a whole head, in the order of the checks.
 ghost use Rattle.std.specs.Prelude.{◌≡◌, ◌<◌, ◌≤◌, true, length, IfNone, IfOk, IfSome};
 ghost use Rattle.httparse.specs.Spans.{IsRequestOf, IsRequestWithin, IsWithin, span_bytes};
 ghost use Rattle.requests.specs.Head.{IsNoHead, LiesIn, parts_at};
@@ -22,18 +22,18 @@ const MOST_FIELDS: usize = 64;
 /// Why a request is refused before its body is read.
 #[derive(Clone, Copy, Debug, PartialEq, Eq)]
 pub struct Refused {
-    /// Why.
+    /// The reason.
     pub refusal: Refusal,
     /// The reply has no body, since only its head was asked for.
     pub is_bare: bool,
 }
 
-/// Reads a whole head, from its empty lines to its blank line, and the length of the body after it.
+/// Reads a whole head, from its empty lines to its blank line, and finds the length of the body after it.
 ///
 /// # Errors
 ///
-/// In this order: over 64 lines between the first and the blank one; no head of HTTP's grammar; a target that is no
-/// path; a body in chunks, without a length, with one that doesn't read, or one over the limit.
+/// The first of these: over 64 lines between the first and the blank one; no head of HTTP's grammar; a target that
+/// is no path; a body in chunks, without a length, with one that doesn't read, or one over the limit.
 pub fn decide(bytes: &[u8]) -> Result<(Head, u64), Refused>
     ensures decided { IsDecided bytes.now (decision_of bytes.now result) }
     ensures within { IfOk result (λ ready. LiesIn bytes.now ready.0) }
@@ -51,8 +51,7 @@ pub fn decide(bytes: &[u8]) -> Result<(Head, u64), Refused>
     decide_by(bytes, &spans, fields)
 }
 
-// Where the parts are of a head that is as long as its bytes. `None` if they are no head, or one with more than 64
-// fields.
+// The spans of a head that is as long as its bytes. `None` if they are no head, or one with more than 64 fields.
 fn whole_head(bytes: &[u8], fields: &mut [HeaderSpan]) -> Option<RequestSpans>
     requires { length fields.old ≡ 64 }
     ensures read { IfSome result (IsRequestOf bytes.now fields.new) }
@@ -66,7 +65,7 @@ fn whole_head(bytes: &[u8], fields: &mut [HeaderSpan]) -> Option<RequestSpans>
     }
 }
 
-// Why a head is refused that isn't read. One that is read has a line for each field, so its lines are not counted.
+// The refusal of a head that can't be read. One that can has a line for each field, so its lines are not counted.
 fn unread(bytes: &[u8]) -> Refusal
     ensures many { 64 < HeadEnd.lines_between bytes.now → result ≡ refusal.HeadTooLarge }
     ensures few { HeadEnd.lines_between bytes.now ≤ 64 → result ≡ refusal.BadRequest }
@@ -78,7 +77,7 @@ fn unread(bytes: &[u8]) -> Refusal
     }
 }
 
-// What a head decides with these spans and these fields.
+// The decision on a head with these spans and these fields.
 fn decide_by(
     bytes: &[u8],
     spans: &RequestSpans,
@@ -104,7 +103,7 @@ fn decide_by(
     }
 }
 
-// Where the parts are of a head with these spans and these fields.
+// The spans of the parts of a head with these spans and these fields.
 fn head_by(bytes: &[u8], spans: &RequestSpans, fields: &[HeaderSpan]) -> Head
     requires method { IsWithin (length bytes.now) spans.now.method }
     requires target { IsWithin (length bytes.now) spans.now.path }

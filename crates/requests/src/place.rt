@@ -1,4 +1,4 @@
-//! What a path names, with the ids in it.
+//! The resource that a path names, with the ids in the path.
 ghost use Rattle.std.specs.Prelude.{◌≡◌};
 ghost use Rattle.matchit.specs.Params.{AllText};
 ghost use Rattle.requests.specs.Places.{id_taken, taken};
@@ -10,10 +10,10 @@ use matchit::Params;
 use mcs_reader::Id;
 use percent_encoding::percent_decode;
 
-/// What a path names.
+/// The resource that a path names, with the ids in the path.
 #[derive(Clone, Copy)]
 pub(crate) struct Place {
-    /// What stands there.
+    /// The resource.
     pub(crate) resource: Resource,
     /// The zone in the path, if that is an id.
     pub(crate) zone: Option<Id>,

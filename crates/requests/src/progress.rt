@@ -7,22 +7,22 @@ use crate::front::{HEAD_LIMIT, find_on, within_limit};
 use crate::head_end::Ending;
 use crate::order::decide;
 
-/// How far the bytes of a connection were looked through for the request that stands next.
+/// A search for the next request, as far as the bytes of a connection were looked at.
 ///
-/// Of bytes that came since, it looks at these alone. So a head that comes byte by byte costs no more than one that
-/// comes at once.
+/// It looks only at bytes that came since. So a head that comes byte by byte costs no more than one that comes at
+/// once.
 #[derive(Clone, Copy, Debug)]
 pub struct Progress {
     // No head ends in so many bytes.
     pub(crate) seen: usize,
-    // What stands before the next one.
+    // The bytes before the next one.
     pub(crate) ending: Ending,
-    // How many bytes the request has, once its head is there; 0 before.
+    // The number of bytes of the request, once its head is there; 0 before.
     pub(crate) wanted: usize,
 }
 
 impl Progress {
-    /// Nothing was looked at.
+    /// A search that has looked at nothing.
     pub fn new() -> Progress
         ensures { (bytes : List ℕ) → Sees bytes result }
     {
@@ -33,15 +33,15 @@ impl Progress {
         }
     }
 
-    /// How many bytes the request has that stands next, once its head has come, and 0 before.
+    /// The number of bytes of the next request, once its head has come, and 0 before.
     pub fn wanted(&self) -> usize
         ensures { result ≡ self.now.wanted }
     {
         self.wanted
     }
 
-    /// Whether these bytes hold neither a whole request nor a head that is refused. They begin with those that it
-    /// saw before.
+    /// Whether these bytes hold neither a whole request nor a head that is refused. They have to begin with those
+    /// of the call before.
     pub fn is_short(&mut self, bytes: &[u8]) -> bool
         requires { Sees bytes.now self.old }
         ensures sees { Sees bytes.now self.new }
@@ -69,7 +69,7 @@ impl Progress {
     }
 }
 
-// How many bytes the request has whose head are the first so many, or `None` if it is refused.
+// The number of bytes of the request whose head are the first so many, or `None` if it is refused.
 fn request_len(bytes: &[u8], head_len: usize) -> Option<usize>
     requires within { head_len ≤ length bytes.now }
     requires short { head_len ≤ 16384 }

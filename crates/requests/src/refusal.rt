@@ -10,7 +10,7 @@ use crate::status::Status;
 pub enum Refusal {
     /// A head that isn't one, a target that is no path, or a `content-length` that doesn't read.
     BadRequest,
-    /// The token is missing, twice there, or no caller's.
+    /// The token is missing, comes twice, or is no caller's.
     UnknownToken,
     /// No such path, or a part of it that is no id.
     NotFound,
@@ -25,7 +25,7 @@ pub enum Refusal {
 }
 
 impl Refusal {
-    /// The status that it is answered with.
+    /// The status of the reply.
     pub fn status(self) -> Status
         ensures { result ≡ Spec.status_of self }
     {
@@ -40,7 +40,7 @@ impl Refusal {
         }
     }
 
-    /// What the path names, if it has other methods.
+    /// The resource that the path names, if it has other methods.
     pub fn allow(self) -> Option<Resource>
         ensures { result ≡ Spec.allow_of_refusal self }
     {
@@ -50,7 +50,7 @@ impl Refusal {
         }
     }
 
-    /// The body that it is answered with.
+    /// The body of the reply.
     pub fn text(self) -> &'static [u8]
         ensures { result.now ≡ Spec.text_of self }
     {

@@ -8,7 +8,7 @@ use crate::status::Status;
 use arrayvec::ArrayVec;
 use itoa::Buffer;
 
-/// What the head of a reply tells.
+/// The parts of a reply's head.
 #[derive(Clone, Copy, Debug, PartialEq, Eq)]
 pub struct ReplyHead {
     /// The status.
@@ -17,13 +17,13 @@ pub struct ReplyHead {
     pub is_json: bool,
     /// The length of the body, in bytes.
     pub length: u64,
-    /// What the path names, if it has no such method.
+    /// The resource that the path names, if it has no such method.
     pub allow: Option<Resource>,
     /// The connection ends after the reply.
     pub closes: bool,
 }
 
-/// The bytes of a reply's head, with the empty line that ends it. They take no memory.
+/// The bytes of a reply's head, with the empty line that ends it. It takes no memory.
 pub fn head_text(head: &ReplyHead) -> ArrayVec<u8, 512>
     ensures { result.items ≡ Spec.head_text head.now }
 {

@@ -1,4 +1,4 @@
-//! What a head asks for: how long its body is, its number, and the action at its path.
+//! The parts of a head: the length of its body, its number, and the action at its path.
 ghost use Rattle.std.specs.Prelude.{◌≡◌, ◌≤◌, true, IfErr, IfOk, IsAscii, nat_lt, codes};
 ghost use Rattle.std.specs.List.{list_all};
 ghost use Rattle.requests.specs.Headers.{AreWithin, pairs_at, values};
@@ -64,7 +64,7 @@ fn content_length(bytes: &[u8], fields: &[HeaderSpan], method: &[u8]) -> Result<
     }
 }
 
-// The length of a body that `content-length` tells.
+// The length of a body, by the value of `content-length`.
 fn length_in(value: &[u8]) -> Result<u64, Refusal>
     ensures length { result ≡ Spec.length_told value.now }
     ensures bound { IfOk result (λ n. n ≤ 67108864) }
@@ -80,7 +80,7 @@ fn length_in(value: &[u8]) -> Result<u64, Refusal>
     }
 }
 
-// The length of a body that no `content-length` tells.
+// The length of a body without a `content-length`.
 fn length_without(method: &[u8]) -> Result<u64, Refusal>
     ensures length { result ≡ Spec.length_untold method.now }
     ensures bound { IfOk result (λ n. n ≤ 67108864) }
@@ -103,7 +103,7 @@ pub(crate) fn change_number(text: &[u8]) -> Option<u64>
     }
 }
 
-// What a method asks for at a path.
+// The action of a method at a path.
 pub(crate) fn action_by(routes: &Routes, method: &[u8], path: &str) -> Result<Action, Refusal>
     requires { IsAscii path.now }
     ensures action { result ≡ Spec.asked method.now path.now }

@@ -1,10 +1,10 @@
-//! What a path names, and which methods there are.
+//! The resources that paths name, and the methods of each.
 ghost use Rattle.std.specs.Prelude.{◌≡◌, ◌≤◌, ◌∷◌, [], length};
 ghost use Rattle.requests.specs.Routes.{allow_of, is_among, takes};
 
 use questions::{Form, Report, Wanted};
 
-/// What a path names.
+/// The resource that a path names.
 #[derive(Clone, Copy, Debug, PartialEq, Eq)]
 pub enum Resource {
     /// `/publish`
@@ -26,7 +26,7 @@ pub enum Resource {
 }
 
 impl Resource {
-    /// Whether there is such a method here. Methods are compared with regard to case (RFC 9110, section 9.1).
+    /// Whether the resource has such a method. Methods are compared with regard to case (RFC 9110, section 9.1).
     pub(crate) fn takes(self, method: &[u8]) -> bool
         ensures { result ≡ takes self method.now }
     {
@@ -41,7 +41,7 @@ impl Resource {
         }
     }
 
-    /// The methods that there are here, as the line `allow` of a reply has them.
+    /// The methods of the resource, as the line `allow` of a reply has them.
     pub fn allow(self) -> &'static [u8]
         ensures text { result.now ≡ allow_of self }
         ensures len { length result.now ≤ 11 }
@@ -58,7 +58,7 @@ impl Resource {
     }
 }
 
-// Whether a method is the only one that there is.
+// Whether a method is the only one of a resource.
 fn is_only(method: &[u8], name: &[u8]) -> bool
     ensures { result ≡ is_among (name.now ∷ []) method.now }
 {

@@ -13,7 +13,7 @@ use questions::Report::{ErrSysmods, MissingFix};
 use questions::Wanted::{Plan, Rows};
 use std::alloc::Global;
 
-// The paths, each with what it names.
+// The paths, each with the resource that it names.
 static PATHS: [(&str, Resource); 17] = [
     ("/publish", Resource::Publication),
     ("/published", Resource::Catalogue(Text)),
@@ -66,14 +66,14 @@ pub struct Routes {
 }
 
 impl Routes {
-    /// All paths.
+    /// Makes the router of all paths.
     pub fn new(alloc: Global) -> Result<Routes, NoMemory> {
         let mut router = Router::new(alloc);
         put_all(&mut router, &PATHS)?;
         Ok(Routes { router })
     }
 
-    /// What a path names, or `None` if it names nothing.
+    /// The resource that a path names, or `None` if it names none.
     pub fn resource(&self, path: &str) -> Option<Resource>
         ensures { result ≡ Spec.resource_at path.now }
     {
@@ -83,7 +83,7 @@ impl Routes {
         }
     }
 
-    // The same of a path in ASCII, with the ids in it.
+    // The resource that a path in ASCII names, with the ids in the path.
     pub(crate) fn place(&self, path: &str) -> Option<Place>
         requires { IsAscii path.now }
         ensures resource { option_map (λ place. place.resource) result ≡ Spec.resource_at path.now }
@@ -101,7 +101,7 @@ impl Routes {
     }
 }
 
-// Some paths more, one after the other.
+// Puts paths into the router, one after the other.
 fn put_all(router: &mut Router<Resource>, paths: &[(&str, Resource)]) -> Result<(), NoMemory>
     ensures { OnOk result (router.new ≡ fold Spec.with_entry router.old paths.now) }
 {
@@ -111,7 +111,7 @@ fn put_all(router: &mut Router<Resource>, paths: &[(&str, Resource)]) -> Result<
     Ok(())
 }
 
-// One path more. The paths don't conflict, so what fails is the want of memory.
+// Puts a path into the router. The paths don't conflict, so this fails only for want of memory.
 fn put(router: &mut Router<Resource>, path: &str, resource: Resource) -> Result<(), NoMemory>
     ensures { OnOk result (router.new ≡ Spec.with_route router.old (path.now, resource)) }
 {

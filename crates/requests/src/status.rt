@@ -35,7 +35,7 @@ pub enum Status {
 }
 
 impl Status {
-    /// The status as `http` has it.
+    /// The status, as `http` has it.
     pub fn code(self) -> StatusCode
         ensures { result ≡ code_of self }
     {
@@ -63,7 +63,7 @@ impl Status {
         self.code().as_str()
     }
 
-    /// What the status is called, as `http` has it.
+    /// The phrase of the status, as `http` has it.
     pub fn phrase(self) -> &'static str
         ensures text { result.now ≡ phrase_of self }
         ensures len { length result.now ≤ 31 }

@@ -15,7 +15,7 @@ pub(crate) fn begins_with(text: &[u8], byte: u8) -> bool
     }
 }
 
-// What stands before the first of these bytes, and what after it.
+// The text before the first of these bytes, and the text after it.
 #[tactic(auto, using(crate::proofs::TextFacts::cut_fits))]
 pub(crate) fn cut(text: &[u8], byte: u8) -> (&[u8], &[u8])
     ensures before { result.0.now ≡ Spec.before byte text.now }
