@@ -1,4 +1,4 @@
--- What the words of a command line ask for, as clap defines the matches of a command.
+-- The meaning of a command line's words, as clap defines the matches of a command.
 use Rattle.std.specs.Prelude.{◌≡◌, ◌≤◌, ⊤, ℕ, pos, Bool, true, false, List, [], ◌∷◌, codes, map, Option, Some, None, Ok, option_map, string_bytes}
 use Rattle.std.specs.Str.{bytes_eq}
 use Rattle.std.specs.Str.Parse.{ParsesUnsigned}
@@ -36,7 +36,7 @@ number_rule name least most default = record (new_rule name) {
   defaults = default ∷ [];
 }
 
--- `--cache N`: how many frames are kept at most
+-- `--cache N`: the most frames that are kept
 abbrev pub cache_rule : Rule
 cache_rule = number_rule (codes "cache") 1 65536 (codes "1024")
 
@@ -44,11 +44,11 @@ cache_rule = number_rule (codes "cache") 1 65536 (codes "1024")
 abbrev pub port_rule : Rule
 port_rule = number_rule (codes "port") 1 65535 (codes "8080")
 
--- `--connections K`: how many connections are served
+-- `--connections K`: the number of connections that are served
 abbrev pub connections_rule : Rule
 connections_rule = number_rule (codes "connections") 1 1000000 (codes "1000000")
 
--- `--open M`: how many connections are open at once at most
+-- `--open M`: the most connections that are open at once
 abbrev pub open_rule : Rule
 open_rule = number_rule (codes "open") 1 8192 (codes "1024")
 
@@ -162,7 +162,7 @@ command_of (Chain sysmod files) = codes "chain"
 command_of (Callers store callers) = codes "callers"
 command_of (Check store) = codes "check"
 
--- what a line gives for an argument: a text, texts, a number in a range, a flag, or a text that may be left out
+-- the value of an argument in a line: a text, texts, a number in a range, a flag, or a text that may be left out
 pub data Value : Type 0 where
   one : Text → Value
   several : List Text → Value
@@ -170,7 +170,7 @@ pub data Value : Type 0 where
   flag : Bool → Value
   maybe : Option Text → Value
 
--- what a line gives for the names of a report's files
+-- the values of a line for the names of a report's files
 abbrev pub files_given : ReportFiles → List (Text × Value)
 files_given files =
     (codes "zone", one (string_bytes files.zone))
@@ -180,7 +180,7 @@ files_given files =
     ∷ (codes "files", several (map string_bytes files.publications.items))
     ∷ []
 
--- what a line gives for each argument of its command
+-- the values of a line for each argument of its command
 abbrev pub given : Line → List (Text × Value)
 given (Holds file) = (codes "file", one (string_bytes file)) ∷ []
 given (Init store callers) = (codes "store", one (string_bytes store)) ∷ (codes "callers", one (string_bytes callers)) ∷ []
@@ -230,7 +230,7 @@ IsLineIn (Some (name, rows)) line = IsLineWith name rows line
 abbrev pub IsLineOf : List Text → Line → Type 0
 IsLineOf words line = IsLineIn (subcommand_of bureau_app words) line
 
--- what a line says: its command, and what it gives for each argument
+-- the parts of a line: its command, and the value of each argument
 abbrev pub said : Line → Text × List (Text × Value)
 said line = (command_of line, given line)
 

@@ -1,4 +1,5 @@
--- No part of what is promised: private contracts cite it. What each line of a command has a value for, and what is read of matches.
+-- No part of what is promised: private contracts cite it. The arguments for which each line of a command has a value, and
+-- the reading of matches.
 use Rattle.std.specs.Prelude.{◌≡◌, ℕ, false, if◌then◌else◌, List, [], ◌∷◌, codes, Option, Some, None, Result, MatchResult}
 use Rattle.std.specs.Str.{bytes_eq}
 use Rattle.clap.specs.Words.{Row, Text, found_of, rows_of}
@@ -11,7 +12,7 @@ use Rattle.command_line.specs.declared.line.LineFault.TheVariants.{Memory}
 
 -- ---- the arguments of the commands
 
--- a value but for what it is: which kind it is of, and in which range
+-- a value without its content: its form, and its range
 abbrev pub plain : Value → Value
 plain (one text) = one []
 plain (several texts) = several []
@@ -84,7 +85,7 @@ rows_in matches = rows_of (found_of matches)
 abbrev pub IsUnread : Text → List Row → LineFault → Type 0
 IsUnread command rows = IsRefusal Memory (λ _. (line : Line) → IsLineIn (Some (command, rows)) line → ⊥)
 
--- what is read of the matches that name a command, or name none: the line that has them, or nothing
+-- the reading of the matches that name a command, or name none: the line that has them, or nothing
 abbrev pub IsRead : Option (Text × List Row) → Result Line LineFault → Type 0
 IsRead met result = MatchResult result (IsLineIn met) (IsRefusal Memory (λ _. (line : Line) → IsLineIn met line → ⊥))
 

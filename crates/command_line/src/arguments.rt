@@ -9,15 +9,15 @@ use std::alloc::Global;
 /// An argument of a command.
 #[derive(Clone, Copy)]
 pub struct Argument {
-    /// By which it is found among the matches. An option has this name in the words too.
+    /// The name by which it is found among the matches. An option has this name in the words too.
     pub name: &'static str,
-    /// How it is given.
+    /// The form in which it is given.
     pub kind: Kind,
-    /// What the help says of it.
+    /// Its text in the help.
     pub help: &'static str,
 }
 
-/// How an argument is given. First stands what the help calls its value.
+/// The form in which an argument is given. Its first part is the name that the help has for its value.
 #[derive(Clone, Copy)]
 pub enum Kind {
     /// `VALUE`: one value, which must be given.
@@ -28,7 +28,7 @@ pub enum Kind {
     Text(&'static str),
     /// `--NAME VALUE`: a text, which may be left out.
     MaybeText(&'static str),
-    /// `--NAME VALUE`: a number from 1 to this one; if it isn't given, the one in the text.
+    /// `--NAME VALUE`: a number from 1 to this one; if it isn't given, the number in the text.
     Number(&'static str, u32, &'static str),
     /// `--NAME`: a flag.
     Flag,

@@ -48,7 +48,7 @@ fn with_commands<'a>(
     Ok(program)
 }
 
-// The program with the command of one more row. If memory runs out, all of it is let go here.
+// The program with the command of one more row. If memory runs out, all of it is dropped here.
 fn with_command<'a>(
     alloc: Global,
     program: Command<'a>,

@@ -1,9 +1,9 @@
-//! Texts for who runs the program. `docs/FAULTS.md` has the same table with what to do.
+//! Texts for people who run the program. `docs/FAULTS.md` has the same table, with what to do.
 
-/// What `--version` tells.
+/// The text of `--version`.
 pub const VERSION: &str = "0.1.0";
 
-/// What stands below the commands in the text of `--help`.
+/// The text below the commands in `--help`.
 pub const STATUSES_AND_FAULTS: &str = "\
 Exit status: 0 done; 1 the input is refused; 2 the words are not understood, or ask for help or the version;
 3 the machine fails (a device, memory). Where it is 1 or 3, standard error has FAULT, a number and, where

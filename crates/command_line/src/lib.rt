@@ -1,6 +1,6 @@
-//! The command line of the program: what its words ask for, read with `clap`.
+//! The command line of the program, read with `clap`.
 //!
-//! - [`line_of`]: what words ask for, as a [`Line`]; or why they are none, as a [`LineFault`]
+//! - [`line_of`]: reads the words as a [`Line`]; or says as a [`LineFault`] why they are none
 #![tactic(auto)]
 
 mod arguments;

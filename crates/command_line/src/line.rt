@@ -15,21 +15,21 @@ use faults::NoMemory;
 use run_parts::ReportFiles;
 use std::alloc::Global;
 
-/// What a command line asks for.
+/// The command of a command line, with its arguments.
 #[derive(Debug, Drop)]
 pub enum Line {
-    /// `holds FILE`: the hold book of a file, or of standard input if FILE is `-`.
+    /// `holds FILE`: prints the hold book of a file, or of standard input if FILE is `-`.
     Holds {
         file: String,
     },
-    /// `init STORE CALLERS`: a store is made in a file, and has these callers.
+    /// `init STORE CALLERS`: makes a store in a file, with these callers.
     Init {
         store: String,
         callers: String,
     },
-    /// `serve --port P --cache N --connections K --open M --log STORE`: K connections to a port of 127.0.0.1, 1 to
-    /// 65,535, are served side by side over the store in a file. N frames at most are kept, 1 to 65,536, K is 1 to
-    /// 1,000,000, and M of them at most are open at once, 1 to 8,192. A log is kept if `--log` is given.
+    /// `serve --port P --cache N --connections K --open M --log STORE`: serves K connections to a port of 127.0.0.1,
+    /// 1 to 65,535, side by side over the store in a file. It keeps N frames at most, 1 to 65,536. K is 1 to
+    /// 1,000,000, and M of them at most are open at once, 1 to 8,192. It keeps a log if `--log` is given.
     Serve {
         port: u16,
         cache: u32,
@@ -38,36 +38,37 @@ pub enum Line {
         log: bool,
         store: String,
     },
-    /// `replay --cache N CALLERS FILE..`: what is written to connections whose bytes stand in files, over a store in
-    /// memory that has these callers. N frames at most are kept, 1 to 65,536.
+    /// `replay --cache N CALLERS FILE..`: writes the replies to connections whose bytes are in files, over a store in
+    /// memory that has these callers. It keeps N frames at most, 1 to 65,536.
     Replay {
         cache: u32,
         callers: String,
         files: Vec<String>,
     },
-    /// `migrate STORE`: a store of version 1 in a file becomes one of version 2.
+    /// `migrate STORE`: makes a store of version 1 in a file one of version 2.
     Migrate {
         store: String,
     },
-    /// `errsysmods --zone ZONE [--received R] [--name NAME] FILE..`: the exception SYSMOD report on a zone.
+    /// `errsysmods --zone ZONE [--received R] [--name NAME] FILE..`: prints the exception SYSMOD report on a zone.
     ErrSysmods {
         files: ReportFiles,
     },
-    /// `missingfix --zone ZONE --categories C [--received R] [--name NAME] FILE..`: the missing fix report on a zone.
+    /// `missingfix --zone ZONE --categories C [--received R] [--name NAME] FILE..`: prints the missing fix report on
+    /// a zone.
     MissingFix {
         files: ReportFiles,
     },
-    /// `chain --zone ZONE [--name NAME] SYSMOD FILE..`: the verdict on a SYSMOD in a zone.
+    /// `chain --zone ZONE [--name NAME] SYSMOD FILE..`: prints the verdict on a SYSMOD in a zone.
     Chain {
         sysmod: String,
         files: ReportFiles,
     },
-    /// `callers STORE CALLERS`: the store in a file has these callers, and no others.
+    /// `callers STORE CALLERS`: gives the store in a file these callers, and no others.
     Callers {
         store: String,
         callers: String,
     },
-    /// `check STORE`: the store in a file is looked through, and stays as it is.
+    /// `check STORE`: looks through the store in a file, and leaves it as it is.
     Check {
         store: String,
     },
@@ -76,14 +77,14 @@ pub enum Line {
 /// Why words are no line.
 #[derive(Debug, Drop)]
 pub enum LineFault {
-    /// The words aren't understood, or ask for help: what to tell the user.
+    /// The command line is wrong, or asks for help: the text for the user.
     Words(String),
     /// Memory ran out.
     Memory,
 }
 
 impl LineFault {
-    // What these words tell, if there is memory for them.
+    // The text of these words, if there is memory for it.
     pub(crate) fn in_words(text: Result<String, NoMemory>) -> LineFault {
         match text {
             Ok(text) => LineFault::Words(text),
@@ -100,13 +101,13 @@ impl From<NoMemory> for LineFault {
     }
 }
 
-/// What the words after the program's name ask for.
+/// Reads the words after the program's name.
 pub fn line_of(alloc: Global, words: &[String]) -> Result<Line, LineFault>
     ensures line { IfOk result (λ line. IsLineOf (map string_bytes words.now) line) }
     ensures understood { OnOk result (fault_of bureau_app (map string_bytes words.now) ≡ []) }
     ensures one_line { HasOneLine (map string_bytes words.now) }
 
-    // Words that clap understands, and whose matches are a line's, are refused for want of memory alone.
+    // If clap understands the words, and their matches are a line's, they are refused only for want of memory.
     ensures refused { IfErr result (IsRefusal Memory
         (λ _. (line : Line) → IsLineOf (map string_bytes words.now) line
         → fault_of bureau_app (map string_bytes words.now) ≢ [])) }
@@ -236,12 +237,12 @@ fn check_with(alloc: Global, matches: &ArgMatches) -> Result<Line, LineFault>
     })
 }
 
-// What is told if no command is named. clap lets no such words through.
+// The text if no command is named. clap lets no such words through.
 fn unnamed(alloc: Global) -> LineFault {
     LineFault::in_words(String::from_str(alloc, "no command is named\n"))
 }
 
-// What clap has to tell.
+// The text that clap has for an error.
 fn told(alloc: Global, error: &clap::Error) -> LineFault
     ensures { kind_of error.now ≡ ErrorKind.OutOfMemory → result ≡ Memory }
 {

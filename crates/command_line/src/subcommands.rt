@@ -10,11 +10,11 @@ use crate::arguments::{
 
 /// A command of the program.
 pub struct Subcommand {
-    /// By which the words name it.
+    /// The name by which the words name it.
     pub name: &'static str,
-    /// What the help says of it.
+    /// Its text in the help.
     pub about: &'static str,
-    /// In the order in which the help lists them.
+    /// Its arguments, in the order in which the help lists them.
     pub arguments: &'static [Argument],
 }
 

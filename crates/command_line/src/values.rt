@@ -1,4 +1,4 @@
-//! What the matches of a command have for its arguments.
+//! The values that the matches of a command have for its arguments.
 ghost use Rattle.std.specs.Prelude.{◌≡◌, ℕ, codes, map, option_map, string_bytes, IfOk, IfSome, IsNone, MatchResult};
 ghost use Rattle.clap.specs.Words.{all_of, first_of, one_of};
 ghost use Rattle.command_line.specs.Line.{files_given, HasValues, IsNumberIn, IsPort, is_set};
@@ -10,7 +10,7 @@ use faults::NoMemory;
 use run_parts::ReportFiles;
 use std::alloc::Global;
 
-/// The names of a report's files. What the command has no argument for isn't among its matches.
+/// The names of a report's files. The matches have none for which the command has no argument.
 pub fn files(alloc: Global, matches: &ArgMatches, command: &str) -> Result<ReportFiles, LineFault>
     requires zone { WantsText command.now (codes "zone") }
     requires publications { WantsTexts command.now (codes "files") }
@@ -91,7 +91,7 @@ pub fn port(alloc: Global, matches: &ArgMatches) -> Result<u16, LineFault>
     }
 }
 
-// What is told if a command lacks an argument. clap lets no such words through.
+// The text if a command lacks an argument. clap lets no such words through.
 fn lacking(alloc: Global, command: &str, name: &str) -> LineFault {
     LineFault::in_words(format!(in alloc; "{command} lacks {name}\n"))
 }

@@ -1,4 +1,4 @@
--- What happens to connections that stand beside one desk, each in its slot: one item after the other.
+-- What happens to connections beside one desk, each in its slot: one item after the other.
 use Rattle.std.specs.Prelude.{◌≡◌, ◌≢◌, ◌⊎◌, ℕ, ◌+◌, ◌≤◌, List, [], ◌∷◌, ◌++◌, length, sum_by, Option, Some, None, slice_get, slice_set}
 use Rattle.std.specs.List.{flat_map}
 use Rattle.log_lines.specs.declared.note.Note.{Note}
@@ -16,7 +16,7 @@ use Rattle.connections.specs.declared.event.Event as code
 abbrev pub fresh : Connection
 fresh = record { held = []; out = []; note = None; ordinal = 1; phase = Open }
 
--- what stands in each slot
+-- the connection in each slot
 abbrev pub Slots : Type 0
 Slots = List (Option Connection)
 
@@ -41,7 +41,7 @@ event_of (code.TheVariants.Ended slot) = ended slot
 event_of (code.TheVariants.Failed slot) = failed slot
 event_of (code.TheVariants.Late slot) = late slot
 
--- the slot of which it is told
+-- the slot of its connection
 abbrev pub slot_of : Event → ℕ
 slot_of (came slot) = slot
 slot_of (bytes slot text) = slot
@@ -50,7 +50,7 @@ slot_of (ended slot) = slot
 slot_of (failed slot) = slot
 slot_of (late slot) = slot
 
--- how many connections an event tells to have come, and all of these
+-- the number of connections that come with an event, and with all of these
 abbrev pub comers_in : Event → ℕ
 comers_in (came slot) = 1
 comers_in (bytes slot text) = 0
@@ -62,7 +62,7 @@ comers_in (late slot) = 0
 abbrev pub comers : List Event → ℕ
 comers events = sum_by comers_in events
 
--- no connection stands in any slot
+-- all slots are free
 abbrev pub AreFree : Slots → Type 0
 AreFree slots = (slot : ℕ) (connection : Connection) → slice_get slots slot ≢ Some (Some connection)
 
@@ -100,12 +100,12 @@ IsEnded old new = (old.phase ≡ Open) × (new ≡ record { held = old.held; out
 abbrev pub IsReady : Connection → Type 0
 IsReady old = (old.out ≡ []) × (old.phase ≢ Last)
 
--- the request is the one that stands next in its bytes
+-- the request is the next one in its bytes
 abbrev pub Asks : List CallerRow → Connection → Asked → Type 0
 Asks rows old asked = IsLast rows old.ordinal old.held asked ⊎ ((following : List ℕ) × IsRequest rows old.ordinal old.held asked following)
 
--- The request that stands next was answered. Its reply has to go out, with this note beside it, and the bytes after the request are
--- held on; or it was the last.
+-- The next request was answered. Its reply has to go out, with this note beside it, and the bytes after the request are
+-- still held; or it was the last.
 abbrev pub PutsWith : Note → List CallerRow → Exchange → Connection → Connection → Type 0
 PutsWith note rows exchange old new =
     ((following : List ℕ) × IsRequest rows old.ordinal old.held exchange.asked following
@@ -113,14 +113,14 @@ PutsWith note rows exchange old new =
     ⊎ (IsLast rows old.ordinal old.held exchange.asked
     × (new ≡ record { held = []; out = exchange_text exchange; note = Some note; ordinal = old.ordinal; phase = Last }))
 
--- The note is what the log notes of that request.
+-- The note is the log's note of that request.
 abbrev pub Puts : List CallerRow → Exchange → Connection → Connection → Type 0
 Puts rows exchange old new = (note : Note) × IsNoted rows old.held exchange note × PutsWith note rows exchange old new
 
 abbrev pub Answers : List CallerRow → Exchange → Connection → Connection → Type 0
 Answers rows exchange old new = IsReady old × IsAnswered exchange × Puts rows exchange old new
 
--- the request that stands next was answered, and there was no memory for the reply
+-- the next request was answered, and there was no memory for the reply
 abbrev pub Loses : List CallerRow → Exchange → Connection → Type 0
 Loses rows exchange old = IsReady old × IsAnswered exchange × Asks rows old exchange.asked
 
@@ -134,10 +134,10 @@ IsStarved old = IsReady old × IsUnfinished old.held
 
 -- ---- items
 
--- An event does what it says, and if bytes were written, these are known; or it is told of a slot where it can't be, and
--- changes nothing; or there was no memory for the bytes that came, and the connection ends. The next request of a connection
--- is answered, and its reply has to go out; or there was no memory for the reply, and the connection ends; or there was none
--- to look at what came, and it ends. Or a connection ends well.
+-- An event does as it says, and if bytes were written, these are known. Or it can't happen in that slot, and changes
+-- nothing. Or there was no memory for the bytes that came, and the connection ends. The next request of a connection is
+-- answered, and its reply has to go out. Or there was no memory for the reply, and the connection ends; or there was none to
+-- look at what came, and it ends. Or a connection ends well.
 pub data Item : Type 0 where
   happens : Event → Item
   went : ℕ → List ℕ → Item
@@ -148,7 +148,7 @@ pub data Item : Type 0 where
   starved : ℕ → Item
   finished : ℕ → Item
 
--- (what was written stands in an item of its own)
+-- (an item of its own has the bytes that were written)
 abbrev pub Happens : Slots → Event → Slots → Type 0
 Happens old (came slot) new = (slice_get old slot ≡ Some None) × (new ≡ slice_set old slot (Some fresh))
 Happens old (bytes slot text) new = Moves old slot new (Grows text)
@@ -157,7 +157,7 @@ Happens old (ended slot) new = Moves old slot new IsEnded
 Happens old (failed slot) new = Leaves old slot new (λ before. Unit {0})
 Happens old (late slot) new = Leaves old slot new (λ before. Unit {0})
 
--- no connection stands there of which this holds
+-- the slot has no connection of which this is true
 abbrev pub NoneIs : Slots → ℕ → (Connection → Type 0) → Type 0
 NoneIs old slot Is = (before : Connection) → slice_get old slot ≡ Some (Some before) → Is before → ⊥
 
@@ -186,7 +186,7 @@ Steps rows old (item ∷ items) new = (mid : Slots) × Step rows old item mid ×
 
 -- ---- what items have
 
--- the slot of which an item is
+-- the slot of an item
 abbrev pub slot_in : Item → ℕ
 slot_in (happens event) = slot_of event
 slot_in (went slot text) = slot
@@ -212,7 +212,7 @@ exchange_in (finished slot) = []
 abbrev pub exchanges_of : List Item → List Exchange
 exchanges_of items = flat_map exchange_in items
 
--- what was told
+-- the event of an item, if it is one
 abbrev pub event_in : Item → List Event
 event_in (happens event) = event ∷ []
 event_in (went slot text) = wrote slot (length text) ∷ []

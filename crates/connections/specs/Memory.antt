@@ -1,16 +1,16 @@
--- What all connections hold together: the bytes that came over them and were not yet taken off as requests.
+-- The bytes that all connections hold together: those that came over them and were not yet taken off as requests.
 use Rattle.std.specs.Prelude.{◌≡◌, ℕ, ◌+◌, ◌<◌, ◌≤◌, List, [], ◌∷◌, get_or, length, sum_by, Option, Some, None}
 use Rattle.connections.specs.Items.{Slots}
 use Rattle.connections.specs.declared.connection.Connection.{Connection}
 use Rattle.connections.specs.declared.connection.Phase.TheVariants.{Open}
 use Rattle.connections.specs.declared.slots.Connections.{Connections}
 
--- how many bytes the connection in a slot holds
+-- the number of bytes that the connection in a slot holds
 abbrev pub held_in : Option Connection → ℕ
 held_in None = 0
 held_in (Some connection) = length connection.held
 
--- how many all of them hold
+-- the number that all of them hold
 abbrev pub held_by : Slots → ℕ
 held_by slots = sum_by held_in slots
 
@@ -39,7 +39,7 @@ HasRoom room given slot (Some (Some connection)) =
 
 -- ---- private
 
--- what is there fits so much of a share
+-- the connection needs so much of a share
 abbrev pub Needs : ℕ → Option (Option Connection) → Type 0
 Needs needed None = Unit {0}
 Needs needed (Some slot) = held_in slot ≤ 16384 + needed

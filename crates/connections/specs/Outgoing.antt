@@ -1,4 +1,5 @@
--- No part of what is promised: the type's Model and private contracts cite it. What has still to go out.
+-- No part of what is promised: the type's Model and private contracts cite it. The bytes that have still
+-- to go out.
 use Rattle.std.specs.Prelude.{ℕ, ◌≤◌, List, length, drop}
 use Rattle.connections.specs.declared.outgoing.Outgoing.TheInside.{Inside}
 

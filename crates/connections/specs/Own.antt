@@ -1,4 +1,4 @@
--- What one connection had of all that happened: its own bytes, its own requests, and the replies to these.
+-- The part of one connection in all that happened: its own bytes, its own requests, and the replies to these.
 use Rattle.std.specs.Prelude.{◌≡◌, ◌≢◌, ℕ, ◌==◌, Bool, true, false, List, [], ◌∷◌, ◌++◌, map, if◌then◌else◌}
 use Rattle.std.specs.List.{AllByRecursion, flat_map, list_any}
 use Rattle.bureau_store.specs.declared.caller.CallerRow.{CallerRow}
@@ -93,8 +93,8 @@ Stays slot (finished other) = Unit {0}
 
 -- ---- what is promised of it
 
--- The bytes that came over a connection are requests and a stop. These requests were answered, in their order. What was
--- written to it is a front of the replies; and all of them if it ended well, with a stop of its own.
+-- The bytes that came over a connection are requests and a stop. These requests were answered, in their order. The bytes
+-- that were written to it are a front of the replies; and all of them if it ended well, with a stop of its own.
 pub record IsServedAlone (rows : List CallerRow) (text : List ℕ) (exchanges : List Exchange) (written : List ℕ) (well : Bool) : Type 0 where
   pub stop : Stop
   pub connection : IsConnection rows text (map (λ exchange. exchange.asked) exchanges) stop
@@ -102,7 +102,7 @@ pub record IsServedAlone (rows : List CallerRow) (text : List ℕ) (exchanges : 
   pub front : (rest : List ℕ) × (replies_text exchanges ≡ written ++ rest)
   pub whole : well ≡ true → IsOwn stop × (written ≡ replies_text exchanges)
 
--- So was each connection, from its coming on, as long as no other comes to its slot.
+-- It is so of each connection, from its coming on, as long as no other comes to its slot.
 abbrev pub EachIsServed : List CallerRow → List Item → Type 0
 EachIsServed rows items =
     (slot : ℕ) (before during after : List Item) → items ≡ before ++ happens (came slot) ∷ (during ++ after) →

@@ -1,4 +1,4 @@
--- What a desk does in rounds, by the log of these, as far as that is known.
+-- How a desk serves in rounds, by the log of these, as far as that is known.
 use Rattle.std.specs.Prelude.{◌≡◌, ◌<◌, ◌≤◌, ◌⊎◌, ℕ, ◌+◌, ◌-◌, List, [], ◌∷◌, ◌++◌, length, option_map, Option, Some, None, IfSome}
 use Rattle.std.specs.List.{flat_map}
 use Rattle.catalogue.specs.View.{Goes, IsOpen, Tells, View}
@@ -22,8 +22,8 @@ use Rattle.connections.specs.declared.slots.Connections.{Connections}
 
 -- ---- the log
 
--- A round: how the connections stood that it was shown, with what had to go out; how many more might come; and what it told.
--- Or a last showing, which has no such number and tells nothing.
+-- A round: the connections that it was shown, with the bytes that had to go out; how many more might come; and its events.
+-- Or a last showing, which has no such number and no events.
 pub record Entry : Type 0 where
   pub shown : Slots
   pub left : Option ℕ
@@ -47,22 +47,21 @@ Logs old new entries = IfSome new (λ log. option_map (λ before. before ++ entr
 abbrev pub told_in : List Entry → List Event
 told_in entries = flat_map (λ (entry : Entry). entry.told) entries
 
--- Each was a round, and heard how many more might come: of so many connections those that had not come yet.
+-- Each was a round, and was told how many connections might still come: of so many, those that had not come yet.
 abbrev pub AreCounted : ℕ → List Entry → Type 0
 AreCounted count [] = Unit {0}
 AreCounted count (round ∷ rounds) = (round.left ≡ Some count) × AreCounted (count - comers round.told) rounds
 
 -- ---- what was served in rounds
 
--- Each round was shown the connections as they stood once all was done that had been told before, and these items are what was
--- done.
+-- Each round was shown the connections as they were after all events before it, and these items are what was done.
 abbrev pub AreShown : List CallerRow → Slots → List Entry → List Item → Slots → Type 0
 AreShown rows old [] items new = (items ≡ []) × (new ≡ old)
 AreShown rows old (round ∷ rounds) items new =
     (first : List Item) × (rest : List Item) × (mid : Slots) × (round.shown ≡ old) × (items ≡ first ++ rest)
     × NoneWaits rows old round.told first mid × AreShown rows mid rounds rest new
 
--- What rounds told was served side by side, and each was shown what stood there.
+-- The events of rounds were served side by side, and each round was shown the connections as they were.
 pub record AreServedInRounds (Runs : Tables → List CallBy → Tables → Type 0) (this : Tables) (rounds : List Entry) (before after : Slots) : Type 0 where
   pub side : AreServedSideBySide Runs this (told_in rounds) before after
   pub shown : AreSettled before → AreShown this.callers before rounds side.items after
@@ -72,8 +71,8 @@ module _ {Desk : Type 0} (view : View Desk Tables) where
   AreRounds old new rounds before after = Tells view old new (λ this. AreServedInRounds (IsLawfulRun view old new) this rounds before after)
 
 module _ {Desk : Type 0} (view : View Desk Tables) (old new : Desk) (log log_after : Log) (before after : Slots) where
-  -- All connections were served: so many came, no slot has one any more, and the device has not failed by then. The log has these
-  -- rounds and nothing more.
+  -- All connections were served: so many came, no slot has one any more, and the device has not failed by then. The log has
+  -- these rounds and no others.
   pub record AreAllServed (count : ℕ) : Type 0 where
     pub rounds : List Entry
     pub logged : Logs log log_after rounds
@@ -83,8 +82,8 @@ module _ {Desk : Type 0} (view : View Desk Tables) (old new : Desk) (log log_aft
     pub came : comers (told_in rounds) ≡ count
     pub gone : AreFree after
 
-  -- All that was told was served, and the device has not failed by then. There were no more rounds, since the last ended with this fault;
-  -- or, as a fault of the system, since more connections came than were to, or no more rounds are counted.
+  -- All events were served, and the device has not failed by then. There were no more rounds, since the last ended with this
+  -- fault. Or, as a fault of the system, more connections came than should, or no more rounds are counted.
   pub record AreServedSoFar (Over : RoundFault → Type 0) (fault : RoundFault) (count : ℕ) : Type 0 where
     pub rounds : List Entry
     pub logged : Logs log log_after rounds
@@ -93,9 +92,8 @@ module _ {Desk : Type 0} (view : View Desk Tables) (old new : Desk) (log log_aft
     pub sound : IsSound view new (told_in rounds)
     pub why : Over fault ⊎ ((fault ≡ System) × ((count < comers (told_in rounds)) ⊎ (length rounds ≡ 18446744073709551615)))
 
-  -- The device failed at one event, which is the last that was looked at, and after each before it it had not. What the same round told
-  -- after that event was not looked at. Then the connections were shown once more, as they stood after that event, and nothing more was
-  -- told.
+  -- The device failed at one event, and at none before it. The events of the same round after it were not looked at. Then
+  -- the connections were shown once more, as they were after that event, and no event came after that.
   pub record EndsInFailure (count : ℕ) : Type 0 where
     pub earlier : List Entry
     pub shown : Slots
@@ -120,8 +118,9 @@ module _ {Desk : Type 0} (view : View Desk Tables) (old new : Desk) (log log_aft
 
 -- ---- the calls that a log asks for
 
--- From free slots on, rounds told this, and each was shown what stood there. Each connection was answered its own requests, in their
--- order, and was sent their replies. These are the calls of all of them, in the order in which they were answered, and no others.
+-- From free slots on, rounds had these events, and each was shown the connections as they were. Each connection was answered
+-- its own requests, in their order, and was sent their replies. These are the calls of all of them, in the order in which
+-- they were answered, and no others.
 pub record AreAskedIn (rows : List CallerRow) (rounds : List Entry) (calls : List CallBy) : Type 0 where
   pub items : List Item
   pub before : Slots
@@ -131,8 +130,8 @@ pub record AreAskedIn (rows : List CallerRow) (rounds : List Entry) (calls : Lis
   pub own : EachIsServed rows items
   pub calls_are : calls ≡ calls_of (exchanges_of items)
 
--- The log grew by these rounds. Or, if the device failed, the last round told more, which was not looked at; then came the
--- last showing.
+-- The log grew by these rounds. Or, if the device failed, the last round had more events, which were not looked at; then
+-- came the last showing.
 abbrev pub AreLogged : Log → Log → Type 0 → List Entry → Type 0
 AreLogged log log_after Failed rounds = Logs log log_after rounds
     ⊎ (Failed × ((earlier : List Entry) × (shown : Slots) × (left : ℕ) × (told : List Event) × (rest : List Event) × (last : Slots)
@@ -158,11 +157,11 @@ module _ {Desk : Type 0} (view : View Desk Tables) where
     pub in_rounds : Tells view old new (λ this. AreInRounds (IsKeptRun view old new) this rounds before.slots.items after.slots.items)
     pub within : StaysWithin before after
 
-  -- nothing was told, and the desk was asked nothing; or the device has not failed by then
+  -- there was no event, and the desk was asked nothing; or the device has not failed by then
   abbrev pub IsStill : Desk → Desk → List Event → Type 0
   IsStill old new events = ((events ≡ []) × (new ≡ old)) ⊎ IsOpen view new
 
-  -- the device failed at one event, which is the last that was looked at
+  -- the device failed at one event, and no later one was looked at
   pub record Fails (old new : Desk) (events : List Event) (before after : Connections) : Type 0 where
     pub first : List Event
     pub last : Event

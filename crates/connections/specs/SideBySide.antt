@@ -1,4 +1,4 @@
--- Connections side by side: whatever is told of them, in whatever order.
+-- Connections side by side: whatever happens to them, in whatever order.
 use Rattle.std.specs.Prelude.{◌≡◌, ℕ, List, [], ◌∷◌, ◌++◌}
 use Rattle.std.specs.List.{AllByRecursion}
 use Rattle.catalogue.specs.View.{Goes, Tells, View}
@@ -15,18 +15,18 @@ use Rattle.connections.specs.Own.{EachIsServed}
 use Rattle.connections.specs.Turns.{AreSettled}
 use Rattle.connections.specs.declared.slots.Connections.{Connections}
 
--- One event after the other was told, and what was done at each was done to its connection. Before the first and after what was done
--- at each, no whole request is left waiting, but behind a reply that has still to go out.
+-- One event after the other came, and what was done at each was done to its connection. Before the first, and after what was
+-- done at each, no whole request is left waiting, except behind a reply that has still to go out.
 abbrev pub NoneWaits : List CallerRow → Slots → List Event → List Item → Slots → Type 0
 NoneWaits rows old [] items new = (items ≡ []) × (new ≡ old) × AreSettled new
 NoneWaits rows old (event ∷ events) items new =
     (first : List Item) × (rest : List Item) × (mid : Slots) × AreSettled old × (items ≡ first ++ rest) × (events_of first ≡ event ∷ [])
     × AllByRecursion (λ item. slot_in item ≡ slot_of event) first × Steps rows old first mid × NoneWaits rows mid events rest new
 
--- These events were told, and no others. The requests of all connections, in the order in which they were answered, are one
--- run of the bureau, in which a change acts once, over whichever of them it is sent, and each caller is answered, to the
--- byte, as if alone. Each connection was answered its own requests, in their order, and was sent their replies. If no whole
--- request was left waiting before, none is at any event, but behind a reply that has still to go out.
+-- These events came, and no others. The requests of all connections, in the order in which they were answered, are one run
+-- of the bureau. In it a change acts once, over whichever connections it is sent, and each caller is answered, to the byte,
+-- as if alone. Each connection was answered its own requests, in their order, and was sent their replies. If no whole
+-- request was left waiting before, none is at any event, except behind a reply that has still to go out.
 pub record AreServedSideBySide (Runs : Tables → List CallBy → Tables → Type 0) (this : Tables) (events : List Event) (before after : Slots) : Type 0 where
   pub items : List Item
   pub told : events_of items ≡ events
@@ -55,8 +55,8 @@ pub record AreInTurn (Runs : Tables → List CallBy → Tables → Type 0) (this
   pub so_far : AreSoFar Runs this events before after
   pub waits : AreSettled before → NoneWaits this.callers before events so_far.items after
 
--- These events were told, the desk goes on, and what is held stays within the limit. If no whole request was left waiting
--- before, none is at any event.
+-- These events came, the desk goes on, and what is held stays within the limit. If no whole request was left waiting before,
+-- none is at any event.
 pub record IsOnward {Desk : Type 0} (view : View Desk Tables) (old new : Desk) (events : List Event) (before after : Connections) : Type 0 where
   pub goes : Goes view old new
   pub in_turn : Tells view old new (λ this. AreInTurn (IsKeptRun view old new) this events before.slots.items after.slots.items)

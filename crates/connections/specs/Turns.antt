@@ -1,4 +1,4 @@
--- What becomes of an event, and what is done about the next request of a connection.
+-- The outcome of an event, and the turn of a connection's next request.
 use Rattle.std.specs.Prelude.{◌≡◌, ◌≢◌, ◌⊎◌, ℕ, ◌<◌, Bool, true, false, List, [], length, Option, Some, None, slice_get}
 use Rattle.requests.specs.NextRequest.{IsUnfinished}
 use Rattle.bureau_store.specs.Tables.{Tables}
@@ -32,17 +32,17 @@ Occurs old (ended slot) new = Happens old (ended slot) new
 Occurs old (failed slot) new = Happens old (failed slot) new
 Occurs old (late slot) new = Happens old (late slot) new
 
--- what became of an event
+-- the outcome of an event
 abbrev pub IsToldOf : Told → Slots → Event → Slots → Type 0
 IsToldOf Done old event new = Occurs old event new
 IsToldOf Missed old event new = Misses old event new
 IsToldOf Stray old event new = IsStray old event × (new ≡ old)
 
--- No whole request waits in it, but behind a reply that has still to go out.
+-- No whole request waits in it, except behind a reply that has still to go out.
 abbrev pub IsSettled : Connection → Type 0
 IsSettled now = (0 < length now.out) ⊎ ((now.phase ≡ Open) × IsUnfinished now.held)
 
--- of each connection, but for that in one slot
+-- it is so of each connection, except perhaps that in one slot
 abbrev pub AreSettledBut : ℕ → Slots → Type 0
 AreSettledBut slot now = (other : ℕ) (connection : Connection) → other ≢ slot → slice_get now other ≡ Some (Some connection) → IsSettled connection
 
@@ -55,7 +55,7 @@ out_at None = []
 out_at (Some None) = []
 out_at (Some (Some connection)) = connection.out
 
--- what becomes of a connection in which no request stands whole
+-- the turn of a connection in which no whole request has come
 abbrev pub rest_of : Phase → Turn
 rest_of Open = Waits
 rest_of Ended = Finished
@@ -73,7 +73,7 @@ stays Finished = false
 abbrev pub Exchanges : (Tables → List CallBy → Tables → Type 0) → Tables → (Exchange → Type 0) → Type 0
 Exchanges Runs this Is = (exchange : Exchange) × HasExchanged Runs this exchange × Is exchange
 
--- what a turn does to a connection, and to the desk
+-- the effect of a turn on a connection, and on the desk
 abbrev pub Turns : (Tables → List CallBy → Tables → Type 0) → Tables → Turn → Connection → Connection → Type 0
 Turns Runs this Waits old new = Runs this [] this × (new ≡ old) × IsSettled new
 Turns Runs this Answered old new = Exchanges Runs this (λ exchange. Answers this.callers exchange old new)

@@ -1,4 +1,5 @@
-//! One connection: what of its request came, what of its reply has still to go out, and how it ends.
+//! One connection: the bytes of its request that came, the bytes of its reply that have still to go out, and
+//! how it ends.
 ghost use Rattle.std.specs.Prelude.{◌≡◌, ◌+◌, ◌<◌, ◌≤◌, [], length, take, OnOk};
 ghost use Rattle.bureau.specs.Kept.{IsKeptRun};
 ghost use Rattle.catalogue.specs.View.{Goes, Tells};
@@ -22,14 +23,14 @@ pub enum Phase {
     Open,
     /// Its peer ended its side. Requests that came whole are still answered.
     Ended,
-    /// Its last reply has to go out. What comes further isn't looked at.
+    /// Its last reply has to go out. Bytes that come after that aren't looked at.
     Last,
 }
 
-// What was done about the next request of a connection.
+// The turn of a connection: what was done about its next request.
 #[derive(Clone, Copy, Debug, PartialEq, Eq)]
 pub(crate) enum Turn {
-    // Nothing: a reply has still to go out, or no request stands whole.
+    // Nothing: a reply has still to go out, or no whole request has come.
     Waits,
     // It was answered, and its reply has to go out.
     Answered,
@@ -37,7 +38,7 @@ pub(crate) enum Turn {
     Lost,
     // There was no memory to look at what came.
     Starved,
-    // There is none: all replies went out, and the connection ends.
+    // Nothing is left to do: all replies went out, and the connection ends.
     Finished,
 }
 
@@ -59,11 +60,11 @@ impl Turn {
 /// One connection, as a value.
 #[derive(Drop)]
 pub struct Connection {
-    /// What came over it, and was not yet taken off as a request.
+    /// The bytes that came over it, and were not yet taken off as a request.
     pub held: Incoming,
-    /// What has to go out, and was not yet written.
+    /// The bytes that have to go out, and were not yet written.
     pub out: Outgoing,
-    /// What the log notes of the request whose reply has to go out, or went out last. `None` before the first.
+    /// The log's note of the request whose reply has to go out, or went out last. `None` before the first.
     pub note: Option<Note>,
     /// The ordinal of its next request, counted from 1.
     pub ordinal: u64,
@@ -72,7 +73,7 @@ pub struct Connection {
 }
 
 impl Connection {
-    /// A connection that has just come. It takes no memory.
+    /// A connection that has just come.
     pub fn new(alloc: Global) -> Connection
         ensures { result ≡ fresh }
     {
@@ -85,7 +86,7 @@ impl Connection {
         }
     }
 
-    // These bytes came. It is of no use any more if there is no memory for them.
+    // Takes these bytes, which came, in. If there is no memory for them, the connection is of no use any more.
     pub(crate) fn take_in(&mut self, text: &[u8]) -> Result<(), NoMemory>
         requires { self.old.phase ≡ Phase.Open }
         ensures { OnOk result (Grows text.now self.old self.new) }
@@ -93,7 +94,7 @@ impl Connection {
         self.held.take_in(text)
     }
 
-    // So many of the bytes that have to go out were written.
+    // Notes that so many of the bytes that have to go out were written.
     pub(crate) fn wrote(&mut self, count: usize)
         requires { count ≤ length self.old.out }
         ensures { Sends (take count self.old.out) self.old self.new }
@@ -101,7 +102,7 @@ impl Connection {
         self.out.wrote(count);
     }
 
-    // Its peer ended its side.
+    // Notes that its peer ended its side.
     pub(crate) fn end(&mut self)
         requires { self.old.phase ≡ Phase.Open }
         ensures { IsEnded self.old self.new }
@@ -109,7 +110,7 @@ impl Connection {
         self.phase = Phase::Ended;
     }
 
-    // Its next request is answered once its last reply went out.
+    // Answers its next request once its last reply went out.
     pub(crate) fn take_turn<D: Desk>(
         &mut self,
         alloc: Global,
@@ -130,7 +131,7 @@ impl Connection {
         self.look_on(alloc, desk, routes)
     }
 
-    // Answers its next request, unless what came is known to hold none that is whole.
+    // Answers its next request, unless the bytes that came are known to hold no whole one.
     fn look_on<D: Desk>(&mut self, alloc: Global, desk: &mut D, routes: &Routes) -> Turn
         requires { IsReady self.old }
         ensures goes { Goes D.tables_view desk.old desk.new }
@@ -144,7 +145,7 @@ impl Connection {
         self.answer_next(alloc, desk, routes)
     }
 
-    // Answers its next request, if that stands whole.
+    // Answers its next request, if that has come whole.
     fn answer_next<D: Desk>(&mut self, alloc: Global, desk: &mut D, routes: &Routes) -> Turn
         requires { IsReady self.old }
         ensures goes { Goes D.tables_view desk.old desk.new }
@@ -185,7 +186,7 @@ impl Connection {
         }
     }
 
-    // What becomes of a connection in which no request stands whole.
+    // The turn of a connection in which no whole request has come.
     fn rests(&self) -> Turn
         ensures { result ≡ rest_of self.now.phase }
     {
@@ -196,7 +197,7 @@ impl Connection {
         }
     }
 
-    // A reply has to go out. A connection over which nothing else came keeps no room for what comes.
+    // Puts a reply that has to go out. A connection over which nothing else came keeps no room for what comes.
     fn put(&mut self, alloc: Global, text: Vec<u8>, note: Note)
         requires { self.old.ordinal < 10000 }
         ensures { self.new ≡ record {
@@ -215,7 +216,7 @@ impl Connection {
         self.ordinal += 1;
     }
 
-    // The last reply has to go out. What came further isn't kept.
+    // Puts the last reply, and keeps no bytes that came after its request.
     fn put_last(&mut self, alloc: Global, text: Vec<u8>, note: Note)
         ensures { self.new ≡ record {
           held = [];

@@ -1,8 +1,8 @@
-//! What is told of connections.
+//! Events of connections.
 ghost use Rattle.std.specs.Prelude.{◌≡◌};
 ghost use Rattle.connections.specs.Items.{comers_in, event_of, slot_of};
 
-/// What is told of the connection in a slot.
+/// What happened to the connection in a slot.
 #[derive(Drop)]
 pub enum Event {
     /// It came.
@@ -19,19 +19,19 @@ pub enum Event {
     Late(usize),
 }
 
-// What became of an event.
+// The outcome of an event.
 #[derive(Clone, Copy, Debug, PartialEq, Eq)]
 pub(crate) enum Told {
-    // It did what it says.
+    // It did as it says.
     Done,
     // There was no memory for it, and the connection ended.
     Missed,
-    // It can't be in that slot, and changed nothing.
+    // It can't happen in that slot, and changed nothing.
     Stray,
 }
 
 impl Event {
-    /// The slot of which it is told.
+    /// The slot of the connection.
     pub fn slot(&self) -> usize
         ensures { result ≡ slot_of (event_of self.now) }
     {
@@ -45,7 +45,7 @@ impl Event {
         }
     }
 
-    // How many connections come with it.
+    // The number of connections that come with it.
     pub(crate) fn comers(&self) -> u32
         ensures { result ≡ comers_in (event_of self.now) }
     {

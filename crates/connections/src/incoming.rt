@@ -1,4 +1,4 @@
-//! What came over a connection.
+//! The bytes that came over a connection.
 ghost use Rattle.std.specs.Prelude.{◌≡◌, ◌==◌, ◌||◌, ◌++◌, not, true, [], length, OnOk};
 ghost use Rattle.std.specs.List.{list_any};
 ghost use Rattle.requests.specs.NextRequest.{IsUnfinished};
@@ -10,9 +10,9 @@ use std::marker::Model;
 use std::mem;
 use transfer::{Intake, RETRIES};
 
-/// What came over a connection, and was not yet taken off as a request.
+/// The bytes that came over a connection, and were not yet taken off as a request.
 ///
-/// A contract sees it as the list of these bytes. How far they were looked through is kept beside them.
+/// A contract sees it as the list of these bytes. It also keeps how far they were looked through.
 #[derive(Drop)]
 pub struct Incoming {
     bytes: Intake,
@@ -31,14 +31,14 @@ impl Model for Incoming {
 }
 
 impl Incoming {
-    /// Nothing. It takes no memory.
+    /// Nothing.
     pub fn new(alloc: Global) -> Incoming
         ensures { result ≡ [] }
     {
         Incoming::of(Intake::new(alloc))
     }
 
-    // These bytes, at which nobody has looked.
+    // These bytes, which were not looked at yet.
     pub(crate) fn of(bytes: Intake) -> Incoming
         ensures { result ≡ bytes }
     {
@@ -48,7 +48,7 @@ impl Incoming {
         }
     }
 
-    // The bytes. None are left.
+    // Takes the bytes out, and leaves none.
     pub(crate) fn take(&mut self, alloc: Global) -> Intake
         ensures taken { result ≡ self.old }
         ensures left { self.new ≡ [] }
@@ -57,14 +57,14 @@ impl Incoming {
         mem::replace(&mut self.bytes, Intake::new(alloc))
     }
 
-    /// How many bytes there are.
+    /// The number of bytes.
     pub fn len(&self) -> usize
         ensures { result ≡ length self.now }
     {
         self.bytes.len()
     }
 
-    // These bytes came.
+    // Appends these bytes.
     pub(crate) fn take_in(&mut self, text: &[u8]) -> Result<(), NoMemory>
         ensures { OnOk result (self.new ≡ self.old ++ text.now) }
     {
@@ -76,8 +76,7 @@ impl Incoming {
         }
     }
 
-    // Whether they hold neither a whole request nor a head that is refused. Bytes that were looked at before aren't
-    // looked at again.
+    // Whether they hold neither a whole request nor a head that is refused. It looks at no byte twice.
     pub(crate) fn is_short(&mut self) -> bool
         ensures same { self.new ≡ self.old }
         ensures short { result ≡ true → IsUnfinished self.old }
@@ -95,7 +94,7 @@ impl Incoming {
             .any(|b| !(*b == b'\n' || *b == b'\r'))
     }
 
-    /// How many bytes the request has that stands next, once its head has come and was looked at, and 0 before.
+    /// The number of bytes of the next request, once its head has come and was looked at, and 0 before.
     pub fn wanted(&self) -> usize {
         self.progress.wanted()
     }

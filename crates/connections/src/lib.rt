@@ -1,12 +1,13 @@
-//! Many connections beside one desk, as values: what came over each, what has to go out, and what is answered when.
+//! Many connections beside one desk, as values: the bytes that came over each, the bytes that have to go out, and
+//! when each request is answered.
 //!
-//! Nothing here reads or writes. Whoever does tells what happened, one [`Event`] after the other, in whatever
+//! Nothing here reads or writes. The caller does, tells what happened, one [`Event`] after the other, in whatever
 //! order, and writes what [`Connections::outgoing`] shows. So no connection waits for another.
 //!
 //! - [`Connections`]: the connections, each in its slot
-//! - [`Event`]: what is told of one of them
-//! - [`serve_events`]: goes through events in order; [`serve_event`]: one of them
-//! - [`serve_rounds`]: what [`Rounds`] tell, until all connections were served; [`Halt`]
+//! - [`Event`]: what happens to one of them
+//! - [`serve_events`]: goes through events in order; [`serve_event`]: serves one of them
+//! - [`serve_rounds`]: serves the events of [`Rounds`], until all connections were served; [`Halt`]
 //!
 //! ```
 //! use bureau::Bureau;

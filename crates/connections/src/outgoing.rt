@@ -1,10 +1,10 @@
-//! What has to go out over a connection.
+//! The bytes that have to go out over a connection.
 ghost use Rattle.std.specs.Prelude.{◌≡◌, ◌==◌, ◌≤◌, [], length, drop};
 
 use std::alloc::Global;
 use std::marker::Model;
 
-/// What has to go out over a connection, and was not yet written.
+/// The bytes that have to go out over a connection, and were not yet written.
 ///
 /// A contract sees it as the list of these bytes.
 #[derive(Drop)]
@@ -26,7 +26,7 @@ impl Model for Outgoing {
 }
 
 impl Outgoing {
-    /// Nothing. It takes no memory.
+    /// Nothing.
     pub fn new(alloc: Global) -> Outgoing
         ensures { result ≡ [] }
     {
@@ -50,7 +50,7 @@ impl Outgoing {
         &self.text[self.written..]
     }
 
-    /// How many bytes there are.
+    /// The number of bytes.
     pub fn len(&self) -> usize
         ensures { result ≡ length self.now }
     {
@@ -64,7 +64,7 @@ impl Outgoing {
         self.len() == 0
     }
 
-    /// The first bytes were written.
+    /// Removes the first bytes, which were written.
     pub fn wrote(&mut self, count: usize)
         requires { count ≤ length self.old }
         ensures { self.new ≡ drop count self.old }

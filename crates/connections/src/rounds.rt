@@ -17,7 +17,7 @@ use std::alloc::Global;
 use thiserror::Error;
 use verdicts::Judge;
 
-/// How it stands after a round.
+/// The state after a round.
 #[derive(Clone, Copy, Debug, PartialEq, Eq)]
 pub enum Round {
     /// Connections are open, or may have come.
@@ -29,7 +29,7 @@ pub enum Round {
 /// Why there are no more rounds.
 #[derive(Clone, Copy, Debug, PartialEq, Eq, Error)]
 pub enum RoundFault {
-    /// The system tells no more of connections; or more came than were to.
+    /// The system tells no more of connections; or more came than should.
     #[error("the system tells no more of connections")]
     System,
     /// Memory ran out.
@@ -48,19 +48,19 @@ pub enum Halt {
     Rounds(RoundFault),
 }
 
-/// What tells of connections, in rounds, and writes what has to go out.
+/// Tells the events of connections, in rounds, and writes the bytes that have to go out.
 ///
-/// The system's own sockets tell nothing of what came over them. Others, as a list of events, can tell all of it.
-/// So what is proved of every `Rounds` says what is served and in which order, and what is shown to be written.
+/// Nothing is known of what comes over the system's own sockets. Other `Rounds`, such as a list of events, may know all
+/// of it. So a proof about every `Rounds` says what is served and in which order, and what is shown to be written.
 pub trait Rounds {
     /// The rounds so far, the oldest first, as far as they are known.
     ghost log: { Self → Log };
 
-    /// That this fault ended the rounds. A body gives it from `round` alone.
+    /// That this fault ended the rounds. Only the contract of `round` gives it.
     ghost is_over: { Self → RoundFault → Type 0 };
 
-    /// Waits until something happens to connections that stand like this, reads and writes what can be, and tells of
-    /// it. So many more may come. What is told counts also if there is an error.
+    /// Waits until something happens to connections in these states, reads and writes what it can, and tells of it. So
+    /// many more connections may come. The events count also if there is an error.
     ///
     /// # Errors
     ///
@@ -76,28 +76,29 @@ pub trait Rounds {
             (round_of connections.now.slots.items left (map event_of told.new.items) ∷ []) }
         ensures over { IfErr result (is_over self.new) };
 
-    /// What was told of a slot was served, and so many bytes may be read next.
+    /// The events of a slot were served, and so many bytes may be read next.
     fn let_read(&mut self, slot: usize, room: usize)
         ensures { log self.new ≡ log self.old };
 
-    /// Of the connections whose body waits for room, the slot of the one with this index, counted from 0.
+    /// The slot of the connection with this index, counted from 0, among those whose body waits for room.
     fn short_at(&self, index: usize) -> Option<usize>;
 
-    /// The device has failed, and connections stood like this after the event at which it did. What the last round told
-    /// behind that event was not looked at: what it wrote still stands here, and if it tells that a connection left or
-    /// came, here stands the one before. Of all others what has to go out may be written, as far as that takes no wait.
+    /// Shows the connections for the last time: the device has failed, and they were in these states after the event at
+    /// which it did. The events of the last round after that one were not looked at. A slot still shows the bytes that
+    /// they wrote; and if they say that a connection left or came, it shows the connection before. The bytes of all
+    /// other slots may be written, as far as that takes no wait.
     fn show_last(&mut self, connections: &Connections)
         ensures { Logs (log self.old) (log self.new) (last_showing connections.now.slots.items ∷ []) };
 }
 
-/// Serves so many connections side by side to their ends, beside a bureau: what each round tells, one event after
-/// the other. After each it looks whether the device of the bureau's store has failed. Each round is shown the
-/// connections as they stand.
+/// Serves so many connections side by side to their ends, beside a bureau: the events of each round, one after the
+/// other. After each event it looks whether the device of the bureau's store has failed. It shows each round the
+/// connections as they are.
 ///
 /// # Errors
 ///
-/// [`Halt::Device`] once the device has failed: then nothing more is looked at, whatever connection it is of.
-/// [`Halt::Rounds`] if there are no more rounds, or more connections came than were to: what was told until then was
+/// [`Halt::Device`] once the device has failed. Then it looks at nothing more, whatever connection that is of.
+/// [`Halt::Rounds`] if there are no more rounds, or more connections came than should. What was told until then was
 /// served.
 pub fn serve_rounds<S: Store, J: Judge<S>, R: Rounds>(
     alloc: Global,
@@ -157,7 +158,7 @@ fn go_in_rounds<S: Store, J: Judge<S>, R: Rounds>(
     Err(Halt::Rounds(RoundFault::System))
 }
 
-// One round, of so many connections that are to come. How many are to come after it, and how it stands.
+// One round, while so many connections are to come. It returns the number that are to come after it, and the state.
 fn go_round<S: Store, J: Judge<S>, R: Rounds>(
     alloc: Global,
     bureau: &mut Bureau<S, J>,
@@ -191,7 +192,7 @@ fn go_round<S: Store, J: Judge<S>, R: Rounds>(
     Ok((rest, round))
 }
 
-// How many of so many are to come after these events, if no more than these came.
+// The number of connections that are to come after these events, if no more came than should.
 fn left_after(left: u32, events: &[Event]) -> Option<u32>
     ensures some { IfSome result (λ rest. rest + comers (map event_of events.now) ≡ left) }
     ensures none { IfNone result (left < comers (map event_of events.now)) }
@@ -206,8 +207,8 @@ fn left_after(left: u32, events: &[Event]) -> Option<u32>
     Some(rest)
 }
 
-// How many bytes may be read next over each connection of which something was told, and over those whose body
-// didn't fit the limit.
+// Says how many bytes may be read next over each connection of these events, and over those whose body didn't fit the
+// limit.
 fn note_rooms<R: Rounds>(connections: &mut Connections, rounds: &mut R, events: &[Event])
     ensures slots { connections.new.slots.items ≡ connections.old.slots.items }
     ensures within { StaysWithin connections.old connections.new }
@@ -233,7 +234,7 @@ fn share_out<R: Rounds>(connections: &mut Connections, rounds: &mut R)
     }
 }
 
-// How many bytes may be read next over a connection.
+// Says how many bytes may be read next over a connection.
 fn note_room<R: Rounds>(connections: &mut Connections, rounds: &mut R, slot: usize)
     ensures slots { connections.new.slots.items ≡ connections.old.slots.items }
     ensures within { StaysWithin connections.old connections.new }

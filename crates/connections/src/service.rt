@@ -15,7 +15,8 @@ use std::alloc::Global;
 use verdicts::Judge;
 
 /// Goes through events in order, beside a bureau. After each it looks whether the device of the bureau's store has
-/// failed, and then looks at nothing more, whatever connection it is of. Whether it has failed.
+/// failed, and then looks at nothing more, whatever connection that is of. It returns whether the device has
+/// failed.
 pub(crate) fn go_while_open<S: Store, J: Judge<S>>(
     alloc: Global,
     bureau: &mut Bureau<S, J>,
@@ -38,7 +39,7 @@ pub(crate) fn go_while_open<S: Store, J: Judge<S>>(
     false
 }
 
-// Serves one event. Whether the device of the store has failed by then.
+// Serves one event. It returns whether the device of the store has failed by then.
 fn serve_and_look<S: Store, J: Judge<S>>(
     alloc: Global,
     bureau: &mut Bureau<S, J>,

@@ -15,11 +15,11 @@ use bureau_http::Desk;
 use requests::{Routes, later_bytes};
 use std::alloc::Global;
 
-/// Goes through events in order. After each, the next request of its connection is answered, if that stands whole and
+/// Goes through events in order. After each it answers the next request of its connection, if that has come whole and
 /// the last reply went out.
 ///
-/// Want of memory ends the connection that it befalls, or is answered 503, and no other. What all of them hold
-/// together is at most the limit and a head's room of each.
+/// Want of memory ends only the connection that it befalls, or is answered 503. All connections together hold at most
+/// the limit and a head's room for each.
 pub fn serve_events<D: Desk>(
     alloc: Global,
     desk: &mut D,
@@ -60,7 +60,8 @@ fn go_through<D: Desk>(
     }
 }
 
-/// One event. Then the next request of its connection is answered, if that stands whole and the last reply went out.
+/// Serves one event. Then it answers the next request of its connection, if that has come whole and the last reply
+/// went out.
 pub fn serve_event<D: Desk>(
     alloc: Global,
     desk: &mut D,
@@ -75,7 +76,7 @@ pub fn serve_event<D: Desk>(
     connections.give_back(event.slot());
 }
 
-// An event happens, and the next request of its connection is answered.
+// Lets an event happen, and answers the next request of its connection.
 fn tell<D: Desk>(
     alloc: Global,
     desk: &mut D,
@@ -93,7 +94,7 @@ fn tell<D: Desk>(
     }
 }
 
-// Answers the next request of the connection in a slot, if that stands whole and the last reply went out.
+// Answers the next request of the connection in a slot, if that has come whole and the last reply went out.
 fn go_on<D: Desk>(
     alloc: Global,
     desk: &mut D,

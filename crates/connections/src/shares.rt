@@ -4,8 +4,7 @@ ghost use Rattle.std.specs.Prelude.{◌≡◌, ◌+◌, ◌<◌, ◌≤◌, true
 use std::alloc::{AllocError, Global};
 use std::marker::Model;
 
-/// A limit on what all connections hold together, beyond the room for a head that each has. It is shared out to
-/// their slots.
+/// A limit on what all connections hold together, beyond the room for a head that each has. The slots share it.
 ///
 /// A contract sees the limit, and the share of each slot.
 #[derive(Drop)]
@@ -38,7 +37,7 @@ impl Shares {
         })
     }
 
-    // All shares together are within the limit.
+    // That all shares together are within the limit.
     pub(crate) fn add_up(&self)
         ensures { sum self.now.given ≤ self.now.limit }
     {
@@ -62,7 +61,7 @@ impl Shares {
         }
     }
 
-    // A slot gets this share in place of the one that it has, if there is so much. Whether it got it.
+    // Gives a slot this share in place of the one that it has, if so much is left. Returns whether it did.
     pub(crate) fn give(&mut self, slot: usize, share: usize) -> bool
         ensures given { result ≡ true →
             self.new ≡ record { limit = self.old.limit; given = slice_set self.old.given slot share } }

@@ -9,17 +9,17 @@ use crate::event::{Event, Told};
 use crate::shares::Shares;
 use std::alloc::{AllocError, Global};
 
-// How many bytes of what came every connection may hold: as many as a head may have.
+// The bytes that came over a connection and that each may hold: as many as a head may have.
 const HEAD_ROOM: usize = 16_384;
 
 /// Connections, each in its slot.
 ///
-/// Each may hold as many bytes as a head may have. What is to hold more has a share of a limit for all.
+/// Each may hold as many bytes as a head may have. To hold more, it needs a share of a limit for all.
 #[derive(Drop)]
 pub struct Connections {
-    /// What stands in each slot.
+    /// The connection in each slot.
     pub slots: Vec<Option<Connection>>,
-    /// How much more each may hold.
+    /// The bytes that each may hold beyond that.
     pub shares: Shares,
 }
 
@@ -55,7 +55,7 @@ impl Connections {
         }
     }
 
-    /// Whether no connection stands in any slot.
+    /// Whether all slots are free.
     pub fn are_free(&self) -> bool
         ensures { IsTrue result ↔ AreFree self.now.slots.items }
     {
@@ -67,7 +67,7 @@ impl Connections {
         true
     }
 
-    /// What has to go out over the connection in a slot, and was not yet written.
+    /// The bytes that have to go out over the connection in a slot, and were not yet written.
     pub fn outgoing(&self, slot: usize) -> &[u8]
         ensures { result.now ≡ out_at (slice_get self.now.slots.items slot) }
     {
@@ -102,7 +102,7 @@ impl Connections {
         self.slots[slot] = Some(connection);
     }
 
-    // Whether so many bytes more than these fit a slot.
+    // Whether a slot has room for so many bytes more than these.
     fn fits(&self, slot: usize, held: usize, more: usize) -> bool
         ensures { result ≡ true → held + more ≤ 16384 + get_or self.now.shares.given slot 0 }
     {
@@ -112,7 +112,7 @@ impl Connections {
         }
     }
 
-    // A connection comes to a slot.
+    // Puts a new connection into a slot.
     fn come(&mut self, alloc: Global, slot: usize) -> Told
         ensures told { IsToldOf result self.old.slots.items (came slot) self.new.slots.items }
         ensures shares { self.new.shares ≡ self.old.shares }
@@ -124,7 +124,7 @@ impl Connections {
         Told::Done
     }
 
-    // Bytes came to a slot. If they don't fit it, that is want of memory.
+    // Takes bytes in that came to a slot. If they don't fit it, that is want of memory.
     fn take_in(&mut self, slot: usize, text: &[u8]) -> Told
         ensures told { IsToldOf result self.old.slots.items (bytes slot text.now) self.new.slots.items }
         ensures within { StaysWithin self.old self.new }
@@ -146,7 +146,7 @@ impl Connections {
         Told::Done
     }
 
-    // So many bytes of a slot were written.
+    // Notes that so many bytes of a slot were written.
     fn sent(&mut self, slot: usize, count: usize) -> Told
         ensures told { IsToldOf result self.old.slots.items (wrote slot count) self.new.slots.items }
         ensures shares { self.new.shares ≡ self.old.shares }
@@ -163,7 +163,7 @@ impl Connections {
         Told::Done
     }
 
-    // The peer of a slot ended its side.
+    // Notes that the peer of a slot ended its side.
     fn end(&mut self, slot: usize) -> Told
         ensures told { IsToldOf result self.old.slots.items (ended slot) self.new.slots.items }
         ensures shares { self.new.shares ≡ self.old.shares }
@@ -180,7 +180,7 @@ impl Connections {
         Told::Done
     }
 
-    // The connection in a slot is given up.
+    // Gives up the connection in a slot.
     fn give_up(&mut self, slot: usize) -> Told
         ensures told { IsToldOf result self.old.slots.items (failed slot) self.new.slots.items }
         ensures shares { self.new.shares ≡ self.old.shares }
@@ -191,7 +191,7 @@ impl Connections {
         }
     }
 
-    // An event, and what became of it.
+    // Lets an event happen, and returns its outcome.
     pub(crate) fn happens(&mut self, alloc: Global, event: &Event) -> Told
         ensures told { IsToldOf result self.old.slots.items (event_of event.now) self.new.slots.items }
         ensures within { StaysWithin self.old self.new }
@@ -206,11 +206,11 @@ impl Connections {
         }
     }
 
-    /// How many bytes may be read next over the connection in a slot.
+    /// The number of bytes that may be read next over the connection in a slot.
     ///
-    /// None if a reply has to go out first, or its peer ended its side. A request that has more bytes than a head may
-    /// have is read on only if all of it fits what is left of the limit, and gets its share of that then. Until it fits
-    /// there is no room for more of it.
+    /// It is 0 if a reply has to go out first, or the peer ended its side. A request may have more bytes than a head.
+    /// It is read on only if all of it fits what is left of the limit, and then it gets its share of that. Until it
+    /// fits, no more of it is read.
     pub fn room(&mut self, slot: usize) -> usize
         ensures slots { self.new.slots.items ≡ self.old.slots.items }
         ensures within { StaysWithin self.old self.new }
@@ -233,7 +233,7 @@ impl Connections {
         wanted.saturating_sub(held)
     }
 
-    // Whether a slot has at least this share. It gets it, if there is so much.
+    // Whether a slot has at least this share. It gets the share, if so much is left.
     fn admit(&mut self, slot: usize, share: usize) -> bool
         ensures slots { self.new.slots.items ≡ self.old.slots.items }
         ensures within { StaysWithin self.old self.new }
@@ -245,7 +245,7 @@ impl Connections {
         self.shares.give(slot, share)
     }
 
-    // Gives back what a slot doesn't need of its share any more: all of it if no connection stands there, and what its
+    // Gives back what a slot doesn't need of its share any more: all of it if no connection is there, and what its
     // connection doesn't hold if that was answered.
     pub(crate) fn give_back(&mut self, slot: usize)
         ensures slots { self.new.slots.items ≡ self.old.slots.items }
@@ -256,7 +256,7 @@ impl Connections {
         }
     }
 
-    // How much of its share a slot needs, if that is no more than its connection holds.
+    // The part of its share that a slot needs, if that is no more than its connection holds.
     fn needed(&self, slot: usize) -> Option<usize>
         ensures { IfSome result (λ needed. Needs needed (slice_get self.now.slots.items slot)) }
     {

@@ -1,8 +1,8 @@
--- What a `RamDisk` shows.
+-- A `RamDisk` as contracts see it.
 use Rattle.std.specs.Prelude.{◌≡◌, ℕ, List, []}
 use Rattle.ram_disk.specs.declared.disk.RamDisk.{RamDisk}
 
--- what stands in the file
+-- the bytes of the file
 abbrev pub bytes_of : RamDisk → List ℕ
 bytes_of disk = disk.bytes.items
 

@@ -5,8 +5,8 @@ ghost use Rattle.sqlite_disk.specs.Disk.{Cut, Holds, Torn};
 
 use std::alloc::AllocError;
 
-/// Fills a buffer with the bytes from an offset on, if there are as many. Says whether there are; else the buffer
-/// stays as it was.
+/// Fills a buffer with the bytes from an offset on, if there are as many. Returns whether there are; else the
+/// buffer stays as it was.
 pub fn read(bytes: &[u8], at: usize, buf: &mut [u8]) -> bool
     ensures read { OnTrue result (Holds bytes.now at buf.new) }
     ensures within { IsTrue result ↔ (at + length buf.old ≤ length bytes.now) }
@@ -19,11 +19,11 @@ pub fn read(bytes: &[u8], at: usize, buf: &mut [u8]) -> bool
     true
 }
 
-/// Puts a part in place of the bytes from an offset on. What lies between the old end and the offset becomes 0.
+/// Replaces the bytes from an offset on by a part. The bytes between the old end and the offset become 0.
 ///
 /// # Errors
 ///
-/// Memory ran out, and the bytes are as they were.
+/// Memory ran out. The bytes are as they were.
 pub fn write(bytes: &mut Vec<u8>, at: usize, part: &[u8]) -> Result<(), AllocError>
     ensures written { OnOk result (Holds bytes.new.items at part.now) }
     ensures others { Torn at (length part.now) bytes.old.items bytes.new.items }
@@ -41,7 +41,7 @@ pub fn write(bytes: &mut Vec<u8>, at: usize, part: &[u8]) -> Result<(), AllocErr
 ///
 /// # Errors
 ///
-/// Memory ran out, and the bytes are as they were.
+/// Memory ran out. The bytes are as they were.
 pub fn set_len(bytes: &mut Vec<u8>, len: usize) -> Result<(), AllocError>
     ensures ok { OnOk result (bytes.new.items
         ≡ take len bytes.old.items ++ replicate (len - length bytes.old.items) 0) }

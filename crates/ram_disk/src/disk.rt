@@ -10,7 +10,7 @@ use std::io;
 
 /// A file in memory. Each write is kept at once: a stop of the database at any moment leaves exactly what was written.
 ///
-/// A call fails only if memory runs out or if a read goes past the end.
+/// A call fails only if memory runs out or a read goes past the end.
 #[derive(Drop)]
 pub struct RamDisk {
     bytes: Vec<u8>,
@@ -20,7 +20,7 @@ pub struct RamDisk {
 impl RamDisk {
     ghost use Rattle.ram_disk.specs.RamDisk.{IsFresh};
 
-    /// An empty file. It takes no memory.
+    /// An empty file.
     pub fn new(alloc: Global) -> RamDisk
         ensures { IsFresh result }
     {
@@ -58,7 +58,7 @@ impl Disk for RamDisk {
         false
     }
 
-    // Memory gives back the bytes that were written, so there is nothing to test and no secret.
+    // Memory returns the bytes that were written, so there is nothing to test and no secret.
     fn key(&self) -> u64 {
         0
     }
@@ -97,13 +97,13 @@ impl Disk for RamDisk {
         counted(bytes::set_len(&mut self.bytes, len), &mut self.faults)
     }
 
-    // What was written stands where it is to stay.
+    // Each write is in its place already.
     fn sync(&mut self) -> io::Result<()> {
         Ok(())
     }
 }
 
-// The outcome of a call that takes memory. One that was refused is counted.
+// Counts a call that was refused for want of memory.
 fn counted(outcome: Result<(), AllocError>, faults: &mut u64) -> io::Result<()>
     ensures variant { is_ok result ≡ is_ok outcome }
     ensures kind { finds_no_room result ≡ false }

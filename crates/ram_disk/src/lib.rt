@@ -1,4 +1,4 @@
-//! A file in memory, as a database sees it: a [`RamDisk`] keeps what is written, and nothing of it is ever lost.
+//! A file in memory, as a database sees it: a [`RamDisk`] keeps what is written, and loses nothing of it.
 //!
 //! It is for a database that ends with its program, so a sync has nothing to do and costs nothing. The `Memory` of
 //! `sqlite_disk` is for tests of stops: it keeps what each of them may leave, and copies the whole file at each sync.

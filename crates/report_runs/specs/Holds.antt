@@ -1,4 +1,4 @@
--- What `holds` makes of the bytes of a source (IBM z/OS SMP/E Reference, `++HOLD`).
+-- The print of `holds`, by the bytes of a source (IBM z/OS SMP/E Reference, `++HOLD`).
 use Rattle.std.specs.Prelude.{◌≡◌, ◌≢◌, ℕ, ◌⊎◌, List, codes, take, Option, Some, None, Result, Ok, Err, IfSome}
 use Rattle.std.specs.Io.KnownBytes.{Appends, Keeps}
 use Rattle.faults.specs.declared.any.AnyFault.{AnyFault}
@@ -26,11 +26,11 @@ use Rattle.run_parts.specs.declared.fault.ProgramFault.TheVariants.{NotRead, Not
 abbrev pub most_read : ℕ
 most_read = 67108865
 
--- what is told of a source that isn't read as statements
+-- the fault for a source that isn't read as statements
 abbrev pub of_source : McsFault → AnyFault
 of_source fault = mcs.told fault
 
--- what is told of statements that make no hold changes
+-- the fault for statements that make no hold changes
 abbrev pub of_holds : HoldFault → AnyFault
 of_holds fault = hold.told fault
 
@@ -38,22 +38,22 @@ of_holds fault = hold.told fault
 abbrev pub print_left : List HoldChange → List ℕ
 print_left changes = book_text (book_of changes)
 
--- what statements make, whose first fault is this one, if they have one: the print of the hold book that they leave
+-- the print of the hold book that statements leave, or this fault, which is their first
 abbrev pub book_print : Option HoldFault → List Statement → Result (List ℕ) AnyFault
 book_print None statements = Ok (print_left (changes_of statements))
 book_print (Some fault) statements = Err (of_holds fault)
 
--- the same of what a source is read as
+-- the same, by the reading of a source
 abbrev pub print_of_read : Read → Result (List ℕ) AnyFault
 print_of_read (Ok statements) = book_print (first_fault statements) statements
 print_of_read (Err fault) = Err (of_source fault)
 
--- what a source makes: the print of the hold book that its statements leave, or its fault
+-- the print of the hold book that the statements of a source leave, or its fault
 abbrev pub print_of : List ℕ → Result (List ℕ) AnyFault
 print_of source = print_of_read (reading_of source)
 
--- The law of a print: the source is read as statements, and the book in print has under each key what the last of their
--- changes that names the key left.
+-- The law of a print: the source is read as statements, and each key of the printed book has the hold that the last of their
+-- changes of that key left.
 pub record IsBookLeft (source text : List ℕ) : Type 0 where
   pub statements : List Statement
   pub read : reading_of source ≡ Ok statements
@@ -73,19 +73,19 @@ IsCutShort fault source old new = (fault ≡ of_program NotWritten) × ((text : 
 abbrev pub IsRefused : AnyFault → List ℕ → Option (List ℕ) → Option (List ℕ) → Type 0
 IsRefused fault source old new = ((fault ≡ of_program NotRead) ⊎ IsMemory fault ⊎ (print_of source ≡ Err fault)) × Keeps old new
 
--- What standard output gets: the source's print, or what the fault leaves.
+-- Standard output gets the source's print, or what the fault leaves.
 abbrev pub IsOutput : Option AnyFault → List ℕ → Option (List ℕ) → Option (List ℕ) → Type 0
 IsOutput None source old new = (text : List ℕ) × (print_of source ≡ Ok text) × Appends old new text
 IsOutput (Some fault) source old new = IsCutShort fault source old new ⊎ IsRefused fault source old new
 
--- The source that was read is all that there is, up to the limit, and the output is as it wants.
+-- The source that was read is all that there is, up to the limit, and the output is as it has to be.
 pub record IsPrinted (input old new : Option (List ℕ)) (outcome : Option AnyFault) : Type 0 where
   pub source : List ℕ
   pub read : IfSome input (λ bytes. source ≡ take most_read bytes)
   pub printed : IsOutput outcome source old new
 
--- A whole run: from what is read to what standard output and standard error get, and the exit status.
--- No more is taken from the reader than a source may have, and one byte.
+-- A whole run: from what is read to what standard output and standard error get, and the exit status. The reader gives at
+-- most one byte more than a source may have.
 pub record IsHoldsRun (input rest old new old_errors new_errors : Option (List ℕ)) (status : ℕ) : Type 0 where
   pub outcome : Option AnyFault
   pub taken : ConsumesUpTo most_read input rest
@@ -95,7 +95,7 @@ pub record IsHoldsRun (input rest old new old_errors new_errors : Option (List �
 
 -- ---- of a file by its name
 
--- the hold book of what a file has; or the file can't be opened
+-- the hold book of a file's bytes; or the file can't be opened
 abbrev pub IsHoldsOf : KnownFile → Outputs → ℕ → Type 0
 IsHoldsOf file outputs status =
     ((bytes : Option (List ℕ)) × (rest : Option (List ℕ)) × IsOpened file bytes

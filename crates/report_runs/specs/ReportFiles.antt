@@ -1,4 +1,4 @@
--- What `errsysmods`, `missingfix` and `chain` do: from the names of files to what is read of them, what both streams get, and the
+-- `errsysmods`, `missingfix` and `chain`: from the names of files to what is read of them, what both streams get, and the
 -- exit status.
 use Rattle.std.specs.Prelude.{◌≡◌, ◌≢◌, ◌≤◌, ◌<◌, ◌⊎◌, ◌++◌, ℕ, List, [], ◌∷◌, Option, Some, None, IfSome, codes, filter, length, map, option_map, string_bytes, take}
 use Rattle.std.specs.Option.{option_and_then, option_to_list}
@@ -20,14 +20,14 @@ use Rattle.report_runs.specs.declared.reporting.Question.TheVariants.{Chain}
 
 -- ---- what is read
 
--- what stands in a file, up to one byte more than an input may have
+-- the bytes of a file, up to one byte more than an input may have
 abbrev pub IsFrontOf : KnownFile → List ℕ → Type 0
 IsFrontOf Unknown bytes = Unit {0}
 IsFrontOf Missing bytes = ⊥
 IsFrontOf (Holds known) bytes = bytes ≡ take most_read known
 
--- One file is read: standard input, if its name is `-`, and else the file of that name. Of both no more is read than an
--- input may have, and one byte.
+-- One file is read: standard input, if its name is `-`, and else the file of that name. From either at most one byte more is
+-- read than an input may have.
 abbrev pub IsRead : (List ℕ → KnownFile) → List ℕ → List ℕ → Option (List ℕ) → Option (List ℕ) → Type 0
 IsRead files name bytes input rest =
     ((name ≡ codes "-") × IfSome input (λ all. bytes ≡ take most_read all) × ConsumesUpTo most_read input rest)
@@ -48,8 +48,8 @@ AreRead files (name ∷ names) [] input rest = ⊥
 AreRead files (name ∷ names) (bytes ∷ more) input rest =
     (between : Option (List ℕ)) × IsRead files name bytes input between × AreRead files names more between rest
 
--- All files of a report are read: that of the zone, of the categories and of what is received, if these are given, and the
--- publications in their order.
+-- All files of a report are read: that of the zone, of the categories and of the received SYSMODs, if these are given, and
+-- the publications in their order.
 pub record AreInputs (files : List ℕ → KnownFile) (names : ReportFiles) (inputs : Inputs) (input rest : Option (List ℕ)) : Type 0 where
   pub after_zone : Option (List ℕ)
   pub after_categories : Option (List ℕ)
@@ -83,13 +83,13 @@ names_in names =
     string_bytes names.zone ∷ option_to_list (option_map string_bytes names.categories) ++ option_to_list (option_map string_bytes names.received)
     ++ map string_bytes names.publications.items
 
--- how many of all names are `-`
+-- the number of all names that are `-`
 abbrev pub times_standard_input : ReportFiles → ℕ
 times_standard_input names = length (standard_inputs (names_in names))
 
 -- ---- a whole run
 
--- the report of what all files have, on this zone
+-- the report of the bytes of all files, on this zone
 pub record IsReported (files : List ℕ → KnownFile) (question : Question) (names : ReportFiles) (input rest : Option (List ℕ)) (outputs : Outputs) (status : ℕ) : Type 0 where
   pub zone : List ℕ
   pub zone_is : zone_of names ≡ Some zone

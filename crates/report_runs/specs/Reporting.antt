@@ -1,4 +1,4 @@
--- What a report from files makes of its inputs.
+-- The report from files, by its inputs.
 use Rattle.std.specs.Prelude.{◌≡◌, ◌⊎◌, ◌++◌, ℕ, List, Option, Some, None, Result, Ok, Err, IsSome, codes, map, option_map, slice_get, string_bytes}
 use Rattle.std.specs.Io.KnownBytes.{Appends, Keeps}
 use Rattle.faults.specs.FaultText.{text_of}
@@ -19,38 +19,38 @@ use Rattle.questions.specs.declared.report.Report.TheVariants.{ErrSysmods, Missi
 use Rattle.report_runs.specs.declared.reporting.Question.TheVariants.{Chain, Report}
 use Rattle.report_runs.specs.declared.reporting.ReportAsked.{ReportAsked}
 
--- the text of what is asked, on a zone of this name; a verdict has a line end after it
+-- the text of the answer, on a zone of this name; a verdict has a line end after it
 abbrev pub report_text : Question → List ℕ → Said → List ℕ
 report_text (Report ErrSysmods) zone said = err_text_said zone said
 report_text (Report MissingFix) zone said = missing_text_said zone said
 report_text (Chain sysmod) zone said = chain_text_said zone sysmod said ++ codes "\n"
 
--- the inputs that are read for it: fix categories are for the missing fixes alone, and a verdict asks for nothing that is received
+-- the inputs that are read for it: only the missing fixes need fix categories, and a verdict needs no received SYSMODs
 abbrev pub read_by : Question → Inputs → Inputs
 read_by (Report ErrSysmods) inputs = record inputs { categories = None }
 read_by (Report MissingFix) inputs = inputs
 read_by (Chain sysmod) inputs = record inputs { categories = None; received = None }
 
--- what is made of the inputs: the text of the report, or the first fault
+-- the text of the report, by the inputs; or the first fault
 abbrev pub made_by : Question → List ℕ → Inputs → Result (List ℕ) Refused
 made_by question zone inputs = text_by (report_text question zone) (read_by question inputs)
 
--- the same of the lists and publications that a run is handed
+-- the same, by the lists and publications that a run is handed
 abbrev pub made_of : ReportAsked → List (List ℕ) → Result (List ℕ) Refused
 made_of asked publications = made_by asked.question asked.zone (inputs_of asked.lists publications)
 
--- the name of the file that an input stands in
+-- the name of an input's file
 abbrev pub name_of : ReportFiles → Input → Option (List ℕ)
 name_of files Zone = Some (string_bytes files.zone)
 name_of files Categories = option_map string_bytes files.categories
 name_of files Received = option_map string_bytes files.received
 name_of files (Publication index) = slice_get (map string_bytes files.publications.items) index
 
--- each input that is given stands in a file that has a name
+-- each input that is given has a file with a name
 abbrev pub AreNamed : ReportFiles → Inputs → Type 0
 AreNamed files inputs = (input : Input) → IsGiven inputs input → IsSome (name_of files input)
 
--- what standard error gets of a fault: its line with the name of the file that it is in, or without one, if it is in none
+-- standard error gets the line of a fault with the name of its file, or without one if it is in none
 abbrev pub IsToldOf : ReportFiles → AnyFault → Option Input → Option (List ℕ) → Option (List ℕ) → Type 0
 IsToldOf files fault None old new = AppendsFront old new (text_of fault)
 IsToldOf files fault (Some input) old new =
@@ -66,13 +66,13 @@ abbrev pub IsReportCutShort : InputFault → Result (List ℕ) Refused → Optio
 IsReportCutShort told made old new =
     (told ≡ record { input = None; fault = of_program NotWritten }) × ((text : List ℕ) × (made ≡ Ok text) × AppendsFront old new text)
 
--- What standard output gets: the whole report; a front of it, if a write failed; or nothing, if an input has a fault or
--- memory ran out.
+-- Standard output gets the whole report; a front of it, if a write failed; or nothing, if an input has a fault or memory ran
+-- out.
 abbrev pub IsReportOutput : Option InputFault → Result (List ℕ) Refused → Option (List ℕ) → Option (List ℕ) → Type 0
 IsReportOutput None made old new = (text : List ℕ) × (made ≡ Ok text) × Appends old new text
 IsReportOutput (Some told) made old new = IsReportCutShort told made old new ⊎ (IsFirstFault made told × Keeps old new)
 
--- what standard error gets: nothing, or the line that tells the fault, as far as it takes it
+-- standard error gets nothing, or the line that tells the fault, as far as it takes it
 abbrev pub IsReportTold : ReportFiles → Option InputFault → Option (List ℕ) → Option (List ℕ) → Type 0
 IsReportTold files None old new = Keeps old new
 IsReportTold files (Some told) old new = IsToldOf files told.fault told.input old new

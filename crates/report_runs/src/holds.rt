@@ -22,8 +22,8 @@ pub const MOST_READ: usize = mcs_reader::MOST_BYTES + 1;
 
 /// Reads HOLDDATA and prints the hold book that its statements leave. Returns the exit status.
 ///
-/// The text is made whole before its first byte is written. A fault is told on `errors` alone, as `FAULT`, its number
-/// and its line; only if a write fails has `writer` the front of the text. No more than [`MOST_READ`] bytes are read.
+/// The text is whole before its first byte is written. A fault goes to `errors` alone, as `FAULT`, its number and its
+/// line. Only if a write fails does `writer` have the front of the text. No more than [`MOST_READ`] bytes are read.
 pub fn run_holds<R: Read, W: Write, E: Write>(
     alloc: Global,
     reader: &mut R,
@@ -40,7 +40,7 @@ pub fn run_holds<R: Read, W: Write, E: Write>(
 
 /// Prints the hold book of a FILE by its name, or of standard input if that is `-`. Returns the exit status.
 ///
-/// Standard input is read if FILE is `-`, and nowhere else. A file that can't be opened is told as 71.
+/// Standard input is read only if FILE is `-`. For a file that can't be opened the fault is 71.
 pub fn do_holds<S: Files, I: Read, O: Write, E: Write>(
     surroundings: &S,
     alloc: Global,
@@ -62,7 +62,7 @@ pub fn do_holds<S: Files, I: Read, O: Write, E: Write>(
     }
 }
 
-// Prints the hold book of what the reader gives.
+// Prints the hold book of the bytes of a reader.
 fn print_holds<R: Read, W: Write>(
     alloc: Global,
     reader: &mut R,
@@ -77,7 +77,7 @@ fn print_holds<R: Read, W: Write>(
     Ok(write_text(writer, text.as_slice())?)
 }
 
-/// What the reader gives, up to one byte more than a source may have, in room of its own size.
+/// Reads the bytes of a reader, up to one byte more than a source may have, in room of their own size.
 pub fn read_input<R: Read>(
     alloc: Global,
     reader: &mut R,
@@ -93,7 +93,7 @@ pub fn read_input<R: Read>(
     Ok(source)
 }
 
-/// The hold book that the statements of a source leave, in print.
+/// Prints the hold book that the statements of a source leave.
 ///
 /// # Errors
 ///
@@ -103,7 +103,7 @@ pub fn hold_book_text(alloc: Global, source: Vec<u8>) -> Result<Vec<u8>, AnyFaul
     ensures left { IfOk result (λ text. IsBookLeft source.items text.items) }
     ensures fault { IfErr result (λ fault. IsMemory fault ⊎ (print_of source.items ≡ Err fault)) }
 
-    // What a source is read as, in the words of the field.
+    // The reading of the source, in the words of the field.
     ensures reading { IsRead source.items (reading_of source.items) }
 {
     let changes = changes_in(alloc, source.as_slice())?;
@@ -111,7 +111,7 @@ pub fn hold_book_text(alloc: Global, source: Vec<u8>) -> Result<Vec<u8>, AnyFaul
     Ok(text_left(changes)?)
 }
 
-// The book that changes leave, in print.
+// Prints the book that changes leave.
 fn text_left(changes: Vec<HoldChange>) -> Result<Vec<u8>, ProgramFault>
     ensures text { IfOk result (λ text. text.items ≡ print_left changes.items) }
     ensures left { IsLeft changes.items (book_of changes.items) }
@@ -120,8 +120,8 @@ fn text_left(changes: Vec<HoldChange>) -> Result<Vec<u8>, ProgramFault>
     Ok(book_text_left(changes)?)
 }
 
-// What the statements of a source do to the holds, in their order. Only the operands that say something of a hold are
-// asked for.
+// The changes that the statements of a source make of the holds, in their order. It asks only for the operands that say
+// something of a hold.
 fn changes_in(alloc: Global, source: &[u8]) -> Result<Vec<HoldChange>, AnyFault>
     ensures changes { IfOk result
         (λ changes. print_of source.now ≡ Ok (print_left changes.items)) }
@@ -132,8 +132,8 @@ fn changes_in(alloc: Global, source: &[u8]) -> Result<Vec<HoldChange>, AnyFault>
     changes_by(alloc, statements)
 }
 
-// What statements do to the holds, in their order. No statement is kept, and what stands after the first that has a
-// fault as a hold is read too, since a fault of the text itself comes before it.
+// The changes that statements make of the holds, in their order. It keeps no statement. It also reads what comes after
+// the first statement with a fault as a hold, since a fault of the text itself comes before that.
 fn changes_by(alloc: Global, statements: Statements) -> Result<Vec<HoldChange>, AnyFault>
     ensures changes { IfOk result
         (λ changes. print_of_read statements.entry.reading ≡ Ok (print_left changes.items)) }
@@ -154,7 +154,7 @@ fn changes_by(alloc: Global, statements: Statements) -> Result<Vec<HoldChange>, 
     Ok(changes)
 }
 
-// Puts the change, if there is one, after the others.
+// Adds the change, if there is one.
 fn push_change(
     changes: &mut Vec<HoldChange>,
     change: Option<HoldChange>,

@@ -1,8 +1,10 @@
-//! The runs of the program that make reports from files, with no desk: `holds`, `errsysmods`, `missingfix` and `chain`.
+//! The runs of the program that make reports from files, without a desk: `holds`, `errsysmods`, `missingfix` and
+//! `chain`.
 //!
-//! - [`run_holds`]: the hold book that a source leaves, in print; [`do_holds`]: of a FILE by its name
-//! - [`run_report`]: a report of bytes of files, as [`ReportAsked`]
-//! - [`do_report`]: what a [`Question`] asks of files by their names; [`do_chain`]: the verdict on a SYSMOD
+//! - [`run_holds`]: prints the hold book that a source leaves; [`do_holds`]: that of a FILE by its name
+//! - [`run_report`]: prints a report of the bytes of files, as [`ReportAsked`]
+//! - [`do_report`]: prints the answer to a [`Question`] from files by their names; [`do_chain`]: the verdict on a
+//!   SYSMOD
 //!
 //! ```
 //! let source = "++HOLD(UA10001) ERROR REASON(AA20002).";

@@ -1,4 +1,4 @@
-//! The files of a report: what stands in them.
+//! The files of a report, and their bytes.
 ghost use Rattle.std.specs.Prelude.{◌≡◌, ◌↔◌, ◌<◌, ◌≤◌, [], ◌∷◌, length, map, option_map, string_bytes, IfErr, IfOk, IsTrue};
 ghost use Rattle.std.specs.Option.{option_and_then, option_to_list};
 ghost use Rattle.faults.specs.Refusal.{IsRefusal};
@@ -19,7 +19,7 @@ use std::io::{Read, Write};
 use std::path::Path;
 use transfer::RETRIES;
 
-// What stands in the files of a report.
+// The bytes of a report's files.
 #[derive(Drop)]
 pub(crate) struct Contents {
     pub(crate) zone: Vec<u8>,
@@ -28,7 +28,7 @@ pub(crate) struct Contents {
     pub(crate) publications: Vec<Vec<u8>>,
 }
 
-/// Prints the verdict on the SYSMOD of this name. If that is no id, status 2 says so.
+/// Prints the verdict on the SYSMOD of this name. If that is no id, it says so, and the exit status is 2.
 pub fn do_chain<S: Files, I: Read, O: Write, E: Write>(
     surroundings: &S,
     alloc: Global,
@@ -51,8 +51,8 @@ pub fn do_chain<S: Files, I: Read, O: Write, E: Write>(
     }
 }
 
-/// Prints what is asked of these files. Nothing is read if the zone has no name, or if a second file is `-`: status 2
-/// says so.
+/// Prints the answer to a question from these files. If the zone has no name, or a second file is `-`, it reads nothing
+/// and the exit status is 2.
 pub fn do_report<S: Files, I: Read, O: Write, E: Write>(
     surroundings: &S,
     alloc: Global,
@@ -83,7 +83,7 @@ pub fn do_report<S: Files, I: Read, O: Write, E: Write>(
     }
 }
 
-// Prints what is asked of what the files have.
+// Prints the answer to a question from the bytes of the files.
 fn print<O: Write, E: Write>(
     alloc: Global,
     question: Question,
@@ -129,7 +129,7 @@ fn bytes_of(bytes: &Option<Vec<u8>>) -> Option<&[u8]>
     }
 }
 
-// What stands in the files. They are read one after the other, with 64 retries in all.
+// Reads the bytes of the files, one after the other, with 64 retries in all.
 fn read_files<S: Files, I: Read>(
     surroundings: &S,
     alloc: Global,
@@ -160,7 +160,7 @@ fn read_files<S: Files, I: Read>(
     })
 }
 
-// What stands in each file, in their order.
+// Reads the bytes of each file, in their order.
 fn read_all<S: Files, I: Read>(
     surroundings: &S,
     alloc: Global,
@@ -180,7 +180,7 @@ fn read_all<S: Files, I: Read>(
     Ok(all)
 }
 
-// What stands in a file, if one is given.
+// Reads the bytes of a file, if one is given.
 fn read_given<S: Files, I: Read>(
     surroundings: &S,
     alloc: Global,
@@ -202,7 +202,8 @@ fn read_given<S: Files, I: Read>(
     }
 }
 
-// What stands in a file, or in standard input if the name is `-`: all of it, or one byte more than an input may have.
+// Reads the bytes of a file, or of standard input if the name is `-`: all of them, or one byte more than an input may
+// have.
 fn read_one<S: Files, I: Read>(
     surroundings: &S,
     alloc: Global,
@@ -272,7 +273,7 @@ fn once_given(name: &Option<String>) -> usize
     }
 }
 
-// How many of the names are `-`.
+// The number of names that are `-`.
 fn standard_inputs_in(names: &[String]) -> usize
     ensures { result ≡ length (standard_inputs (map string_bytes names.now)) }
 {

@@ -1,4 +1,4 @@
-//! `errsysmods`, `missingfix` and `chain`: reports from files, with no desk.
+//! `errsysmods`, `missingfix` and `chain`: reports from files, without a desk.
 ghost use Rattle.std.specs.Prelude.{◌≡◌, ◌++◌, codes, map, option_map, string_bytes, IfErr, IfOk, IsSome, None, Ok, Some};
 ghost use Rattle.file_reports.specs.Inputs.{IsOutOfMemory, IsFirstFault};
 ghost use Rattle.file_reports.specs.Lists.{inputs_of};
@@ -13,7 +13,7 @@ use run_parts::{ReportFiles, exit_status, report, tell_in, write_text};
 use std::alloc::Global;
 use std::io::{self, Write};
 
-/// What is asked of files.
+/// The question to files.
 #[derive(Clone, Copy, Debug)]
 pub enum Question {
     /// A report on a zone.
@@ -22,7 +22,7 @@ pub enum Question {
     Chain(Id),
 }
 
-/// What is asked, of which zone, with its lists, and the names of all files.
+/// The question, the zone with its lists, and the names of all files.
 #[derive(Clone, Copy, Debug)]
 pub struct ReportAsked<'a, 'f> {
     pub question: Question,
@@ -33,8 +33,8 @@ pub struct ReportAsked<'a, 'f> {
 
 /// Prints a report of the publications and of a zone's lists. Returns the exit status.
 ///
-/// The text is made whole before its first byte is written. A fault is told on `errors` alone, as `FAULT`, its number,
-/// its line or record, and the name of the file that it is in.
+/// The text is whole before its first byte is written. A fault goes to `errors` alone, as `FAULT`, its number, its line
+/// or record, and the name of its file.
 pub fn run_report<W: Write, E: Write>(
     alloc: Global,
     asked: &ReportAsked<'_, '_>,
@@ -128,7 +128,7 @@ fn with_line_end(text: Vec<u8>) -> Result<Vec<u8>, InputFault>
     }
 }
 
-// Tells a fault, with the name of the file that it is in.
+// Writes a fault, with the name of its file.
 fn tell_fault<E: Write>(errors: &mut E, files: &ReportFiles, told: InputFault) -> io::Result<()>
     requires { HasName files.now told.input }
     ensures { IsToldOf files.now told.fault told.input (E.contents errors.old) (E.contents errors.new) }
@@ -139,7 +139,7 @@ fn tell_fault<E: Write>(errors: &mut E, files: &ReportFiles, told: InputFault) -
     }
 }
 
-// The name of the file that an input stands in.
+// The name of an input's file.
 fn name_in(files: &ReportFiles, input: Input) -> &str
     requires { IsSome (name_of files.now input) }
     ensures { name_of files.now input ≡ Some result.now }
@@ -152,7 +152,7 @@ fn name_in(files: &ReportFiles, input: Input) -> &str
     }
 }
 
-// The text that is there.
+// The text, or an empty one if there is none.
 fn text_in(text: &Option<String>) -> &str
     requires { IsSome (option_map string_bytes text.now) }
     ensures { option_map string_bytes text.now ≡ Some result.now }

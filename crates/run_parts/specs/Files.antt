@@ -1,7 +1,7 @@
 -- What is known of the files that a run may read.
 use Rattle.std.specs.Prelude.{◌≡◌, ℕ, List, [], ◌∷◌, Option, Some}
 
--- what a file of a name is known to be: nothing is known, as of the system's own files; there is none; or it has these bytes
+-- the facts on the file of a name: nothing is known, as of the system's own files; there is none; or it has these bytes
 pub data KnownFile : Type 0 where
   Unknown : KnownFile
   Missing : KnownFile

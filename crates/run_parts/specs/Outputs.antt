@@ -1,4 +1,4 @@
--- What the two streams of a run get, how it ends, and how a run ends that makes nothing.
+-- The outputs of a run on its two streams, how it ends, and how a run ends that makes nothing.
 use Rattle.std.specs.Prelude.{◌≡◌, ◌++◌, ℕ, List, Option, Some, None, Result, Ok, Err, codes, decimal}
 use Rattle.std.specs.Io.KnownBytes.{Keeps}
 use Rattle.faults.specs.FaultText as fault_text
@@ -7,7 +7,7 @@ use Rattle.transfer.specs.Transfer.{AppendsFront}
 use Rattle.run_parts.specs.ProgramFault.{of_program, status_of}
 use Rattle.run_parts.specs.declared.fault.ProgramFault.{ProgramFault}
 
--- What standard error gets: nothing, or the line that tells the fault, as far as it takes it.
+-- Standard error gets nothing, or the line that tells the fault, as far as it takes it.
 abbrev pub IsTold : Option AnyFault → Option (List ℕ) → Option (List ℕ) → Type 0
 IsTold None old new = Keeps old new
 IsTold (Some fault) old new = AppendsFront old new (fault_text.text_of fault)
@@ -33,7 +33,7 @@ pub record Outputs : Type 0 where
   pub errors : Option (List ℕ)
   pub told : Option (List ℕ)
 
--- the same, by how what a writer has is known
+-- the same, by what is known of each writer
 abbrev pub outputs_of : {Output Errors : Type 0} → (Output → Option (List ℕ)) → (Errors → Option (List ℕ)) → Output → Output → Errors → Errors → Outputs
 outputs_of contents errors_contents output written errors told = record {
   output = contents output;
@@ -52,7 +52,7 @@ abbrev pub IsToldAlone : AnyFault → Outputs → ℕ → Type 0
 IsToldAlone fault outputs status =
     Keeps outputs.output outputs.written × IsTold (Some fault) outputs.errors outputs.told × (status ≡ status_of fault.cause)
 
--- words that are no line: what to tell the user stands on standard error
+-- words that are no line: standard error gets a text for the user
 abbrev pub IsExplained : List ℕ → Outputs → ℕ → Type 0
 IsExplained text outputs status =
     Keeps outputs.output outputs.written × AppendsFront outputs.errors outputs.told text × (status ≡ 2)

@@ -1,4 +1,4 @@
-//! Why the program can't do what it is asked, and what it tells of any fault.
+//! Why the program can't do what it should, and the writing of any fault.
 ghost use Rattle.std.specs.Prelude.{◌≡◌, OnOk};
 ghost use Rattle.std.specs.Io.KnownBytes.{Appends};
 ghost use Rattle.faults.specs.FaultText.{text_of};
@@ -11,7 +11,7 @@ use std::io::{self, Write};
 use thiserror::Error;
 use transfer::{RETRIES, TransferFault, write_whole};
 
-/// Why the program itself can't do what it is asked.
+/// Why the program itself can't do what it should.
 #[derive(Clone, Copy, Debug, PartialEq, Eq, Error)]
 pub enum ProgramFault {
     /// A source can't be read from its file.
@@ -75,7 +75,7 @@ impl From<TransferFault> for ProgramFault {
     }
 }
 
-/// The exit status of a run that a fault ends: 1 if what was given is at fault, and 3 if the machine is.
+/// The exit status of a run that ends with a fault: 1 if the input is at fault, and 3 if the machine is.
 pub fn exit_status(fault: AnyFault) -> u8
     ensures { result ≡ status_of fault.cause }
 {
@@ -85,11 +85,11 @@ pub fn exit_status(fault: AnyFault) -> u8
     }
 }
 
-/// Tells the fault, by its whole line.
+/// Writes the whole line of the fault.
 ///
 /// # Errors
 ///
-/// The writer's own. It has a front part of the line then.
+/// The writer's own error. The writer has a front part of the line then.
 pub fn report<E: Write>(errors: &mut E, fault: AnyFault) -> io::Result<()>
     ensures whole { OnOk result (Appends (E.contents errors.old) (E.contents errors.new)
         (text_of fault)) }
@@ -103,7 +103,7 @@ pub fn report<E: Write>(errors: &mut E, fault: AnyFault) -> io::Result<()>
 ///
 /// # Errors
 ///
-/// The writer's own. It has a front part of the text then.
+/// The writer's own error. The writer has a front part of the text then.
 #[tactic(auto, using(crate::proofs::OutputFacts::front_of_all))]
 pub fn tell<E: Write>(errors: &mut E, text: &[u8]) -> io::Result<()>
     ensures whole { OnOk result (Appends (E.contents errors.old) (E.contents errors.new) text.now) }

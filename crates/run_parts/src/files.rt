@@ -10,15 +10,15 @@ use transfer::read_source;
 
 /// The files that a run may name.
 ///
-/// Those of a system tell nothing of what they have. Others, as a list of files, can tell all of it. So what is
-/// proved of every `Files` says which files a run reads.
+/// Nothing is known of what a system's files have. Other `Files`, such as a list, may know all of it. So a
+/// proof about every `Files` says which files a run reads.
 pub trait Files {
     type File: Read + Drop;
 
-    /// What a file of a name is known to be.
+    /// What is known of the file of a name.
     ghost known_file: { Self → List ℕ → KnownFile };
 
-    /// A reader of the file of this name, at its front.
+    /// Opens the file of this name, and returns a reader at its front.
     ///
     /// # Errors
     ///
@@ -36,7 +36,7 @@ pub fn is_standard_input(file: &str) -> bool
     file == "-"
 }
 
-/// All that stands in a file, in room of its own size.
+/// Reads a whole file, in room of its own size.
 ///
 /// # Errors
 ///

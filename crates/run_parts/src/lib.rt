@@ -1,12 +1,13 @@
-//! What the runs of the program share: the files that they read by name, and what they tell on their two streams.
+//! The parts that the program's runs share: the files that they read by name, and what they write to their two
+//! streams.
 //!
-//! - [`Files`]: files by their names; [`read_file`]: all that stands in one; [`is_standard_input`]: the name `-`
+//! - [`Files`]: files by their names; [`read_file`]: reads a whole file; [`is_standard_input`]: the name `-`
 //! - [`ReportFiles`]: the names of the files of a report
-//! - [`ProgramFault`]: why the program itself can't do what it is asked
-//! - [`told`], [`refuse`], [`explain`]: what standard error gets if a run ends, and the exit status
-//! - [`report`], [`tell_in`], [`tell`], [`exit_status`]: a fault's line, alone or with a name after it, a text for
-//!   people, the status of a fault
-//! - [`printed`], [`write_text`], [`numbered_line`]: what standard output gets
+//! - [`ProgramFault`]: why the program itself can't do what it should
+//! - [`told`], [`refuse`], [`explain`]: write to standard error how a run ended, and return the exit status
+//! - [`report`], [`tell_in`], [`tell`], [`exit_status`]: write a fault's line, alone or with a name after it, or a
+//!   text for people; the status of a fault
+//! - [`printed`], [`write_text`], [`numbered_line`]: write to standard output; a line that counts
 #![tactic(auto)]
 
 mod fault;

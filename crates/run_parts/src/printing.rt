@@ -1,4 +1,4 @@
-//! What a run writes to standard output.
+//! Writing to standard output.
 ghost use Rattle.std.specs.Prelude.{◌≡◌, ◌++◌, codes, decimal, IfErr, IfOk, OnErr, OnOk};
 ghost use Rattle.std.specs.Io.KnownBytes.{Appends};
 ghost use Rattle.run_parts.specs.ProgramFault.{of_program};
@@ -15,7 +15,7 @@ use transfer::{RETRIES, write_whole};
 ///
 /// # Errors
 ///
-/// The output can't be written. It has a front part of the text then.
+/// The output can't be written. The writer has a front part of the text then.
 pub fn write_text<W: Write>(writer: &mut W, text: &[u8]) -> Result<(), ProgramFault>
     ensures ok { OnOk result (Appends (W.contents writer.old) (W.contents writer.new) text.now) }
     ensures fault { IfErr result (λ fault. fault ≡ ProgramFault.NotWritten) }
@@ -31,7 +31,7 @@ pub fn write_text<W: Write>(writer: &mut W, text: &[u8]) -> Result<(), ProgramFa
 ///
 /// # Errors
 ///
-/// The output can't be written. It has a front part of the line then.
+/// The output can't be written. The writer has a front part of the line then.
 pub fn printed<W: Write>(writer: &mut W, line: &[u8]) -> Result<(), AnyFault>
     ensures ok { OnOk result (Appends (W.contents writer.old) (W.contents writer.new) line.now) }
     ensures fault { IfErr result (λ fault. fault ≡ of_program ProgramFault.NotWritten) }
@@ -40,7 +40,7 @@ pub fn printed<W: Write>(writer: &mut W, line: &[u8]) -> Result<(), AnyFault>
     Ok(write_text(writer, line)?)
 }
 
-/// A text, a number in decimal digits, and the end of a line.
+/// Makes a line of a text and a number in decimal digits.
 ///
 /// # Errors
 ///

@@ -9,7 +9,7 @@ pub struct ReportFiles {
     pub categories: Option<String>,
     /// The SYSMODs that are received: CSV with the header `SYSMOD`.
     pub received: Option<String>,
-    /// The name of the zone. Without it that is the name of the zone's file up to its first period, in upper case.
+    /// The name of the zone. Without it the zone has the name of its file up to the first period, in upper case.
     pub name: Option<String>,
     /// HOLDDATA, SYSMODs or both, in the order in which they are published.
     pub publications: Vec<String>,

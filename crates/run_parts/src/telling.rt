@@ -1,4 +1,4 @@
-//! What standard error gets if a run ends, and the exit status.
+//! Writing to standard error how a run ended, and the exit status.
 ghost use Rattle.std.specs.Prelude.{◌≡◌, ◌-◌, Some, length, take};
 ghost use Rattle.run_parts.specs.Outputs.{IsTold, fault_in, line_in, run_status};
 ghost use Rattle.run_parts.specs.ProgramFault.{of_program};
@@ -8,10 +8,10 @@ use crate::fault::{ProgramFault, exit_status, report, tell};
 use faults::AnyFault;
 use std::io::{self, Write};
 
-// The exit status if the words aren't understood.
+// The exit status if the command line is wrong.
 const NOT_UNDERSTOOD: u8 = 2;
 
-/// Tells how a run ended, if that is with a fault, and gives the exit status.
+/// Writes how a run ended, if it ended with a fault, and returns the exit status.
 pub fn told<E: Write>(errors: &mut E, outcome: Result<(), AnyFault>) -> u8
     ensures told { IsTold (fault_in outcome) (E.contents errors.old) (E.contents errors.new) }
     ensures status { result ≡ run_status (fault_in outcome) }
@@ -25,7 +25,7 @@ pub fn told<E: Write>(errors: &mut E, outcome: Result<(), AnyFault>) -> u8
     }
 }
 
-/// Tells a fault of the program itself on standard error, and gives the exit status.
+/// Writes a fault of the program itself to standard error, and returns the exit status.
 pub fn refuse<E: Write>(errors: &mut E, fault: ProgramFault) -> u8
     ensures told { IsTold (Some (of_program fault)) (E.contents errors.old) (E.contents errors.new) }
     ensures status { result ≡ 3 }
@@ -35,7 +35,8 @@ pub fn refuse<E: Write>(errors: &mut E, fault: ProgramFault) -> u8
     exit_status(fault)
 }
 
-/// Tells why the words of the command line name no command that could be done, and gives the exit status.
+/// Writes why the words of the command line name no command that could be done, and returns the exit
+/// status.
 pub fn explain<E: Write>(errors: &mut E, text: &str) -> u8
     ensures told { AppendsFront (E.contents errors.old) (E.contents errors.new) text.now }
     ensures status { result ≡ 2 }
@@ -44,11 +45,11 @@ pub fn explain<E: Write>(errors: &mut E, text: &str) -> u8
     NOT_UNDERSTOOD
 }
 
-/// Tells a fault with a name after it, that of the file that it is in or of the table. It takes no memory.
+/// Writes a fault with a name after it, that of its file or of the table.
 ///
 /// # Errors
 ///
-/// The writer's own. It has a front part of the line then.
+/// The writer's own error. The writer has a front part of the line then.
 pub fn tell_in<E: Write>(errors: &mut E, fault: AnyFault, name: &str) -> io::Result<()>
     ensures { AppendsFront (E.contents errors.old) (E.contents errors.new) (line_in fault name.now) }
 {

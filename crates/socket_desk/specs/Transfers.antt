@@ -1,9 +1,9 @@
--- What an event tells of one read or one write.
+-- The event of one read or one write.
 use Rattle.std.specs.Prelude.{◌≡◌, ℕ, ◌<◌, ◌≤◌, List, length, take, Option}
 use Rattle.std.specs.Io.KnownBytes.{Appends, Consumes, IsAtEnd}
 use Rattle.connections.specs.Items.{Event, came, bytes, wrote, ended, failed, late}
 
--- the bytes that it tells of were the next of those that are left to read; or it tells of their end
+-- the bytes of the event were the next of those that are left to read; or it tells of their end
 abbrev pub HasRead : ℕ → Option (List ℕ) → Option (List ℕ) → Event → Type 0
 HasRead slot old new (came other) = ⊥
 HasRead slot old new (bytes other text) = (other ≡ slot) × (0 < length text) × Consumes old new text

@@ -9,7 +9,7 @@ use mio::{Interest, Token};
 use std::io::{self, ErrorKind};
 use std::time::{Duration, Instant};
 
-// How long, in seconds, a connection is idle before it may give way to another: a request may be on its way.
+// The seconds for which a connection is idle before it may give way to another: a request may be on its way.
 const GRACE: u64 = 1;
 
 impl Sockets {
@@ -29,7 +29,7 @@ impl Sockets {
         Ok(())
     }
 
-    // Accepts one, if one waits and there is a place. Whether more may wait.
+    // Accepts one, if one waits and there is a place. Returns whether more may wait.
     fn accept_one(
         &mut self,
         connections: &Connections,
@@ -52,7 +52,7 @@ impl Sockets {
         Ok(true)
     }
 
-    // The slot of the next connection: a free one, or that of the connection that is to give way.
+    // The slot of the next connection: a free one, or that of the connection that has to give way.
     fn place(&self, connections: &Connections, now: Instant) -> Option<usize> {
         match self.free.last() {
             Some(slot) => Some(*slot),
@@ -60,13 +60,13 @@ impl Sockets {
         }
     }
 
-    // The system is to tell of a socket by its slot.
+    // Asks the system to tell of a socket by its slot.
     fn register(&mut self, slot: usize, stream: &mut TcpStream) -> io::Result<()> {
         stream.set_nodelay(true)?;
         self.poll.registry().register(stream, Token(slot), Interest::READABLE | Interest::WRITABLE)
     }
 
-    // A socket takes a slot. A connection that stands there gives way, so the slot is the last of the free ones.
+    // Puts a socket into a slot. A connection that is there gives way, so the slot is the last of the free ones.
     fn take_place(
         &mut self,
         slot: usize,
@@ -99,7 +99,7 @@ impl Sockets {
     }
 }
 
-// Whether only the connection that was to be accepted is gone, or the call was interrupted: then the next one is tried.
+// Whether only the connection that should be accepted is gone, or the call was interrupted: then the next one is tried.
 fn is_gone(error: &io::Error) -> bool {
     match error.kind() {
         ErrorKind::ConnectionAborted => true,
@@ -115,7 +115,7 @@ fn may_give_way(connections: &Connections, slot: usize, side: &Side, now: Instan
         && now.saturating_duration_since(side.heard) >= Duration::from_secs(GRACE)
 }
 
-// Whether one was heard of before another, if there is another.
+// Whether bytes of one came or went before those of another, if there is another.
 fn is_before(heard: Instant, other: Option<(usize, Instant)>) -> bool {
     match other {
         Some((_, instant)) => heard < instant,

@@ -17,7 +17,7 @@ pub enum LoopFault {
 }
 
 impl LoopFault {
-    // As what ends the rounds.
+    // The same as a fault of rounds.
     pub(crate) fn in_round(self) -> RoundFault {
         match self {
             LoopFault::System(_) => RoundFault::System,

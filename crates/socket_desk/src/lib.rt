@@ -1,12 +1,12 @@
 //! Connections over sockets that don't block, in one thread: up to so many are open at once, and none keeps another one
 //! waiting.
 //!
-//! What came over a socket is told as an event of [`connections`], and what is shown there is written. So all that
-//! is promised of events in any order holds of whatever is read and written here. How long a client is waited for
-//! is [`Patience`].
+//! Bytes that come over a socket become an event of [`connections`], and the bytes shown there are written. So whatever
+//! is promised of events in any order is true of whatever is read and written here. [`Patience`] says how long the desk
+//! waits for a client.
 //!
 //! - [`SocketRounds`]: the sockets, each beside its connection, as the `Rounds` of a desk
-//! - [`Patience`], [`Stage`]: how long a connection may take at each stage
+//! - [`Patience`], [`Stage`]: the time that a connection may take at each stage
 //! - [`LoopFault`]: why there are no sockets
 //!
 //! If a log is kept, it gets a line for each request, once its reply went out whole, and for each connection that

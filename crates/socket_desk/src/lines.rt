@@ -5,7 +5,7 @@ use log_lines::{Line, Note, Word, fault_line, request_line, time_word};
 use std::alloc::Global;
 use std::time::{Clock, Duration, SystemTime};
 
-// How many bytes the lines of a round may have, for the requests that it answers, and for each slot, whose
+// The bytes that the lines of a round may have: for the requests that it answers, and for each slot, whose
 // connection may fail.
 const ROOM: usize = 32_768;
 
@@ -15,14 +15,14 @@ const ROOM_OF_SLOT: usize = 64;
 #[derive(Drop)]
 pub(crate) struct Lines {
     text: Vec<u8>,
-    // How many bytes they may have.
+    // The number of bytes that they may have.
     room: usize,
-    // When the round was: what each of its lines begins with.
+    // The time of the round, with which each of its lines begins.
     stamp: Word,
 }
 
 impl Lines {
-    /// Those of a desk that keeps no log.
+    /// The lines of a desk that keeps no log.
     pub(crate) fn none(alloc: Global) -> Lines {
         Lines {
             text: Vec::new(alloc),
@@ -31,7 +31,7 @@ impl Lines {
         }
     }
 
-    /// Those of a desk with so many slots. All memory is taken here.
+    /// The lines of a desk with so many slots. It takes all memory here.
     pub(crate) fn new(alloc: Global, slots: usize) -> Result<Lines, NoMemory> {
         let room = slots.saturating_mul(ROOM_OF_SLOT).saturating_add(ROOM);
         Ok(Lines {
@@ -41,7 +41,7 @@ impl Lines {
         })
     }
 
-    /// A round begins, of which nothing is told yet.
+    /// Begins a round, which has no lines yet.
     pub(crate) fn begin<C: Clock>(&mut self, clock: &C) {
         self.text.clear();
         if self.room > 0 {
@@ -54,7 +54,7 @@ impl Lines {
         self.text.as_slice()
     }
 
-    /// The reply to a request went out whole, so long after the request began.
+    /// Adds the line of a request whose reply went out whole, so long after the request began.
     pub(crate) fn request(&mut self, note: &Note, took: Duration) {
         if self.room > 0 {
             let line = request_line(&self.stamp, note, millis(took));
@@ -62,7 +62,7 @@ impl Lines {
         }
     }
 
-    /// A connection failed.
+    /// Adds the line of a connection that failed.
     pub(crate) fn fault(&mut self, fault: ConnFault) {
         if self.room > 0 {
             let line = fault_line(&self.stamp, u16::from(AnyFault::from(fault).number));
@@ -78,7 +78,7 @@ impl Lines {
     }
 }
 
-// The word of the time that it is, or none if the system doesn't tell it.
+// The word of the present time, or none if the system doesn't tell it.
 fn now<C: Clock>(clock: &C) -> Word {
     let Ok(time) = SystemTime::now(clock) else {
         return Word::none();
@@ -89,7 +89,7 @@ fn now<C: Clock>(clock: &C) -> Word {
     }
 }
 
-// How many milliseconds a time has.
+// The milliseconds of a time.
 fn millis(time: Duration) -> u64 {
     time.as_secs()
         .saturating_mul(1000)

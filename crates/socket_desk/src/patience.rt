@@ -1,11 +1,12 @@
-//! How long the desk waits for a client.
+//! The times for which the desk waits for a client.
 ghost use Rattle.std.specs.Prelude.{◌≡◌};
 ghost use Rattle.std.specs.Duration.{as_nanos};
 ghost use Rattle.socket_desk.specs.Patience.{is_late, seconds};
 
 use std::time::Duration;
 
-// A head is a few hundred bytes, which any client sends at once. So this bounds who sends one byte by byte.
+// A head is a few hundred bytes, which any client sends at once. So this limits clients that send it byte by
+// byte.
 const HEAD: u64 = 20;
 
 // As long as HTTP libraries keep a connection that they may use again.
@@ -14,20 +15,20 @@ const IDLE: u64 = 60;
 // A client that sends or takes nothing for so long has gone, or is no client.
 const PAUSE: u64 = 60;
 
-// The largest body, 64 MiB, in that time is 112 KB a second.
+// At 112 KB a second, the largest body, 64 MiB, takes so long.
 const WHOLE: u64 = 600;
 
 // A client that got its last reply closes its side at once.
 const CLOSING: u64 = 2;
 
-/// How far a connection has come, as far as patience goes.
+/// The stage of a connection: what the desk waits for.
 #[derive(Clone, Copy, Debug, PartialEq, Eq)]
 pub enum Stage {
     /// No request has begun.
     Idle,
     /// A head has begun, and hasn't come whole.
     Head,
-    /// A head has come, and the body hasn't whole.
+    /// A head has come, and not yet all of its body.
     Body,
     /// A reply has to go out.
     Reply,
@@ -35,7 +36,7 @@ pub enum Stage {
     Closing,
 }
 
-/// How long the desk waits for a client at each stage.
+/// The times for which the desk waits for a client at each stage.
 #[derive(Clone, Copy, Debug, PartialEq, Eq)]
 pub struct Patience {
     /// For a head, from its first byte on.
@@ -68,8 +69,8 @@ impl Patience {
         }
     }
 
-    /// Whether a connection's time is up: at this stage, if it has been quiet for so long, and its request, or
-    /// its end, has taken so long in all.
+    /// Whether a connection's time is up at this stage, after it has been quiet for so long, and its request,
+    /// or its end, has taken so long in all.
     pub fn is_over(&self, stage: Stage, quiet: Duration, taken: Duration) -> bool
         ensures { result ≡ is_late self.now stage (as_nanos quiet) (as_nanos taken) }
     {

@@ -10,33 +10,33 @@ use std::io::{self, Write};
 use std::net::{Net, SocketAddr};
 use std::time::{Clock, Instant};
 
-// How many events of sockets one wait tells at most.
+// The most events of sockets that one wait tells.
 const EVENTS: usize = 1024;
 
 /// The sockets of a port.
 ///
-/// In each round one read or one write is made of each socket that is ready. Then all of these are told, and so
+/// In each round it makes one read or one write of each socket that is ready. Then it tells all of these. So
 /// each connection gets at most one request answered before the next one's turn.
 ///
 /// If a log is kept, it gets a line for each reply that went out whole, and for each connection that failed, at
-/// the end of the round. What can't be written to it is left out, and nothing else depends on it.
+/// the end of the round. A line that can't be written is left out, and nothing else depends on it.
 #[derive(Drop)]
 pub struct SocketRounds<'c, C, W> {
     sockets: Sockets,
     events: Events,
     clock: &'c C,
     log: Option<W>,
-    // Some of what was read may not have been told, or not served: then nothing more is read.
+    // Some of what was read may not have been told, or not served. Then nothing more is read.
     has_stopped: bool,
 }
 
 impl<'c, C: Clock, W: Write> SocketRounds<'c, C, W> {
-    /// Listens on an address. It has so many slots, and time goes by this clock. A log is kept if there is a
-    /// writer for it.
+    /// Listens on an address, with so many slots, and takes the time from this clock. It keeps a log if there
+    /// is a writer for it.
     ///
     /// # Errors
     ///
-    /// The system's own; or memory ran out.
+    /// The system's own error; or memory ran out.
     pub fn new<N: Net>(
         net: &N,
         alloc: Global,
@@ -66,17 +66,17 @@ impl<'c, C: Clock, W: Write> SocketRounds<'c, C, W> {
     ///
     /// # Errors
     ///
-    /// The system's own.
+    /// The system's own error.
     pub fn address(&self) -> io::Result<SocketAddr> {
         self.sockets.address()
     }
 
-    /// What the log is written to, if one is kept.
+    /// The writer of the log, if one is kept.
     pub fn log(&self) -> Option<&W> {
         self.log.as_ref()
     }
 
-    // Waits for the sockets, and reads and writes them. What came of it is told.
+    // Waits for the sockets, reads and writes them, and tells what came of it.
     fn go_round(
         &mut self,
         connections: &Connections,
@@ -101,7 +101,7 @@ impl<'c, C: Clock, W: Write> SocketRounds<'c, C, W> {
         })
     }
 
-    // Writes the lines of the round. Those that can't be written are left out.
+    // Writes the lines of the round, and leaves out those that can't be written.
     fn write_lines(&mut self) {
         let text = self.sockets.lines.text();
         if let Some(log) = &mut self.log {

@@ -1,4 +1,4 @@
-//! The socket of a connection, and when it was heard of.
+//! The socket of a connection, and the times of its bytes.
 use crate::patience::{Patience, Stage};
 use bureau_http::ConnFault;
 use connections::{Connection, Phase};
@@ -7,18 +7,18 @@ use std::io::{self, ErrorKind, Read};
 use std::net::Shutdown;
 use std::time::{Duration, Instant};
 
-/// Among which a connection waits for a visit.
+/// The list in which a connection waits for a visit.
 #[derive(Clone, Copy, Debug, PartialEq, Eq)]
 pub(crate) enum Listed {
     /// None: the system will tell of it.
     Nowhere,
-    /// Those that may have something to do.
+    /// The list of those that may have something to do.
     Ready,
-    /// Those whose body doesn't fit the limit yet.
+    /// The list of those whose body doesn't fit the limit yet.
     Short,
 }
 
-/// Why the desk lets a connection go, should it do so next.
+/// The reason for which the desk would let a connection go next.
 #[derive(Clone, Copy, Debug, PartialEq, Eq)]
 pub(crate) enum Parting {
     /// There is no memory for it: neither side has ended it.
@@ -30,7 +30,7 @@ pub(crate) enum Parting {
 }
 
 impl Parting {
-    // That of a connection in this phase, all of whose replies went out.
+    // The reason for a connection in this phase, all of whose replies went out.
     pub(crate) fn of(connection: &Connection, phase: Phase) -> Parting {
         match phase {
             Phase::Open => Parting::NoMemory,
@@ -40,7 +40,7 @@ impl Parting {
         }
     }
 
-    // What the log tells of it.
+    // The fault that the log has of it, if any.
     pub(crate) fn fault(self) -> Option<ConnFault> {
         match self {
             Parting::NoMemory => Some(ConnFault::Memory),
@@ -50,7 +50,7 @@ impl Parting {
     }
 }
 
-/// The socket of a connection, and when it was heard of.
+/// The socket of a connection, and the times of its bytes.
 #[derive(Drop)]
 pub(crate) struct Side {
     pub(crate) stream: TcpStream,
@@ -66,9 +66,9 @@ pub(crate) struct Side {
     pub(crate) is_closing: bool,
     // it came, or bytes were written to it, and the desk has not noted that yet
     pub(crate) is_ahead: bool,
-    // among which it waits for a visit
+    // the list in which it waits for a visit
     pub(crate) list: Listed,
-    // why the desk lets it go, should it do so next
+    // the reason for which the desk would let it go next
     pub(crate) parting: Parting,
 }
 
@@ -87,20 +87,20 @@ impl Side {
         }
     }
 
-    // The desk has nothing more to write. What the client still sends is read for a while, since a socket that is
-    // closed while bytes lie unread in it may lose its last reply (RFC 9112, section 9.6).
+    // Ends the desk's side, which has nothing more to write. What the client still sends is read for a while,
+    // since a socket that is closed while bytes lie unread in it may lose its last reply (RFC 9112, section 9.6).
     pub(crate) fn close(&mut self, now: Instant) {
         let _ = self.stream.shutdown(Shutdown::Write);
         self.is_closing = true;
         self.since = now;
     }
 
-    // One read whose bytes nobody needs. Whether there may be more.
+    // Reads once, and drops the bytes. Returns whether there may be more.
     pub(crate) fn read_out(&mut self, room: &mut [u8]) -> io::Result<bool> {
         Ok(self.stream.read(room)? > 0)
     }
 
-    // Bytes came or went. A request may begin with them, or after them.
+    // Notes that bytes came or went. A request may begin with them, or after them.
     pub(crate) fn hear(&mut self, now: Instant, begins: bool) {
         self.heard = now;
         if begins {
@@ -108,7 +108,7 @@ impl Side {
         }
     }
 
-    // How long its request has taken.
+    // The time that its request has taken.
     pub(crate) fn taken(&self, now: Instant) -> Duration {
         now.saturating_duration_since(self.since)
     }
@@ -121,7 +121,7 @@ impl Side {
     }
 
     // Whether its time is up at this stage. While it waits for its turn, what it sent may lie unread: then this is
-    // whether its time was up already when it had its last turn. Once the desk has ended its side nothing that it
+    // whether its time was up already when it had its last turn. Once the desk has ended its side, nothing that it
     // sends counts.
     pub(crate) fn is_late(&self, patience: &Patience, stage: Stage, now: Instant) -> bool {
         let seen = if self.list == Listed::Ready && !self.is_closing {
@@ -137,7 +137,7 @@ impl Side {
     }
 }
 
-// Whether the system would make a read or write wait, or it has failed. `None` if it is to be made again.
+// Whether the system would make a read or write wait; else it has failed. `None` if it should be made again.
 pub(crate) fn waits(error: &io::Error) -> Option<bool> {
     match error.kind() {
         ErrorKind::WouldBlock => Some(true),

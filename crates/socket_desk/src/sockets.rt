@@ -17,12 +17,12 @@ use std::time::{Duration, Instant};
 // The token of the listener. Those of sockets are their slots.
 const LISTENER: usize = usize::MAX;
 
-// How many are visited in a round at most, of which there is something to tell: so what was read and not yet told
-// stays small. And how many are accepted.
+// The most sockets that are visited in a round with something to tell, so that what was read and not yet told stays
+// small. It is also the most that are accepted.
 pub(crate) const MOST: usize = 64;
 
-// How often, in seconds, the loop looks for connections whose time is up, and tries again what the system may refuse
-// for a while: to accept a connection if no descriptor was left.
+// The seconds between two looks for connections whose time is up. The loop then also tries again what the system may
+// refuse for a while: to accept a connection if no descriptor was left.
 const TICK: u64 = 1;
 
 /// Sockets, each in its slot.
@@ -36,17 +36,17 @@ pub(crate) struct Sockets {
     pub(crate) ready: VecDeque<usize>,
     // Those whose body doesn't fit the limit yet, in the order in which they get what is left of it.
     pub(crate) short: VecDeque<usize>,
-    // Connections may wait to be accepted, of which the system won't tell.
+    // Connections may wait to be accepted, and the system won't tell of them.
     pub(crate) more_wait: bool,
-    // How many are to be accepted yet.
+    // The number of connections that are still to be accepted.
     pub(crate) left: u32,
-    // When it was looked for connections whose time is up.
+    // The time of the last look for connections whose time is up.
     pub(crate) swept: Option<Instant>,
     pub(crate) listener: TcpListener,
     pub(crate) poll: Poll,
     pub(crate) room: Vec<u8>,
     pub(crate) patience: Patience,
-    // What the log is to tell of this round.
+    // The lines of this round for the log.
     pub(crate) lines: Lines,
 }
 
@@ -91,7 +91,7 @@ impl Sockets {
         self.listener.local_addr()
     }
 
-    /// A round begins, and so many connections are to be accepted yet. Bodies for which there is room by now are
+    /// Begins a round, while so many connections are still to be accepted. Bodies for which there is room by now are
     /// read on.
     pub(crate) fn begin(&mut self, left: u32) -> Result<(), LoopFault> {
         self.more_wait |= left > self.left;
@@ -99,18 +99,18 @@ impl Sockets {
         self.retry_short()
     }
 
-    /// Whether no socket is open, but that of the port.
+    /// Whether no socket is open, except that of the port.
     pub(crate) fn are_closed(&self) -> bool {
         self.free.len() == self.sides.len()
     }
 
-    /// The most events of a round: those of visits, and for each that is accepted that it came, and that another
-    /// one gave way; and each connection's time may be up.
+    /// The most events of a round. Visits have some. Each connection that is accepted has one for its coming, and one
+    /// for another that gave way. And each connection's time may be up.
     pub(crate) fn most_told(&self) -> usize {
         self.sides.len().saturating_add(3 * MOST)
     }
 
-    /// Waits for the system to tell of sockets, but not if there is more to do.
+    /// Waits for the system to tell of sockets, unless there is more to do.
     pub(crate) fn wait(&mut self, events: &mut Events) -> io::Result<()> {
         let wait = if self.ready.is_empty() && !self.more_wait {
             Duration::from_secs(TICK)
@@ -127,14 +127,15 @@ impl Sockets {
         }
     }
 
-    /// There is no memory to tell of anything, so nothing is read or written. Waits for a while; what the system
-    /// tells of sockets counts.
+    /// Waits for a while, since there is no memory to tell of anything, and so nothing is read or written. What the
+    /// system tells of sockets counts.
     pub(crate) fn rest(&mut self, events: &mut Events) -> Result<(), LoopFault> {
         self.poll_for(events, Duration::from_secs(TICK))?;
         self.hear_of(events)
     }
 
-    /// One read or write of each socket that is ready, beside connections as they stand. What came of it is to be told.
+    /// Makes one read or write of each socket that is ready, beside connections as they are, and notes what has to be
+    /// told of it.
     pub(crate) fn round(
         &mut self,
         connections: &Connections,
@@ -151,7 +152,7 @@ impl Sockets {
         Ok(())
     }
 
-    // Those of which the system tells get their turns after those that wait for theirs.
+    // Puts the sockets of which the system tells after those that wait for their turns.
     fn hear_of(&mut self, events: &Events) -> Result<(), LoopFault> {
         for event in events.iter() {
             let slot = event.token().0;
@@ -164,7 +165,7 @@ impl Sockets {
         Ok(())
     }
 
-    // Each that waits for its turn gets it, as long as more may be told. The others keep their places before those
+    // Gives each that waits for its turn one, as long as more may be told. The others keep their places before those
     // that had theirs.
     fn visit_ready(
         &mut self,
@@ -183,7 +184,7 @@ impl Sockets {
         Ok(())
     }
 
-    // One read or write of the socket in a slot, which is listed no more.
+    // Makes one read or write of the socket in a slot, which is no longer in a list.
     fn visit(
         &mut self,
         connections: &Connections,
@@ -207,7 +208,7 @@ impl Sockets {
         }
     }
 
-    // A slot waits for a visit, unless it does already.
+    // Lets a slot wait for a visit, unless it does already.
     fn list(&mut self, slot: usize, list: Listed) -> Result<(), LoopFault> {
         let Some(mut side) = self.take_out(slot) else {
             return Ok(());
@@ -247,7 +248,7 @@ impl Sockets {
         Ok(())
     }
 
-    // The time of a connection is up. That it can't be read, or written, is told of one with a request alone.
+    // Ends a connection whose time is up. The log gets a fault for it only if it has a request.
     fn tell_late(&mut self, connections: &Connections, slot: usize) {
         let Some(Some(side)) = self.sides.get(slot) else {
             return;
@@ -280,9 +281,9 @@ impl Sockets {
         self.leave(slot, side.list)
     }
 
-    /// The device has failed: replies that wait go out as far as the sockets take them at once. What the last round
-    /// told may not have been looked at. So nothing goes to a socket that came or was written to in it: what is
-    /// shown of its slot may have gone out already, or be the reply of the connection that was there before.
+    /// Writes, after the device has failed, the replies that wait, as far as the sockets take them at once. What the
+    /// last round told may not have been looked at. So nothing goes to a socket that came or was written to in it: what
+    /// is shown of its slot may have gone out already, or be the reply of the connection that was there before.
     pub(crate) fn show_last(&mut self, connections: &Connections, now: Option<Instant>) {
         for slot in 0..self.sides.len() {
             if let Some(mut side) = self.take_out(slot) {
@@ -294,7 +295,7 @@ impl Sockets {
         }
     }
 
-    // One write, after which nothing more is written to the socket.
+    // Writes once, after which nothing more is written to the socket.
     fn write_last(
         &mut self,
         connections: &Connections,
@@ -313,7 +314,7 @@ impl Sockets {
         }
     }
 
-    /// An event of a slot was told, and so many bytes may be read next.
+    /// The event of a slot was told, and so many bytes may be read next.
     pub(crate) fn let_read(&mut self, slot: usize, room: usize) {
         if let Some(mut side) = self.take_out(slot) {
             side.let_read(room);
@@ -321,12 +322,12 @@ impl Sockets {
         }
     }
 
-    /// The slot of one of those that have a body that doesn't fit the limit yet.
+    /// The slot of one of those whose body doesn't fit the limit yet.
     pub(crate) fn short_at(&self, index: usize) -> Option<usize> {
         self.short.get(index).copied()
     }
 
-    // Those of them for which there is room by now are ready.
+    // Makes those of them ready for which there is room by now.
     fn retry_short(&mut self) -> Result<(), LoopFault> {
         for _ in 0..self.short.len() {
             if let Some(slot) = self.short.pop_front() {
@@ -336,7 +337,7 @@ impl Sockets {
         Ok(())
     }
 
-    // One of them; it stays among them if there is still no room.
+    // Tries one of them; it stays among them if there is still no room.
     fn retry(&mut self, slot: usize) -> Result<(), LoopFault> {
         let Some(mut side) = self.take_out(slot) else {
             return Ok(());
@@ -365,7 +366,7 @@ impl Sockets {
         }
     }
 
-    // A slot gets free. It was listed there.
+    // Frees a slot, which was in this list.
     fn leave(&mut self, slot: usize, listed: Listed) -> Result<(), LoopFault> {
         match listed {
             Listed::Nowhere => {}
@@ -378,7 +379,7 @@ impl Sockets {
     }
 }
 
-/// At which stage the connection in a slot is.
+/// The stage of the connection in a slot.
 pub(crate) fn stage(connections: &Connections, slot: usize, side: &Side) -> Stage {
     if side.is_closing {
         return Stage::Closing;

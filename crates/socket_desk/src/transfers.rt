@@ -7,11 +7,12 @@ use connections::Event;
 use std::alloc::Global;
 use std::io::{self, ErrorKind, Read, Write};
 
-/// One read over the connection in a slot, of as many bytes as there is room for.
+/// Reads once over the connection in a slot, as many bytes as there is room for.
 ///
 /// # Errors
 ///
-/// The read's own, after which nothing was read; or want of memory, after which what was read is lost.
+/// The read's own error, after which nothing was read; or want of memory, after which what was read is
+/// lost.
 pub(crate) fn read_event<R: Read>(
     alloc: Global,
     reader: &mut R,
@@ -32,11 +33,11 @@ pub(crate) fn read_event<R: Read>(
     }
 }
 
-/// One write of what has to go out over the connection in a slot.
+/// Writes once, from what has to go out over the connection in a slot.
 ///
 /// # Errors
 ///
-/// The write's own, after which nothing was written.
+/// The write's own error, after which nothing was written.
 pub(crate) fn write_event<W: Write>(writer: &mut W, slot: usize, text: &[u8]) -> io::Result<Event>
     ensures { IfOk result (λ event.
         HasWritten slot text.now (W.contents writer.old) (W.contents writer.new) (event_of event)) }

@@ -1,4 +1,4 @@
-//! The turn of a socket: one read or write, and what became of it.
+//! The turn of a socket: one read or write, and its outcome.
 use crate::fault::LoopFault;
 use crate::patience::Stage;
 use crate::side::{Parting, Side, waits};
@@ -12,7 +12,7 @@ use std::time::Instant;
 // The most bytes of a read.
 pub(crate) const ROOM: usize = 65_536;
 
-// What became of a visit.
+// The outcome of a visit.
 #[derive(Clone, Copy, Debug, PartialEq, Eq)]
 pub(crate) enum Visit {
     // There may be more to do.
@@ -26,7 +26,7 @@ pub(crate) enum Visit {
 }
 
 impl Sockets {
-    /// One read or write of the socket in a slot, which was taken out of it.
+    /// Makes one read or write of the socket in a slot, from which it was taken out.
     pub(crate) fn transfer(
         &mut self,
         connections: &Connections,
@@ -50,7 +50,7 @@ impl Sockets {
         }
     }
 
-    // One read.
+    // Reads once.
     fn read(
         &mut self,
         connections: &Connections,
@@ -78,7 +78,7 @@ impl Sockets {
         }
     }
 
-    // One write.
+    // Writes once.
     fn write(
         &mut self,
         connections: &Connections,
@@ -104,7 +104,7 @@ impl Sockets {
         }
     }
 
-    // The reply that was shown went out whole: the log gets its line.
+    // Gives the log its line: the reply that was shown went out whole.
     pub(crate) fn replied(
         &mut self,
         connections: &Connections,
@@ -120,14 +120,15 @@ impl Sockets {
         }
     }
 
-    // The desk has let a connection go.
+    // Notes that the desk has let a connection go.
     fn part(&mut self, side: &Side) {
         if let Some(fault) = side.parting.fault() {
             self.lines.fault(fault);
         }
     }
 
-    // A read or a write didn't do. If the system wouldn't only make it wait, the connection is given up.
+    // Ends a visit whose read or write failed. If the system didn't only make it wait, the connection is
+    // given up.
     fn stopped(
         &mut self,
         slot: usize,
@@ -146,7 +147,7 @@ impl Sockets {
         }
     }
 
-    // One read of a connection that has ended on the desk's side.
+    // Reads once over a connection that the desk has ended on its side.
     fn read_out(&mut self, side: &mut Side) -> Visit {
         match side.read_out(self.room.as_mut_slice()) {
             Ok(true) => Visit::Goes,
@@ -160,7 +161,7 @@ impl Sockets {
     }
 }
 
-// The peer of a connection has ended its side.
+// Notes that the peer of a connection has ended its side.
 fn ended(connections: &Connections, slot: usize, side: &mut Side) {
     if let Some(Some(connection)) = connections.slots.get(slot) {
         side.parting = Parting::of(connection, Phase::Ended);
