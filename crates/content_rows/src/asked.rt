@@ -1,5 +1,5 @@
-//! What is asked of a source and a judge. Each question is a function over any source and any judge, without a contract: its
-//! callers need to know nothing of the answer, and so their proofs are short.
+//! Questions to a source and a judge. Each is a function over any source and any judge, without a contract: its callers
+//! need to know nothing of the answer, and so their proofs are short.
 use crate::print::verdict_text;
 use catalogue::{Change, Published, SourceFault, touched};
 use mcs_reader::Id;
@@ -35,7 +35,7 @@ pub(crate) fn statuses<P: Published, J: Judge<P>>(
     judge.statuses(alloc, source, zone, ids)
 }
 
-/// What the chosen plans of ids have together.
+/// The members of the chosen plans of ids.
 pub(crate) fn united<P: Published, J: Judge<P>>(
     alloc: Global,
     source: &mut P,
@@ -57,7 +57,7 @@ pub(crate) fn candidates<P: Published, J: Judge<P>>(
     judge.candidates(alloc, source, zone, ids)
 }
 
-/// Whether a judge has the statuses that another one has.
+/// Whether a judge has the same statuses as another one.
 pub(crate) fn are_statuses<P: Published, J: Judge<P>, K: Judge<P>>(
     alloc: Global,
     source: &mut P,
@@ -71,7 +71,7 @@ pub(crate) fn are_statuses<P: Published, J: Judge<P>, K: Judge<P>>(
     Ok(found.as_slice() == wanted.as_slice())
 }
 
-/// Whether the plans that it finds together are those of another one.
+/// Whether it finds the same members of chosen plans as another one.
 pub(crate) fn are_united<P: Published, J: Judge<P>, K: Judge<P>>(
     alloc: Global,
     source: &mut P,
@@ -85,7 +85,7 @@ pub(crate) fn are_united<P: Published, J: Judge<P>, K: Judge<P>>(
     Ok(found.as_slice() == wanted.as_slice())
 }
 
-/// Whether it has the candidates that another one has.
+/// Whether it has the same candidates as another one.
 pub(crate) fn are_candidates<P: Published, J: Judge<P>, K: Judge<P>>(
     alloc: Global,
     source: &mut P,
@@ -99,7 +99,7 @@ pub(crate) fn are_candidates<P: Published, J: Judge<P>, K: Judge<P>>(
     Ok(found.as_slice() == wanted.as_slice())
 }
 
-/// What changes touch.
+/// The ids that changes touch.
 pub(crate) fn touched_by<P: Published>(
     alloc: Global,
     source: &mut P,
@@ -108,7 +108,7 @@ pub(crate) fn touched_by<P: Published>(
     touched(alloc, source, changes)
 }
 
-/// The judge forgets what changes touch, before they are published.
+/// Lets the judge forget what changes touch, before they are published.
 pub(crate) fn forget<P: Published, J: Judge<P>>(
     alloc: Global,
     source: &mut P,

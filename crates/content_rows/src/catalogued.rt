@@ -1,4 +1,4 @@
-//! What statements publish, and what is catalogued of it.
+//! Publishing statements, and what is catalogued then.
 use crate::asked::{forget, touched_by};
 use crate::content::{Content, zone_of};
 use crate::print::{line, put_change, put_sysmod};
@@ -16,7 +16,7 @@ pub(crate) fn changes_of(alloc: Global, statements: &str) -> Result<Vec<Change>,
     Ok(read_changes(alloc, &read(alloc, statements.as_bytes())?)?)
 }
 
-/// Publishes statements. What is kept of what they touch is dropped before.
+/// Publishes statements. The cache drops what they touch before.
 pub(crate) fn publish(alloc: Global, content: &mut Content, statements: &str) -> Result<(), Fail> {
     let changes = changes_of(alloc, statements)?;
     let Content { source, cache, .. } = content;
@@ -24,7 +24,7 @@ pub(crate) fn publish(alloc: Global, content: &mut Content, statements: &str) ->
     Ok(source.lists.publish(1, b"published", &changes)?)
 }
 
-/// A zone by its rows, and by the lines of a list.
+/// Sets the zone by its rows, and by the lines of a list.
 pub(crate) fn set_zone(
     alloc: Global,
     content: &mut Content,
@@ -41,7 +41,7 @@ pub(crate) fn set_zone(
     Ok(())
 }
 
-/// The zone's patterns by the lines of a list.
+/// Sets the zone's patterns by the lines of a list.
 pub(crate) fn set_patterns(alloc: Global, content: &mut Content, lines: &str) -> Result<(), Fail> {
     let mut list = String::from_str(alloc, "CATEGORY\n")?;
     list.push_str(lines)?;
@@ -72,7 +72,7 @@ pub(crate) fn changes_told(alloc: Global, statements: &str) -> Result<String, Fa
     Ok(text)
 }
 
-/// What statements would touch.
+/// The ids that statements would touch.
 pub(crate) fn touched_told(
     alloc: Global,
     content: &mut Content,
@@ -83,7 +83,7 @@ pub(crate) fn touched_told(
     Ok(line(alloc, "TOUCHED", &ids)?)
 }
 
-/// What gives each id.
+/// The SYSMODs that give each id.
 pub(crate) fn givers_told<P: Published>(
     alloc: Global,
     source: &mut P,
@@ -97,7 +97,7 @@ pub(crate) fn givers_told<P: Published>(
     Ok(text)
 }
 
-/// The records of ids, whether they are held, and what supersedes them.
+/// The records of ids, whether they are held, and the SYSMODs that supersede them.
 pub(crate) fn records<P: Published>(
     alloc: Global,
     source: &mut P,

@@ -1,4 +1,4 @@
-//! What a case has: what is published, what is kept of it, and a zone.
+//! The state of a case: what is published, a cache of it, and a zone.
 use bureau_store::ListStore;
 use chain_cache::ChainCache;
 use failing_store::FailingStore;
@@ -17,7 +17,7 @@ pub(crate) struct Content {
     pub patterns: Vec<Pattern>,
 }
 
-// By hand, so that a function that owns one lets it go by one call.
+// By hand, so that a function that owns one drops it by one call.
 impl Drop for Content {
     fn drop(self) {
         let Content {
@@ -59,7 +59,7 @@ fn cache_of(alloc: Global, frames: u32, keys: RandomState) -> Result<ChainCache,
 }
 
 impl Content {
-    /// Nothing is published and nothing is kept, and the zone is empty.
+    /// Nothing is published, nothing is kept, and the zone is empty.
     pub fn new(alloc: Global, keys: RandomState) -> Result<Content, Fail> {
         let zone = zone_of(alloc, "")?;
         let source = nothing(alloc)?;
@@ -73,7 +73,7 @@ impl Content {
         })
     }
 
-    /// As it was at first.
+    /// Makes it as it was at first.
     pub fn clear(&mut self, alloc: Global) -> Result<(), Fail> {
         self.source = nothing(alloc)?;
         self.zone = zone_of(alloc, "")?;
@@ -81,13 +81,13 @@ impl Content {
         self.make_room(alloc, 16)
     }
 
-    /// From now on so many calls of the source are answered.
+    /// From now on the source answers so many calls.
     pub fn answer(&mut self, calls: u64) {
         self.source.left = calls;
         self.source.failures = 0;
     }
 
-    /// Nothing is kept, with room for so many frames.
+    /// Keeps nothing, with room for so many frames.
     pub fn make_room(&mut self, alloc: Global, frames: u32) -> Result<(), Fail> {
         self.cache = cache_of(alloc, frames, self.keys)?;
         Ok(())

@@ -1,4 +1,4 @@
-//! Frames: all that a verdict may hang on, in any zone.
+//! Frames: all on which a verdict may depend, in any zone.
 use crate::print::{put_node, yes};
 use catalogue::{Published, SourceFault};
 use chain_cache::ChainCache;
@@ -27,7 +27,7 @@ pub(crate) fn frames_told<P: Published>(
     Ok(text)
 }
 
-/// How many SYSMODs the frame of each id has.
+/// The number of SYSMODs in the frame of each id.
 pub(crate) fn nodes<P: Published>(
     alloc: Global,
     source: &mut P,

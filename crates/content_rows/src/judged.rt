@@ -9,7 +9,7 @@ use std::alloc::Global;
 use supersede::Zone;
 use verdicts::sort_each_once;
 
-// Of a frame with at most so many SYSMODs the verdicts on all of them are looked at.
+// In a frame of at most so many SYSMODs, the verdicts on all of them are compared.
 const SMALL: usize = 32;
 
 /// The verdicts on ids, a line each. If the ways to one of them don't agree, all are told.
@@ -38,7 +38,7 @@ fn verdict(alloc: Global, content: &mut Content, id: &Id) -> Result<String, Sour
     Ok(whole)
 }
 
-// Puts a verdict of another way after the first one, unless it is the same.
+// Adds a verdict of another way, unless it is the same.
 fn put_other(text: &mut String, way: &str, other: &str) -> Result<(), NoMemory> {
     if text.as_str() == other {
         return Ok(());
@@ -47,7 +47,8 @@ fn put_other(text: &mut String, way: &str, other: &str) -> Result<(), NoMemory> 
     text.push_str(other)
 }
 
-// Puts the verdict from the frame of an id, unless it is the same, and says so if another one in the frame isn't.
+// Adds the verdict from the frame of an id, unless it is the same, and says so if the verdict on another SYSMOD
+// of the frame isn't.
 fn put_framed<P: Published>(
     alloc: Global,
     source: &mut P,
@@ -69,7 +70,7 @@ fn planned(alloc: Global, zone: &Zone, frame: &Frame, id: &Id) -> Result<String,
     verdict_text(alloc, &verdict)
 }
 
-// Whether the verdicts on all that a frame has, from it alone, are those over all that is catalogued.
+// Whether the verdicts on all SYSMODs of a frame, from it alone, are those over all that is catalogued.
 fn are_framed<P: Published>(
     alloc: Global,
     source: &mut P,
@@ -85,14 +86,14 @@ fn are_framed<P: Published>(
     Ok(found == wanted && are_good(alloc, zone, frame, &wanted)?)
 }
 
-// Whether so many in a frame are good as have such a verdict.
+// Whether a frame has as many good SYSMODs as there are such verdicts.
 fn are_good(alloc: Global, zone: &Zone, frame: &Frame, verdicts: &str) -> Result<bool, NoMemory> {
     let good = good(alloc, frame, zone)?;
     let count = verdicts.lines().filter(|it| it.starts_with("GOOD")).count();
     Ok(good.len() == count)
 }
 
-// Whether statuses and plans that are asked for together are those of verdicts, which stand on a line each.
+// Whether statuses and plans that are asked for together are those of verdicts, one on each line.
 fn is_together<P: Published>(
     alloc: Global,
     source: &mut P,
@@ -117,7 +118,7 @@ fn statuses_in(alloc: Global, verdicts: &str) -> Result<String, NoMemory> {
     Ok(text)
 }
 
-// What the plans of verdicts have together.
+// The members of the plans of verdicts.
 fn planned_in(alloc: Global, verdicts: &str) -> Result<Vec<Id>, NoMemory> {
     let mut ids: Vec<Id> = Vec::new(alloc);
     for line in verdicts.lines() {

@@ -1,4 +1,4 @@
-//! What is kept of what is catalogued, and what it answers.
+//! The answers of the cache.
 use crate::asked::{
     all_ids, are_candidates, are_statuses, are_united, candidates, statuses, united,
 };
@@ -13,7 +13,7 @@ use std::fmt::Write;
 use supersede::Zone;
 use verdicts::Judge;
 
-/// How many frames were built, and the ids of those that are kept, in their order.
+/// The number of frames that were built, and the ids of those that are kept, in their order.
 pub(crate) fn kept_told(alloc: Global, cache: &ChainCache) -> Result<String, NoMemory> {
     let mut ids: Vec<Id> = Vec::new(alloc);
     for (id, _) in cache.iter() {
@@ -23,7 +23,7 @@ pub(crate) fn kept_told(alloc: Global, cache: &ChainCache) -> Result<String, NoM
     line(alloc, &words, &ids)
 }
 
-/// The statuses of ids, by what is kept.
+/// The statuses of ids, by the cache.
 pub(crate) fn statuses_told(
     alloc: Global,
     content: &mut Content,
@@ -34,7 +34,7 @@ pub(crate) fn statuses_told(
     Ok(statuses_text(alloc, &statuses)?)
 }
 
-/// What the chosen plans of ids have together, by what is kept.
+/// The members of the chosen plans of ids, by the cache.
 pub(crate) fn together(
     alloc: Global,
     content: &mut Content,
@@ -45,7 +45,7 @@ pub(crate) fn together(
     Ok(line(alloc, "TOGETHER", &united)?)
 }
 
-/// How many candidates give each of some ids, unless it is there.
+/// The number of candidates that give each of some ids, unless it is there.
 pub(crate) fn counts<P: Published, J: Judge<P>>(
     alloc: Global,
     source: &mut P,
@@ -73,7 +73,7 @@ fn put_count(text: &mut String, candidates: &Option<Vec<Id>>) -> Result<(), NoMe
     }
 }
 
-/// Whether what is kept answers for ids as all that is catalogued does.
+/// Whether the cache answers for ids as a judge of all that is catalogued does.
 fn is_same(alloc: Global, content: &mut Content, ids: &[Id]) -> Result<bool, SourceFault> {
     let (source, cache, zone) = (&mut content.source, &mut content.cache, &content.zone);
     let statuses = are_statuses(alloc, source, cache, &mut Whole::new(), zone, ids)?;
@@ -82,7 +82,7 @@ fn is_same(alloc: Global, content: &mut Content, ids: &[Id]) -> Result<bool, Sou
     Ok(statuses & united & candidates)
 }
 
-/// The same for all that is catalogued, and if these are few, for so many that a report can't ask frames of all.
+/// The same for all ids that are catalogued, repeated if they are few, so that a report can't ask frames of all.
 pub(crate) fn is_same_for_all(alloc: Global, content: &mut Content) -> Result<bool, SourceFault> {
     let ids = all_ids(&mut content.source.lists)?;
     let many = repeated(alloc, &ids)?;
@@ -92,7 +92,7 @@ pub(crate) fn is_same_for_all(alloc: Global, content: &mut Content) -> Result<bo
     is_same(alloc, content, &many)
 }
 
-// The same ids so often that they are more than 256.
+// The same ids, repeated until they are more than 256.
 fn repeated(alloc: Global, ids: &[Id]) -> Result<Vec<Id>, NoMemory> {
     let mut many: Vec<Id> = Vec::new(alloc);
     for _ in 0..257 {

@@ -1,4 +1,4 @@
-//! Runs the rows of `data/`: what statements publish, and what is asked of it and of what is kept of it.
+//! Runs the rows of `data/`: what statements publish, and questions to it and to a cache of it.
 //!
 //! `testing_rows` says how a file is written. `tests/rows.py` asks the built program for the rows that it can show too: its words are
 //! in `tests/row_content.py`. All words, and the lines that they answer:

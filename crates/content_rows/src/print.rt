@@ -28,7 +28,7 @@ pub(crate) fn line(alloc: Global, words: &str, ids: &[Id]) -> Result<String, NoM
     Ok(text)
 }
 
-/// A line that says how many.
+/// A line with a number.
 pub(crate) fn number(alloc: Global, count: u64) -> Result<String, NoMemory> {
     Ok(format!(in alloc; "{count}\n")?)
 }

@@ -1,4 +1,4 @@
-//! Which command asks what.
+//! The commands, and the questions that they ask.
 use crate::asked::all_ids;
 use crate::catalogued::{
     changes_told, fault_told, givers_told, publish, records, set_patterns, set_zone, touched_told,
@@ -45,7 +45,7 @@ fn of_statements(alloc: Global, content: &mut Content, row: &Row) -> Result<Opti
     }
 }
 
-// How many reads a question takes. One that has no id is asked with any.
+// The number of reads that a question takes. A question without an id is asked with any.
 fn counted(alloc: Global, content: &mut Content, row: &Row) -> Result<Option<String>, Fail> {
     let (word, id) = row.rest.split_once(' ').unwrap_or((&row.rest, "NONE"));
     let id = id_of(id)?;
@@ -96,7 +96,7 @@ fn of_content(
     }
 }
 
-// Questions about what is kept.
+// Questions to the cache.
 fn of_cache(
     alloc: Global,
     content: &mut Content,

@@ -1,4 +1,4 @@
-//! How often questions read, and what comes of a read that fails.
+//! The number of reads that questions take, and the outcome of a read that fails.
 use crate::asked::{statuses, told, touched_by};
 use crate::catalogued::changes_of;
 use crate::content::Content;
@@ -16,7 +16,7 @@ use testing_rows::Row;
 use verdicts::Judge;
 use zone_lists::Pattern;
 
-// What a question is asked about.
+// The subject of a question.
 struct Asked {
     id: Id,
     changes: Vec<Change>,
@@ -24,7 +24,7 @@ struct Asked {
     fixes: Vec<Hold>,
 }
 
-// By hand, so that a function that owns one lets it go by one call.
+// By hand, so that a function that owns one drops it by one call.
 impl Drop for Asked {
     fn drop(self) {
         let Asked {
@@ -39,7 +39,7 @@ impl Drop for Asked {
     }
 }
 
-// Puts the holds of a kind on a SYSMOD, in the order of their keys.
+// Adds the holds of a kind on a SYSMOD, in the order of their keys.
 fn put_holds(
     held: &mut Vec<Hold>,
     lists: &mut ListStore,
@@ -54,7 +54,7 @@ fn put_holds(
     Ok(())
 }
 
-// The holds of a kind on the SYSMODs that are installed.
+// The holds of a kind on installed SYSMODs.
 fn held(
     alloc: Global,
     lists: &mut ListStore,
@@ -132,7 +132,7 @@ fn missing<P: Published>(
     Ok(())
 }
 
-// Asks a question. Says whether there is such a one.
+// Asks a question. Returns whether there is such a one.
 fn ask(
     alloc: Global,
     content: &mut Content,
@@ -153,7 +153,7 @@ fn ask(
     Ok(true)
 }
 
-/// How many reads a question takes, or nothing if there is no such one.
+/// The number of reads that a question takes, or `None` if there is no such one.
 pub(crate) fn reads(
     alloc: Global,
     content: &mut Content,
@@ -169,7 +169,7 @@ pub(crate) fn reads(
     Ok(Some(number(alloc, u64::MAX - content.source.left)?))
 }
 
-/// The same, if each of its reads in turn fails, and is passed on at once.
+/// The same, while each of its reads in turn fails, and is passed on at once.
 pub(crate) fn fails(
     alloc: Global,
     content: &mut Content,
@@ -201,7 +201,7 @@ fn answered(
     Ok(None)
 }
 
-// A read has failed: that was told, and nothing was read after it.
+// Checks that a failed read was told, and that nothing was read after it.
 fn passed_on(content: &Content, fault: SourceFault) -> Result<(), Fail> {
     match (fault, content.source.failures) {
         (SourceFault::Device, 1) => Ok(()),

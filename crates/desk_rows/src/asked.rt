@@ -1,4 +1,4 @@
-//! What a row asks of a desk.
+//! The questions of rows to a desk.
 use bureau::Call;
 use mcs_reader::Id;
 use questions::{Form, Wanted};
@@ -51,7 +51,7 @@ fn question(zone: Id, what: &str) -> Option<Call<'static>> {
     chain(zone, what)
 }
 
-// What is wanted of a report, by what its path has after the report's name.
+// The rows of a report or the plan for it, by the path after the report's name.
 fn wanted_by(rest: &str) -> Option<Wanted> {
     match rest {
         "" => Some(Wanted::Rows(Form::Text)),

@@ -1,4 +1,4 @@
-//! A desk over lists whose device can be made to fail, and what rows ask of it.
+//! A desk over lists whose device can be made to fail, and the questions of rows to it.
 ghost use Rattle.std.specs.Prelude.{IfOk, IfSome};
 ghost use Rattle.bureau_store.specs.Caller.{IsProper};
 
@@ -19,22 +19,22 @@ BETA,beta-token
 GAMMA,gamma-token
 ";
 
-/// A desk, and the last question that was asked of it.
+/// A desk, and the last question to it.
 pub(crate) struct Desk<J> {
     keys: RandomState,
-    // How many frames it has room for if no row says so.
+    // The number of frames for which it has room if no row says so.
     room: u32,
-    // Who the callers are, also if the desk's own store fails.
+    // The callers, who stay known if the desk's own store fails.
     known: ListStore,
-    // It is there but for the moment in which another one is made of its parts.
+    // The bureau. It is missing only while another one is made of its parts.
     bureau: Option<Bureau<FailingStore, J>>,
     question: String,
     answer: String,
-    /// How many frames were kept when the store last failed.
+    /// The number of frames that were kept when the store last failed.
     pub kept: usize,
 }
 
-// By hand, so that a function that owns one lets it go by one call.
+// By hand, so that a function that owns one drops it by one call.
 impl<J: Drop> Drop for Desk<J> {
     fn drop(self) {
         let Desk {
@@ -81,7 +81,7 @@ impl<J: Judged> Desk<J> {
         })
     }
 
-    /// A desk at which nothing was asked.
+    /// Makes a desk to which no question was put.
     pub(crate) fn renew(&mut self, alloc: Global) -> Result<(), Fail> {
         self.question.clear();
         self.answer.clear();
@@ -97,7 +97,7 @@ impl<J: Judged> Desk<J> {
         Ok(())
     }
 
-    /// The store is opened again, and answers so many calls before it fails.
+    /// Opens the store again, which then answers so many calls before it fails.
     pub(crate) fn open(&mut self, alloc: Global, calls: u64) -> Result<(), Fail> {
         let (store, judge) = self.bureau.take().ok_or("a desk")?.into_parts();
         let store = FailingStore::new(store.lists, calls);
@@ -109,12 +109,12 @@ impl<J: Judged> Desk<J> {
         Ok(self.bureau.as_mut().ok_or("a desk")?)
     }
 
-    /// How many frames were built.
+    /// The number of frames that were built.
     pub(crate) fn built(&mut self) -> Result<u64, Fail> {
         Ok(self.bureau()?.judge().built())
     }
 
-    /// Keeps in mind how many frames are kept.
+    /// Notes the number of frames that are kept.
     pub(crate) fn note_kept(&mut self) -> Result<(), Fail> {
         self.kept = self.bureau()?.judge().kept();
         Ok(())
@@ -130,7 +130,7 @@ impl<J: Judged> Desk<J> {
         }
     }
 
-    /// What a caller is told, or `None` if nobody has this name or it is no request.
+    /// The answer to a caller's request, or `None` if nobody has this name or it is no request.
     pub(crate) fn told(
         &mut self,
         alloc: Global,
@@ -160,7 +160,7 @@ impl<J: Judged> Desk<J> {
         self.told(alloc, name, request, body)
     }
 
-    /// Whether the device is told to have failed, and nobody is known by a token.
+    /// Whether the device has failed, and nobody is known by a token.
     pub(crate) fn has_failed(&mut self) -> Result<bool, Fail> {
         let bureau = self.bureau()?;
         let is_told = bureau.store().device_failed();

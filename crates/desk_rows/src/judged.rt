@@ -1,4 +1,4 @@
-//! Who gives the verdicts of a desk: from the whole catalogue, or from frames that are kept.
+//! The judges of a desk: over the whole catalogue, or from frames that are kept.
 use chain_cache::ChainCache;
 use chains::Whole;
 use failing_store::FailingStore;
@@ -9,13 +9,13 @@ use verdicts::Judge;
 
 /// A judge of a desk.
 pub(crate) trait Judged: Judge<FailingStore> + Drop {
-    /// One that has kept nothing, with room for so many frames.
+    /// A judge that has kept nothing, with room for so many frames.
     fn fresh(alloc: Global, keys: RandomState, room: u32) -> Result<Self, Fail>;
 
-    /// How many frames were built.
+    /// The number of frames that were built.
     fn built(&self) -> u64;
 
-    /// How many frames are kept.
+    /// The number of frames that are kept.
     fn kept(&self) -> usize;
 }
 

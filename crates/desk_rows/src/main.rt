@@ -1,7 +1,8 @@
-//! Runs the rows of `data/` at a desk over lists: by each judge, with room for one frame and for many, and if the
-//! device fails.
+//! Runs the rows of `data/` at a desk over lists: by each judge, with room for one frame and for many, and with a
+//! device that fails.
 //!
-//! `rows.rt` says which words a row has beside requests. `tests/row_desk.py` runs the same files through the program.
+//! `rows.rt` says which words a row may have beside requests. `tests/row_desk.py` runs the same files through the
+//! program.
 #![tactic(auto)]
 
 mod asked;
@@ -19,7 +20,7 @@ use std::rt::Files;
 use std::test::Fail;
 use testing_rows::{Tally, run_files};
 
-// Requests that are answered the same by each judge.
+// Requests to which each judge gives the same answer.
 static REQUESTS: [&str; 8] = [
     "clients.txt",
     "conditions.txt",

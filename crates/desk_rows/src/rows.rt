@@ -8,21 +8,21 @@
 //! | `built` | how many frames were built since the case began |
 //! | `kept` | how many frames were kept when the store last failed |
 //!
-//! If the store fails the caller is told 503, and the desk is closed. Then the store is opened again, and the last
-//! question before that request is answered as it was.
+//! If the store fails, the caller is told 503, and the desk is closed. Then the store is opened again, and the last
+//! question before that request has the same answer as before.
 use crate::desk::Desk;
 use crate::judged::Judged;
 use std::alloc::Global;
 use std::test::Fail;
 use testing_rows::{Row, Subject};
 
-// Of a desk whose store has failed.
+// The answer of a desk whose store has failed.
 const REFUSED: &str = "503\n\n";
 
-// Of the publisher, who has no zones, whatever the store does.
+// The answer to the publisher, who has no zones, whatever the store does.
 const NOT_ALLOWED: &str = "403\nNOT ALLOWED\n";
 
-// At how many calls of a store a request may fail.
+// The most calls of a store at which a request may fail.
 const MOST_CALLS: u64 = 64;
 
 impl<J: Judged> Subject for Desk<J> {
@@ -67,7 +67,7 @@ fn asked<J: Judged>(
     Ok(told)
 }
 
-// A request to a store that fails at each of its calls, one after the other. What it is told at last.
+// Makes a request to a store that fails at each of its calls, one after the other. Returns the last answer.
 fn failing<J: Judged>(
     alloc: Global,
     desk: &mut Desk<J>,
@@ -87,7 +87,7 @@ fn failing<J: Judged>(
     said(alloc, MOST_CALLS, "there is no answer yet")
 }
 
-// What is told if no call has failed. The store was to fail at one at least.
+// The answer if no call has failed. At least one should have failed.
 fn answered<J: Judged>(
     alloc: Global,
     desk: &mut Desk<J>,
@@ -102,7 +102,7 @@ fn answered<J: Judged>(
     Ok(told)
 }
 
-// Whether nothing is told by a desk whose store has failed.
+// Whether a desk whose store has failed answers nothing.
 fn is_closed<J: Judged>(
     alloc: Global,
     desk: &mut Desk<J>,
@@ -120,7 +120,7 @@ fn is_closed<J: Judged>(
     )
 }
 
-// Whether the last question is answered as it was, once the store is opened again.
+// Whether the last question has the same answer as before, once the store is opened again.
 fn is_opened<J: Judged>(alloc: Global, desk: &mut Desk<J>) -> Result<bool, Fail> {
     desk.note_kept()?;
     desk.open(alloc, u64::MAX)?;

@@ -1,4 +1,4 @@
-//! What a caller is told, as the lines of a row.
+//! An answer to a caller, as the lines of a row.
 use bureau::Reply;
 use std::alloc::Global;
 use std::str;
@@ -21,7 +21,7 @@ pub(crate) fn lines_of(alloc: Global, reply: &Reply) -> Result<String, Fail> {
     Ok(text)
 }
 
-// Whether a body is told to be JSON if it is, and ends as its kind does.
+// Whether a body is called JSON exactly if it is, and ends as its kind does.
 fn is_right(is_json: bool, body: &str) -> bool {
     is_json == body.starts_with('{') && (body.is_empty() || is_json != body.ends_with('\n'))
 }

@@ -1,4 +1,5 @@
--- How a store in lists whose device fails is looked at: it is always clean, and open until a call fails.
+-- How contracts look at a store in lists whose device fails: it is always clean, and open until a call
+-- fails.
 use Rattle.std.specs.Prelude.{◌≡◌, ◌≤◌}
 use Rattle.catalogue.specs.View.{View}
 use Rattle.bureau_store.specs.Lists.{IsOurs, tables_of}

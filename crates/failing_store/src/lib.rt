@@ -1,4 +1,4 @@
-//! A store whose device fails, for tests of what stands over a store.
+//! A store whose device fails, for tests of the crates above a store.
 //!
 //! - [`FailingStore`]: a store in lists that answers a number of calls, and then fails for good
 #![tactic(auto)]

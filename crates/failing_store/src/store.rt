@@ -12,11 +12,11 @@ use zone_lists::{Pattern, ZoneRow};
 /// A store in lists that answers a number of calls, and then fails for good.
 #[derive(Drop)]
 pub struct FailingStore {
-    /// The lists. After a failure they hold what a store does that is opened anew.
+    /// The lists. After a failure they stand for a store that is opened anew.
     pub lists: ListStore,
-    /// How many calls are still answered.
+    /// The number of calls that are still answered.
     pub left: u64,
-    /// How often it has failed.
+    /// The number of failures.
     pub failures: u64,
 }
 
@@ -34,7 +34,7 @@ impl FailingStore {
         }
     }
 
-    // Counts a call. Whether it fails.
+    // Counts a call. Returns whether it fails.
     fn fails(&mut self) -> bool
         ensures lists { self.new.lists ≡ self.old.lists }
         ensures rises { self.old.failures ≤ self.new.failures }

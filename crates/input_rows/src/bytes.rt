@@ -2,7 +2,7 @@
 use std::alloc::Global;
 use std::test::Fail;
 
-/// Puts the bytes that a text stands for behind others.
+/// Appends the bytes that a text stands for.
 pub(crate) fn put_text(bytes: &mut Vec<u8>, text: &str) -> Result<(), Fail> {
     let (front, rest) = text.split_once('\\').unwrap_or((text, ""));
     bytes.extend_from_slice(front.as_bytes())?;
@@ -31,7 +31,7 @@ pub(crate) fn bytes_of(alloc: Global, text: &str) -> Result<Vec<u8>, Fail> {
     Ok(bytes)
 }
 
-// What stands behind a backslash, up to the next one.
+// Appends the bytes of what follows a backslash, up to the next one.
 fn put_escape(bytes: &mut Vec<u8>, escape: &[u8]) -> Result<(), Fail> {
     let rest = match escape {
         [b'x', high, low, rest @ ..] => {

@@ -1,4 +1,4 @@
-//! What the bytes of a connection begin with, read in pieces of 1, 2, 3 and 100,000 bytes.
+//! The fronts of a connection's bytes, read in pieces of 1, 2, 3 and 100,000 bytes.
 use requests::{Front, read_front};
 use std::alloc::Global;
 use std::fmt::Write;

@@ -15,7 +15,8 @@ pub(crate) fn book_told(alloc: Global, source: &[u8]) -> Result<String, Fail> {
     Ok(text)
 }
 
-/// A copy of the book that takes one statement after the other. Each that is refused is told before.
+/// A copy of the book that takes one statement after the other. Before it stand those that are
+/// refused.
 pub(crate) fn taken_told(alloc: Global, source: &[u8]) -> Result<String, Fail> {
     let mut text = String::new(alloc);
     let mut book = HoldBook::new(alloc);

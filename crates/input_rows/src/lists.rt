@@ -70,7 +70,7 @@ fn put_pattern(text: &mut String, pattern: &Pattern) -> Result<(), NoMemory> {
     text.push('\n')
 }
 
-/// Whether a category is one of a pattern's: `PATTERN CATEGORY`.
+/// Whether a category matches a pattern: `PATTERN CATEGORY`.
 pub(crate) fn matches_told(alloc: Global, rest: &str) -> Result<String, Fail> {
     let (pattern, category) = rest.split_once(' ').ok_or("matches PATTERN CATEGORY")?;
     match Pattern::new(alloc, &bytes_of(alloc, pattern)?)? {

@@ -1,5 +1,6 @@
-//! Runs the rows of files in `data/` over what reads: statements, lists, ids and patterns, heads of requests that come in pieces, and
-//! transfers whose calls fail. `testing_rows` says how a file of rows is written, `subject.rt` which commands there are.
+//! Runs the rows of files in `data/` over the readers of input: statements, lists, ids and patterns, heads of requests
+//! that come in pieces, and transfers whose calls fail. `testing_rows` says how a file of rows is written, and
+//! `subject.rt` which commands there are.
 #![tactic(auto)]
 
 mod bytes;

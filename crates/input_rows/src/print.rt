@@ -9,12 +9,12 @@ pub(crate) fn line(alloc: Global, word: &str) -> Result<String, NoMemory> {
     Ok(text)
 }
 
-/// The line of a fault, behind others.
+/// Appends the line of a fault.
 pub(crate) fn put_fault<F: Fault>(text: &mut String, fault: F) -> Result<(), NoMemory> {
     text.push_str(fault_text(fault).as_str())
 }
 
-/// Puts each byte as a character.
+/// Appends each byte as a character.
 pub(crate) fn put_bytes(text: &mut String, bytes: &[u8]) -> Result<(), NoMemory> {
     for byte in bytes {
         text.push(char::from(*byte))?;

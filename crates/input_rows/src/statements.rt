@@ -1,4 +1,4 @@
-//! Statements in print: the line, the verb, the subject, and each operand with its values behind `=`.
+//! Statements in print: the line, the verb, the subject, and each operand with its values after `=`.
 use crate::bytes::bytes_of;
 use crate::print::{line, put_bytes, put_fault};
 use faults::NoMemory;

@@ -24,7 +24,7 @@ use std::alloc::Global;
 use std::test::Fail;
 use testing_rows::{Row, Subject};
 
-/// What reads: the bytes before a command.
+/// The bytes before a command.
 #[derive(Drop)]
 pub(crate) struct Input {
     bytes: Vec<u8>,

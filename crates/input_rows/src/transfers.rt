@@ -11,7 +11,7 @@ use std::test::Fail;
 use testing::{Failures, Pieces, Slow};
 use transfer::{Intake, RETRIES, read_source, write_whole};
 
-/// What comes of a transfer, or nothing if the word is none of these.
+/// The answer to a transfer, or `None` if the word is none of these.
 pub(crate) fn transfer_told(alloc: Global, word: &str, rest: &str) -> Result<Option<String>, Fail> {
     let (numbers, kind) = numbers_in(alloc, rest)?;
     let text = long_text(alloc, numbers.first().copied().unwrap_or(0))?;
@@ -30,7 +30,7 @@ pub(crate) fn transfer_told(alloc: Global, word: &str, rest: &str) -> Result<Opt
     }
 }
 
-// The numbers of a command, and the kind of failure behind them.
+// The numbers of a command, and the kind of failure after them.
 fn numbers_in(alloc: Global, rest: &str) -> Result<(Vec<usize>, ErrorKind), Fail> {
     let mut numbers = Vec::new(alloc);
     let mut kind = ErrorKind::Interrupted;
@@ -83,7 +83,7 @@ fn long_text(alloc: Global, count: usize) -> Result<Vec<u8>, Fail> {
     Ok(text)
 }
 
-// How many bytes are read, each as the reader gave it, and how many retries are left.
+// The number of bytes that are read, whether each is as the reader gave it, and the number of retries left.
 fn reads_told(alloc: Global, reader: Pieces<'_>, limit: usize) -> Result<String, Fail> {
     let (text, mut reader, mut retries) = (reader.rest, reader, RETRIES);
     match read_source(alloc, &mut reader, limit, &mut retries) {
@@ -95,7 +95,8 @@ fn reads_told(alloc: Global, reader: Pieces<'_>, limit: usize) -> Result<String,
     }
 }
 
-// Whether all is written, how many bytes are taken, each as it was given, and how many retries are left.
+// Whether all is written, the number of bytes that are taken, whether each is as it was given, and the number of
+// retries left.
 fn writes_told(alloc: Global, writer: Slow, text: &[u8]) -> Result<String, Fail> {
     let (mut writer, mut retries) = (writer, RETRIES);
     let ended = match write_whole(&mut writer, text, &mut retries) {
@@ -114,7 +115,7 @@ fn writes_told(alloc: Global, writer: Slow, text: &[u8]) -> Result<String, Fail>
     )?)
 }
 
-// Some bytes are always left, so the room is never empty, and yet not much longer than what is left at once.
+// Some bytes are always left, so the room is never empty, and yet not much longer than the bytes that are left at once.
 fn passes_told(alloc: Global, text: &[u8], times: usize) -> Result<String, Fail> {
     let mut intake = Intake::new(alloc);
     for _ in 0..times {

@@ -21,12 +21,12 @@ impl Ticking {
         }
     }
 
-    /// How often it was looked at.
+    /// The number of looks at it.
     pub fn looks(&self) -> u64 {
         self.looks.get()
     }
 
-    /// How many milliseconds all pauses were to take.
+    /// The milliseconds that all pauses were to take.
     pub fn paused(&self) -> u128 {
         self.paused.get()
     }

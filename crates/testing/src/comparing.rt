@@ -5,7 +5,7 @@ ghost use Rattle.std.specs.Prelude.{◌≡◌, true, OnOk, OnErr, false};
 use std::fmt::{Debug, Display};
 use std::test::Fail;
 
-/// Whether `got` equals `wanted`.
+/// Compares `got` with `wanted`.
 ///
 /// # Errors
 ///
@@ -20,7 +20,7 @@ pub fn assert_equal<T: PartialEq + Debug + Drop>(got: T, wanted: T) -> Result<()
     )
 }
 
-/// Whether `got` equals `wanted`, in a case such as the row of a table.
+/// Compares `got` with `wanted`, in a case such as the row of a table.
 ///
 /// # Errors
 ///
@@ -39,7 +39,7 @@ pub fn assert_equal_at<T: PartialEq + Debug + Drop, P: Debug + Drop>(
     )
 }
 
-// Nothing if it is so, and else a failure that says this.
+// Nothing if it is so; else a failure that says this.
 fn assert_so<D: Display + Drop>(is_so: bool, said: D) -> Result<(), Fail>
     ensures so { OnOk result (is_so ≡ true) }
     ensures told { OnErr result (is_so ≡ false) }

@@ -2,13 +2,15 @@
 use std::alloc::Global;
 use std::test::Fail;
 
-/// What a caller sends: the token, the request's first words, its lines but for the token and the length, its body.
+/// A request as a caller sends it: the token, the request's first words, its lines but for the token and the
+/// length, its body.
 pub type Asked = (&'static str, &'static str, &'static str, &'static str);
 
-/// What is written for it: the status, the lines after the length, the body. No status: nothing is written.
+/// The reply that is written to it: the status, the lines after the length, the body. Without a status nothing is
+/// written.
 pub type Told = (&'static str, &'static str, &'static str);
 
-/// A request with what is written for it.
+/// A request with its reply.
 pub type Exchange = (Asked, Told);
 
 /// The publisher's token.
@@ -26,7 +28,7 @@ pub const FIRST: &str = "bureau-number: 1\r\n";
 /// The line of a caller's second change.
 pub const SECOND: &str = "bureau-number: 2\r\n";
 
-/// The status of what is answered or done.
+/// The status of a request that is answered or done.
 pub const OK: &str = "200 OK";
 
 /// The bytes of a request.

@@ -1,8 +1,8 @@
-//! How calls of a device fail.
+//! The ways in which calls of a device fail.
 use std::io::{self, ErrorKind};
 
-/// How calls of a device fail: the first so many pass, each of the next `count` fails in this way, and all after them
-/// pass.
+/// The way in which calls of a device fail: the first so many pass, each of the next `count` fails in this way, and
+/// all after them pass.
 #[derive(Clone, Copy, Debug)]
 pub struct Failures {
     pub passed: u32,
@@ -41,7 +41,7 @@ impl Failures {
         }
     }
 
-    /// The next call, which passes or fails.
+    /// Makes the next call, which passes or fails.
     pub(crate) fn pass(&mut self) -> io::Result<()> {
         if self.passed > 0 {
             self.passed -= 1;

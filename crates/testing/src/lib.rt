@@ -1,17 +1,17 @@
-//! What tests of several crates share: comparisons, readers and writers that fail, a clock that is set, numbers that are drawn,
-//! texts of requests and replies, and a worked case.
+//! Tools that tests of several crates share: comparisons, readers and writers that fail, a clock that is set, numbers
+//! that are drawn, texts of requests and replies, and a worked case.
 //!
-//! If what a test sees differs from what it wants, the test fails and says both. The comparisons are functions, where
-//! `std` has macros: a macro's text is proved anew at each of its uses, and takes most of the time of a test's proof. A
-//! condition is asserted by `std`'s `assert!`, which costs little.
+//! If a test sees something else than it wants, it fails and says both. The comparisons are functions, since a macro of
+//! `std` is proved anew at each of its uses, and takes most of the time of a test's proof. A condition is asserted by
+//! `std`'s `assert!`, which costs little.
 //!
-//! - [`assert_equal`]: of two values
-//! - [`assert_equal_at`]: the same, and what is said has the case too, such as the row of a table
+//! - [`assert_equal`]: compares two values
+//! - [`assert_equal_at`]: does the same, and also says the case, such as the row of a table
 //! - [`Pieces`] and [`Slow`]: a reader and a writer of a piece at a time, whose calls fail as [`Failures`] says
 //! - [`Ticking`]: a clock by which the same time passes before each look
 //! - [`Exchange`]: a request with its reply, of which [`request_text`] and [`reply_text`] make the bytes
 //! - [`Draws`]: numbers that are drawn, the same at each run
-//! - [`BASE`]: statements that publish three SYSMODs and a hold, and what is told of them
+//! - [`BASE`]: statements that publish three SYSMODs and a hold, and the reports on them
 //! - [`with_base`]: these statements, and more after them
 //!
 //! ```

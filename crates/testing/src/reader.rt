@@ -5,12 +5,12 @@ use std::io::{self, ErrorKind, Read};
 /// A reader of bytes that gives a piece at a time.
 #[derive(Drop)]
 pub struct Pieces<'a> {
-    /// What it has not given yet.
+    /// The bytes that it has not given yet.
     pub rest: &'a [u8],
-    /// How many bytes it gives at most in one read.
+    /// The most bytes that it gives in one read.
     pub piece: usize,
     pub failures: Failures,
-    /// How it fails if it has given all. It tells its end if it doesn't.
+    /// The error with which it fails once it has given all. If it is `None`, it tells its end.
     pub end: Option<ErrorKind>,
 }
 

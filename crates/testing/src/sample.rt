@@ -1,6 +1,6 @@
 //! The worked case that tests of several crates begin with.
 
-/// A function, and two PTFs for it, of which the second supersedes the reason for which the first is held.
+/// A function, and two PTFs for it. The second one supersedes the reason for which the first is held.
 pub const BASE: &[u8] = b"++FUNCTION(HBB7790).
 ++VER(Z038).
 ++PTF(UA10001).

@@ -7,14 +7,14 @@ use std::io::{self, ErrorKind, Write};
 #[derive(Drop)]
 pub struct Slow {
     pub taken: Vec<u8>,
-    /// How many bytes it takes at most in one write.
+    /// The most bytes that it takes in one write.
     pub piece: usize,
-    /// How many more bytes it takes in all.
+    /// The number of bytes that it still takes in all.
     pub room: usize,
-    /// How it fails if it has no room. It takes no byte if it doesn't.
+    /// The error with which it fails if it has no room. If it is `None`, it takes no byte then.
     pub full: Option<ErrorKind>,
     pub failures: Failures,
-    /// How its flushes fail.
+    /// The way in which its flushes fail.
     pub flushes: Failures,
 }
 

@@ -1,4 +1,4 @@
-//! Runs rows of text files: each row says what is asked, and what the answer must be.
+//! Runs rows of text files: each row has a question, and the right answer to it.
 //!
 //! An empty line ends a case. The first letter of a line, or its first word, says what it is:
 //!
@@ -16,10 +16,10 @@
 //!
 //! `tests/row_files.py` reads the same format, and `tests/rows.py` runs the same files through the program.
 //!
-//! - [`Subject`]: what is asked, written by the crate above
+//! - [`Subject`]: answers the commands; the crate above writes it
 //! - [`Row`]: a command with the lines before it
 //! - [`run_text`], [`run_files`]: run the rows of a text, or of files
-//! - [`Tally`]: how many answers were right and wrong; what is said of the wrong ones, with file and line
+//! - [`Tally`]: the number of right and of wrong answers; a text on the wrong ones, with file and line
 #![tactic(auto)]
 
 mod lines;

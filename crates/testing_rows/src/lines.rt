@@ -3,7 +3,8 @@ use std::alloc::Global;
 use std::fmt::Write;
 use std::test::Fail;
 
-/// Puts the lines for which `each FIRST LAST TEXT` stands into a text; `rest` is what follows the word. Says whether it could.
+/// Appends the lines for which `each FIRST LAST TEXT` stands to a text; `rest` is what follows the word. Returns
+/// whether it could.
 pub(crate) fn put_each(lines: &mut String, rest: &str) -> Result<bool, Fail> {
     let (first, rest) = rest.split_once(' ').unwrap_or((rest, ""));
     let (last, text) = rest.split_once(' ').unwrap_or((rest, ""));
@@ -32,7 +33,7 @@ fn put_numbered(lines: &mut String, text: &str, number: u32) -> Result<(), Fail>
     Ok(lines.push('\n')?)
 }
 
-/// An answer with each of its lines cut down to its first three words, the last one, and how many words there are.
+/// An answer with each of its lines cut down to its first three words, the last one, and the number of words.
 pub(crate) fn brief(alloc: Global, answer: &str) -> Result<String, Fail> {
     let mut text = String::new(alloc);
     for line in answer.lines() {

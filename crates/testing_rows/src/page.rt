@@ -1,4 +1,4 @@
-//! Where a file is: the lines that the next command takes, and the command that has no answer yet.
+//! The state of a file: the lines that the next command takes, and the command that has no answer yet.
 use crate::Row;
 use crate::lines::put_each;
 use std::alloc::Global;
@@ -17,7 +17,7 @@ pub(crate) struct Page {
     given: String,
 }
 
-// By hand, so that a function that owns one lets it go by one call.
+// By hand, so that a function that owns one drops it by one call.
 impl Drop for Page {
     fn drop(self) {
         let Page {
@@ -43,7 +43,7 @@ impl Page {
         }
     }
 
-    /// Another command takes the lines before it.
+    /// Puts another command, which takes the lines before it.
     pub(crate) fn ask(&mut self, command: &str) -> Result<(), Fail> {
         self.is_asked = true;
         self.row.ask(self.line, command)?;
@@ -52,19 +52,19 @@ impl Page {
         Ok(())
     }
 
-    /// The next command takes this line.
+    /// Gives the next command this line.
     pub(crate) fn give(&mut self, line: &str) -> Result<(), Fail> {
         self.given.push_str(line)?;
         Ok(self.given.push('\n')?)
     }
 
-    /// The next command takes the statements of the worked case.
+    /// Gives the next command the statements of the worked case.
     pub(crate) fn give_base(&mut self) -> Result<(), Fail> {
         let base = std::str::from_utf8(BASE).map_err(|_| "a text")?;
         Ok(self.given.push_str(base)?)
     }
 
-    /// The next command takes the lines for which `each ..` stands. Says whether it is written as it must be.
+    /// Gives the next command the lines for which `each ..` stands. Returns whether it is written as it has to be.
     pub(crate) fn give_each(&mut self, rest: &str) -> Result<bool, Fail> {
         put_each(&mut self.given, rest)
     }
@@ -74,12 +74,13 @@ impl Page {
         !self.given.is_empty()
     }
 
-    /// The lines that no command has taken are left out.
+    /// Drops the lines that no command has taken.
     pub(crate) fn forget_lines(&mut self) {
         self.given.clear();
     }
 
-    /// One more line is wanted, or those for which `=each ..` stands. Says whether it is written as it must be, after a command.
+    /// Adds a line that is wanted, or those for which `=each ..` stands. Returns whether it is written as it has to be,
+    /// after a command.
     pub(crate) fn want(&mut self, line: &str) -> Result<bool, Fail> {
         if !self.is_asked || self.has_lines() {
             return Ok(false);

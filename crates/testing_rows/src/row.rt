@@ -9,15 +9,15 @@ pub struct Row {
     pub line: u32,
     /// Its first word.
     pub word: String,
-    /// What stands after that.
+    /// The text after that.
     pub rest: String,
-    /// The lines that stand before it, each with its end.
+    /// The lines before it, each with its end.
     pub given: String,
     is_brief: bool,
     wanted: String,
 }
 
-// By hand, so that a function that owns one lets it go by one call.
+// By hand, so that a function that owns one drops it by one call.
 impl Drop for Row {
     fn drop(self) {
         let Row {
@@ -47,7 +47,7 @@ impl Row {
         }
     }
 
-    /// Another command, of which nothing is wanted yet.
+    /// Puts another command, of which nothing is wanted yet.
     pub(crate) fn ask(&mut self, line: u32, command: &str) -> Result<(), Fail> {
         let plain = command.strip_prefix("brief ");
         self.line = line;
@@ -64,7 +64,7 @@ impl Row {
         Ok(self.rest.push_str(rest)?)
     }
 
-    /// It takes these lines.
+    /// Gives it these lines.
     pub(crate) fn give(&mut self, lines: &str) -> Result<(), Fail> {
         self.given.clear();
         Ok(self.given.push_str(lines)?)
@@ -75,12 +75,14 @@ impl Row {
         &self.wanted
     }
 
-    /// The lines for which `each ..` stands are wanted too. Says whether it is written as it must be.
+    /// Adds the lines for which `each ..` stands to those that are wanted. Returns whether it is written as
+    /// it has to be.
     pub(crate) fn want_each(&mut self, rest: &str) -> Result<bool, Fail> {
         put_each(&mut self.wanted, rest)
     }
 
-    /// One more line is wanted: what stands after `=` and a blank. Says whether it is written as it must be.
+    /// Adds a line that is wanted: the text after `=` and a blank. Returns whether it is written as it has
+    /// to be.
     pub(crate) fn want_line(&mut self, line: &str) -> Result<bool, Fail> {
         let text = line.strip_prefix("= ").unwrap_or("");
         self.wanted.push_str(text)?;

@@ -6,16 +6,16 @@ use std::fs;
 use std::rt::Files;
 use std::test::Fail;
 
-/// What the commands of rows are asked of.
+/// Answers the commands of rows.
 pub trait Subject {
-    /// A case begins: nothing is left of the one before.
+    /// Begins a case: nothing is left of the one before.
     ///
     /// # Errors
     ///
     /// A failure if memory ran out.
     fn begin(&mut self, alloc: Global) -> Result<(), Fail>;
 
-    /// The answer to a command, as lines, each with its end. A word that isn't known has none.
+    /// Answers a command by lines, each with its end. A word that isn't known has no answer.
     ///
     /// # Errors
     ///
@@ -41,7 +41,7 @@ pub fn run_files<R: Files + AllocGlobal, S: Subject>(
     Ok(())
 }
 
-/// Runs the rows of a text, which is told as a file of this name.
+/// Runs the rows of a text, which is named as a file in messages.
 ///
 /// # Errors
 ///
@@ -106,7 +106,7 @@ fn run_line_of_case<S: Subject>(
     }
 }
 
-// A line that is wanted.
+// Takes a line that is wanted.
 fn want(tally: &mut Tally, page: &mut Page, line: &str) -> Result<(), Fail> {
     if page.want(line)? {
         return Ok(());
@@ -140,7 +140,7 @@ fn give_each(tally: &mut Tally, page: &mut Page, rest: &str) -> Result<(), Fail>
     tally.complain(page.line, "each FIRST LAST TEXT is wanted")
 }
 
-// A command. The one before it has all that is wanted of it.
+// Takes a command. The one before it has all its wanted lines.
 fn ask<S: Subject>(
     alloc: Global,
     subject: &mut S,

@@ -1,4 +1,4 @@
-//! How many answers were right and wrong, and what is said of the wrong ones.
+//! The numbers of right and of wrong answers, and a text on the wrong ones.
 ghost use Rattle.std.specs.Prelude.{◌≡◌, ◌+◌, ◌<◌, true, false};
 
 use crate::Row;
@@ -6,18 +6,18 @@ use std::alloc::Global;
 use std::fmt::Write;
 use std::test::Fail;
 
-/// How many answers were right and wrong. Each answer that is wrong is said, with its file and line.
+/// The numbers of right and of wrong answers. It tells of each wrong answer, with its file and line.
 pub struct Tally {
-    /// What is said, each line with its end.
+    /// The text on wrong answers, each line with its end.
     pub said: String,
     pub right: u32,
     pub wrong: u32,
-    // The file that is run, and the answers before it.
+    // The file whose rows run, and the answers before it.
     name: String,
     before: u32,
 }
 
-// By hand, so that a function that owns one lets it go by one call.
+// By hand, so that a function that owns one drops it by one call.
 impl Drop for Tally {
     fn drop(self) {
         let Tally {
@@ -33,7 +33,7 @@ impl Drop for Tally {
 }
 
 impl Tally {
-    /// Nothing is run yet.
+    /// No answers yet.
     pub fn new(alloc: Global) -> Tally {
         Tally {
             said: String::new(alloc),
@@ -48,14 +48,14 @@ impl Tally {
         self.right.saturating_add(self.wrong)
     }
 
-    /// The rows of a file are run from here on.
+    /// Begins the rows of a file.
     pub(crate) fn begin(&mut self, name: &str) -> Result<(), Fail> {
         self.before = self.count();
         self.name.clear();
         Ok(self.name.push_str(name)?)
     }
 
-    /// Says how many answers the file had. One without any is wrong.
+    /// Tells the number of answers of the file. A file without any is wrong.
     pub(crate) fn end(&mut self, lines: u32) -> Result<(), Fail> {
         let count = self.count().saturating_sub(self.before);
         if count == 0 {
@@ -81,14 +81,14 @@ impl Tally {
         }
     }
 
-    /// A line is wrong.
+    /// Tells that a line is wrong.
     pub(crate) fn complain(&mut self, line: u32, why: &str) -> Result<(), Fail> {
         self.add(false);
         write!(self.said, "{}:{line}: {why}\n", self.name)?;
         Ok(())
     }
 
-    /// Compares an answer with what is wanted. A word that isn't known has none.
+    /// Compares an answer with the lines that are wanted. A word that isn't known has no answer.
     pub(crate) fn compare(
         &mut self,
         alloc: Global,

@@ -26,14 +26,14 @@ fn two_requests(alloc: Global, publish: &[u8]) -> Result<Vec<u8>, NoMemory> {
     Ok(text)
 }
 
-// The replies to both if no byte is cut off.
+// The replies to both, with no byte cut off.
 fn whole_replies(alloc: Global, text: &[u8]) -> Result<Vec<u8>, Fail> {
     let (whole, ended) = served(alloc, false, text)?;
     assert_equal(ended, Ok(2))?;
     Ok(whole)
 }
 
-// The first bytes of both have the replies of the requests that stand whole in them.
+// Checks that the first bytes of both have the replies to the requests that are whole in them.
 fn assert_cut(
     rt: &impl Abort,
     alloc: Global,
@@ -68,7 +68,7 @@ fn a_connection_is_cut_anywhere(rt: HostRuntime) -> Result<(), Fail> {
     Ok(())
 }
 
-// Reads of one byte are interrupted so often, and writes take five bytes.
+// Checks reads of one byte that are interrupted so often, while writes take five bytes.
 fn assert_interrupted(
     alloc: Global,
     text: &[u8],
@@ -87,7 +87,7 @@ fn assert_interrupted(
     assert_equal_at(interruptions, writer.taken.as_slice(), taken)
 }
 
-// Writes take five bytes while there is room for as many.
+// Checks writes that take five bytes while there is room for as many.
 fn assert_no_room(alloc: Global, text: &[u8], whole: &[u8], room: usize) -> Result<(), Fail> {
     let mut reader = text;
     let mut writer = Slow::new(alloc, 5, room, Failures::none());

@@ -1,4 +1,4 @@
-//! Readers and writers that fail or are interrupted in mid-stream, and when they are asked.
+//! Readers and writers that fail or are interrupted in mid-stream, and when they are called.
 use super::echo::{counts, echoed, repeated_counts, served};
 use bureau_http::ConnFault;
 use std::alloc::Global;
@@ -7,7 +7,7 @@ use std::io::{self, ErrorKind, Read, Write};
 use std::test::Fail;
 use testing::{Failures, Pieces, Slow, assert_equal_at};
 
-// What the client has sent and got so far.
+// The requests that the client has sent and the replies that it has got so far.
 #[derive(Drop)]
 struct Waiting {
     sent: Cell<u32>,
@@ -65,7 +65,7 @@ impl Write for Taking<'_> {
     }
 }
 
-// How a connection ends that asks so often, each time after so many interruptions, and the bytes that it gets.
+// How a connection of so many requests ends, each after so many interruptions, and the bytes that it gets.
 fn asked_patiently(
     alloc: Global,
     text: &[u8],
@@ -91,7 +91,8 @@ fn asked_patiently(
     (writer.taken, ended)
 }
 
-// So many requests, each after so many interruptions: how many are answered, and how the connection ends.
+// So many requests, each after so many interruptions: the number of those that are answered, and how the
+// connection ends.
 static ASKED: [(u32, u32, usize, Result<u64, ConnFault>); 4] = [
     (3, 0, 3, Ok(3)),
     // Interruptions are counted over the connection.
@@ -123,7 +124,7 @@ fn two_exchanges(alloc: Global) -> Result<Exchanged, Fail> {
     Ok((text, whole))
 }
 
-// All reads after so many fail, and each request that came whole has its reply.
+// Checks that all reads after so many fail, and that each request that came whole has its reply.
 fn assert_read_failed(alloc: Global, both: &Exchanged, until_failure: u32) -> Result<(), Fail> {
     let (text, whole) = both;
     let failures = Failures::after(until_failure, ErrorKind::ConnectionReset);
@@ -152,7 +153,7 @@ fn a_read_fails_at_each_place(rt: HostRuntime) -> Result<(), Fail> {
     Ok(())
 }
 
-// All writes after so many fail, and as many bytes are written as those take.
+// Checks that all writes after so many fail, and that as many bytes are written as those take.
 fn assert_write_failed(alloc: Global, both: &Exchanged, until_failure: u32) -> Result<(), Fail> {
     let (text, whole) = both;
     let mut reader = text.as_slice();

@@ -1,4 +1,4 @@
-//! Connections to a desk that knows the publisher alone and answers each call with its own name, and to the bureau.
+//! Connections to a desk that knows only the publisher and answers each call with its own name, and to the bureau.
 use super::tableless::{Answering, Tableless};
 use bureau::{Body, Bureau, Call, Reply};
 use bureau_http::{ConnFault, Desk, serve_one};
@@ -10,7 +10,7 @@ use std::alloc::Global;
 use std::io::{Read, Write};
 use std::test::Fail;
 
-/// What answers each call of the publisher with what it sends, and fails if it is closed.
+/// Answers each call of the publisher with what it sends, and fails if it is closed.
 #[derive(Drop)]
 pub(crate) struct Echo {
     alloc: Global,
@@ -64,7 +64,7 @@ impl Answering for Echo {
     }
 }
 
-/// What is written to a connection, and how it ends.
+/// The bytes that are written to a connection, and how it ends.
 pub(crate) fn served(
     alloc: Global,
     is_closed: bool,
@@ -78,7 +78,7 @@ pub(crate) fn served(
     Ok((writer, ended))
 }
 
-/// How many requests of a connection this desk serves, or what ends it.
+/// The number of requests of a connection that this desk serves, or what ends it.
 pub(crate) fn served_by<D: Desk, R: Read, W: Write>(
     alloc: Global,
     desk: &mut D,

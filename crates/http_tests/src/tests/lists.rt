@@ -23,7 +23,7 @@ fn a_list_of_connections(rt: HostRuntime) -> Result<(), Fail> {
     }
 }
 
-// The bureau knows nobody but the publisher, who asks in the first connection and in the third.
+// The bureau knows only the publisher, who asks in the first connection and in the third.
 #[test]
 fn connections_to_the_bureau(rt: HostRuntime) -> Result<(), Fail> {
     let one = counts(rt.alloc())?;

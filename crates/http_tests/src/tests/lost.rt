@@ -11,7 +11,7 @@ const CALLERS: &[u8] = b"NAME,TOKEN\nPUBLISH,publisher-token\nALPHA,alpha-token\
 
 const FOUND: &[u8] = b"HTTP/1.1 200 OK\r\n";
 
-// Takes nothing.
+// A writer that takes nothing.
 #[derive(Drop)]
 struct Closed;
 
@@ -25,7 +25,7 @@ impl Write for Closed {
     }
 }
 
-// A change is sent whose reply can't be written.
+// Sends a change whose reply can't be written.
 fn assert_lost<D: Desk>(alloc: Global, desk: &mut D) -> Result<(), Fail> {
     let put = request(
         alloc,
@@ -38,7 +38,7 @@ fn assert_lost<D: Desk>(alloc: Global, desk: &mut D) -> Result<(), Fail> {
     assert_equal(lost, Err(ConnFault::Write))
 }
 
-// The change is sent once more, without its body, and has the reply that was lost.
+// Sends the change once more, without its body, and checks that it has the reply that was lost.
 fn assert_made<D: Desk>(rt: &impl Abort, alloc: Global, desk: &mut D) -> Result<(), Fail> {
     let again = request(
         alloc,

@@ -6,9 +6,9 @@ use bureau::{Call, Reply};
 use bureau_http::Desk;
 use bureau_store::{Caller, StoreFault};
 
-/// What answers in place of a bureau.
+/// Answers in place of a bureau.
 pub(crate) trait Answering {
-    /// Who has this token, if somebody has it. It fails for want of memory alone.
+    /// The caller with this token, if somebody has it. It fails only for want of memory.
     fn found(&mut self, token: &[u8]) -> Result<Option<Caller>, StoreFault>
         ensures { IfOk result (λ found. IfSome found IsProper) };
 
@@ -16,7 +16,7 @@ pub(crate) trait Answering {
     fn told(&mut self, caller: &Caller, call: &Call<'_>) -> Reply;
 }
 
-/// A desk that holds no tables, so that nothing is said of its answers.
+/// A desk that holds no tables, so that no contract speaks of its answers.
 #[derive(Drop)]
 pub(crate) struct Tableless<A: Drop> {
     pub(crate) answering: A,

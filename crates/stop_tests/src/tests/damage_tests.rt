@@ -1,4 +1,4 @@
-//! A byte of the log that is damaged: what it is in can't be read.
+//! A damaged byte of the log: the part that it is in can't be read.
 //!
 //! The database refuses a read that finds the damage, but would commit what comes after it, and lose that at the
 //! next opening. So the store is closed from the first refusal on.
@@ -11,7 +11,7 @@ use std::alloc::Global;
 use std::hash::RandomState;
 use std::test::Fail;
 
-// New files, of which the log has a damaged byte.
+// New files, with a damaged byte in the log.
 fn damaged_files(alloc: Global, at: usize) -> Files<Rot<Memory>> {
     Files {
         log: Rot::new(Memory::new(alloc), at),
@@ -26,8 +26,8 @@ fn would_commit<D: Disk + Drop>(trial: &mut Trial, conn: Opened<D>) -> Checked<b
     Ok(committed.is_ok())
 }
 
-// How many requests are answered over a new store of this connection, and whether the connection would have committed
-// more. None is answered if none can be made.
+// The number of requests that are answered over a new store of this connection, and whether the connection would have
+// committed more. If no store can be made, none is answered.
 fn served_over<D: Disk + Drop>(trial: &mut Trial, conn: Opened<D>) -> Checked<(usize, bool)> {
     match visited(trial, conn, Step::Init, Course::Part(0, REQUESTS))? {
         (Ok(answered), conn) => Ok((answered, would_commit(trial, conn)?)),

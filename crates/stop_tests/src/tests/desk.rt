@@ -1,4 +1,4 @@
-//! A desk over any store: what it tells, and whether that is what it should.
+//! A desk over any store: its answers, and whether they are right.
 ghost use Rattle.std.specs.Prelude.{IfOk};
 ghost use Rattle.bureau_store.specs.Caller.{IsProper};
 
@@ -8,13 +8,13 @@ use bureau_store::{Caller, CallerRow, ListStore, Store};
 use std::alloc::Global;
 use verdicts::Judge;
 
-/// Who has which token. It is looked up elsewhere than at the desk, so that a desk that is closed is asked too.
+/// The callers' tokens. They are looked up elsewhere than at the desk, so that a closed desk can be asked too.
 pub(crate) struct Known {
     // The callers in a store that has no device.
     lists: ListStore,
 }
 
-// It is written out, so that whoever has one lets it go by one call.
+// By hand, so that a function that owns one drops it by one call.
 impl Drop for Known {
     fn drop(self) {
         let Known { lists: _ } = self;
@@ -27,13 +27,13 @@ pub(crate) fn in_lists(alloc: Global, callers: &[CallerRow]) -> Checked<ListStor
 }
 
 impl Known {
-    /// Who has the tokens of these callers.
+    /// Knows the tokens of these callers.
     pub(crate) fn new(alloc: Global, callers: &[CallerRow]) -> Checked<Known> {
         let lists = in_lists(alloc, callers)?;
         Ok(Known { lists })
     }
 
-    // Who has this token.
+    // The caller with this token.
     fn caller(&mut self, token: &[u8]) -> Checked<Caller>
         ensures { IfOk result IsProper }
     {
@@ -71,7 +71,7 @@ fn put_told<S: Store, J: Judge<S>>(
     push(replies, told(known, bureau, asked)?)
 }
 
-/// What these are told one after the other.
+/// The answers to these questions, one after the other.
 pub(crate) fn all_told<S: Store, J: Judge<S>>(
     alloc: Global,
     known: &mut Known,
@@ -97,7 +97,7 @@ pub(crate) fn are_same(replies: &[Reply], others: &[Reply]) -> bool {
         })
 }
 
-/// A desk tells this.
+/// Whether a desk gives this answer.
 pub(crate) fn tells<S: Store, J: Judge<S>>(
     known: &mut Known,
     bureau: &mut Bureau<S, J>,
@@ -110,7 +110,7 @@ pub(crate) fn tells<S: Store, J: Judge<S>>(
     Ok(())
 }
 
-// How a request of the script was answered.
+// The answer to a request of the script.
 #[derive(Clone, Copy)]
 enum Answer {
     Right,
@@ -135,8 +135,8 @@ fn answer_to<S: Store, J: Judge<S>>(
     })
 }
 
-/// Asks these one after the other until one is told that there is no room. Then all later ones are told so too. How
-/// many were answered, each as it should be.
+/// Asks these one after the other until one answer says that there is no room. Then all later ones have to say so
+/// too. Returns the number of those that were answered, each as it should be.
 pub(crate) fn served<S: Store, J: Judge<S>>(
     known: &mut Known,
     bureau: &mut Bureau<S, J>,
@@ -167,7 +167,7 @@ fn knows<S: Store, J: Judge<S>>(
     }
 }
 
-/// Whether the desk knows each caller by the token that is the caller's.
+/// Whether the desk knows each caller by the caller's token.
 pub(crate) fn knows_callers<S: Store, J: Judge<S>>(
     known: &mut Known,
     bureau: &mut Bureau<S, J>,

@@ -1,7 +1,7 @@
 //! A device that fails at each of its calls in turn, while a store is made and while a script is served.
 //!
-//! What is opened after the stop has all that was acknowledged, with or without the change that was on its way, and
-//! nothing else. Then that change is sent again, and all that is left of the script has the answers that it has
+//! The store that is opened after the stop has all that was acknowledged, with or without the change that was on its
+//! way, and nothing else. Then that change is sent again, and the rest of the script has the answers that it has
 //! without a stop.
 use super::files::{Calls, Failing, Stoppable, after_kill, after_power_loss, new_files};
 use super::script::{Checked, OPENED_AGAIN, REQUESTS};
@@ -18,7 +18,7 @@ use std::hash::RandomState;
 use std::test::Fail;
 use testing::{ONE_RESOLVER, TWO_RESOLVERS, assert_equal};
 
-// How many requests of the script were answered before the stop, where a store was made, and the files.
+// The number of requests of the script that were answered before the stop, if a store was made; and the files.
 type Stop<D> = (Option<usize>, Files<D>);
 
 // Makes a store and serves the script, with its files closed and opened again between, until the device fails.
@@ -54,7 +54,7 @@ fn end<D: Disk + Drop>(trial: &mut Trial, files: Files<D>) -> Checked<Stop<D>> {
     }
 }
 
-// Where the script stands after so many answered requests, where a store was made: the next one may be on its way.
+// The stage of the script after so many answered requests, if a store was made: the next one may be on its way.
 fn stage_of(answered: Option<usize>) -> Stage {
     match answered {
         Some(answered) => Stage {
@@ -68,7 +68,7 @@ fn stage_of(answered: Option<usize>) -> Stage {
     }
 }
 
-// A store is made in these files, which have none, since none was acknowledged. The script goes on from its beginning.
+// Makes a store in these files, which have none, since none was acknowledged. The script goes on from its beginning.
 fn look_anew<D: Disk + Drop>(
     trial: &mut Trial,
     answered: Option<usize>,
@@ -83,7 +83,7 @@ fn look_anew<D: Disk + Drop>(
     }
 }
 
-// Nothing that was acknowledged is lost in these files, whose device doesn't fail now, and nothing else is found.
+// Checks that these files, whose device doesn't fail now, have all that was acknowledged, and nothing else.
 fn look<D: Disk + Drop>(
     trial: &mut Trial,
     answered: Option<usize>,
@@ -97,7 +97,7 @@ fn look<D: Disk + Drop>(
     }
 }
 
-// These files fail: how many requests were answered before.
+// Lets these files fail. Returns the number of requests that were answered before.
 fn stopped<D: Stoppable>(trial: &mut Trial, files: Files<D>) -> Checked<Option<usize>> {
     let (answered, files) = run(trial, files)?;
     let killed = after_kill(trial.alloc, &files)?;
@@ -106,12 +106,12 @@ fn stopped<D: Stoppable>(trial: &mut Trial, files: Files<D>) -> Checked<Option<u
     Ok(answered)
 }
 
-// The files fail after so many calls.
+// Lets the files fail after so many calls.
 fn stopped_after(trial: &mut Trial, calls: Calls) -> Checked<Option<usize>> {
     stopped(trial, new_files(trial.alloc, calls))
 }
 
-// After which requests of the script a run was stopped, if each call of one of the files failed in turn.
+// The requests of the script after which a run was stopped, as each call of one of the files failed in turn.
 fn stops(alloc: Global, keys: RandomState, failing: Failing) -> Result<Vec<Option<usize>>, Fail> {
     let mut trial = worked(alloc, keys)?;
     let mut stops = Vec::new(alloc);
@@ -145,7 +145,8 @@ fn nothing_acknowledged_is_lost_where_the_database_fails(rt: HostRuntime) -> Res
     Ok(())
 }
 
-// How much is published, and ALPHA's report, before the first request of the script and after each up to the eleventh.
+// The counts of what is published, and ALPHA's report, before the first request of the script and after each up to the
+// eleventh.
 static SEEN: [(&str, &str); 12] = [
     ("PUBLISHED SYSMODS 0 HOLDS 0\n", "NOT FOUND\n"),
     ("PUBLISHED SYSMODS 3 HOLDS 1\n", "NOT FOUND\n"),

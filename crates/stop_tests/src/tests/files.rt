@@ -7,7 +7,7 @@ use std::alloc::Global;
 /// A file in memory that answers a number of calls, and then fails.
 pub(crate) type Device = Fuse<Memory>;
 
-/// A device of which a stop leaves something.
+/// A device that a stop leaves with some content.
 pub(crate) trait Stoppable: Crash + Drop {
     /// A file with the same bytes, which answers so many calls.
     fn copied(&self, alloc: Global, calls: u64) -> Checked<Self>;
@@ -31,13 +31,13 @@ fn write<D: Disk>(disk: &mut D, bytes: &[u8]) -> Checked<()> {
     Ok(())
 }
 
-/// How many calls the log answers, and how many the database.
+/// The number of calls that the log answers, and that of the database.
 pub(crate) type Calls = (u64, u64);
 
 /// All calls of both files are answered.
 pub(crate) const ALL: Calls = (u64::MAX, u64::MAX);
 
-/// Which of the two files fails.
+/// The file of the two that fails.
 #[derive(Clone, Copy)]
 pub(crate) enum Failing {
     Log,
@@ -73,12 +73,12 @@ pub(crate) fn copied<D: Stoppable>(
     Ok(Files { log, db })
 }
 
-/// What the files have after the program ended: all that was written.
+/// The files after the program ended: they have all that was written.
 pub(crate) fn after_kill<D: Stoppable>(alloc: Global, files: &Files<D>) -> Checked<Files<D>> {
     copied(alloc, files, ALL)
 }
 
-/// What the files have after the machine stopped: what was not synced is lost.
+/// The files after the machine stopped: what was not synced is lost.
 pub(crate) fn after_power_loss<D: Stoppable>(mut files: Files<D>) -> Files<D> {
     files.log.crash();
     files.db.crash();

@@ -1,7 +1,7 @@
 //! A device that fails at each of its calls in turn, while a store of version 1 is made one of version 2.
 //!
-//! What is found after the stop is of version 1, and is migrated then, or of version 2. Either way it has all that
-//! it had, and the script goes on.
+//! The store that is found after the stop is of version 1, and is migrated then, or of version 2. Either way it has
+//! all that it had, and the script goes on.
 use super::files::{
     ALL, Calls, Device, Failing, Stoppable, after_kill, after_power_loss, copied, new_files,
 };
@@ -16,17 +16,18 @@ use std::hash::RandomState;
 use std::test::Fail;
 use testing::assert_equal_at;
 
-// Which version is found after a stop.
+// The version that is found after a stop.
 #[derive(Clone, Copy, Debug, PartialEq, Eq)]
 enum Found {
     One,
     Two,
 }
 
-// Whether the store was migrated before a stop, and what is found after the program ended and after a loss of power.
+// Whether the store was migrated before a stop, and the versions that are found after the program ended and after a
+// loss of power.
 type Stop = (bool, Found, Found);
 
-// A connection over which a store was made, and the script served up to where the files are closed.
+// A connection over which a store was made, and the script served up to the request at which the files are closed.
 fn served<D: Disk + Drop>(trial: &mut Trial, conn: Opened<D>) -> Checked<Opened<D>> {
     match visited(trial, conn, Step::Init, Course::Part(0, OPENED_AGAIN))? {
         (Ok(OPENED_AGAIN), conn) => Ok(conn),
@@ -42,8 +43,8 @@ fn taken_back<D: Disk + Drop>(trial: &mut Trial, conn: Opened<D>) -> Checked<Fil
     }
 }
 
-// These files, which are new, with a store of version 1 over which the script was served up to where the files are
-// closed.
+// These files, which are new, with a store of version 1 over which the script was served up to the request at which
+// the files are closed.
 fn earlier<D: Disk + Drop>(trial: &mut Trial, files: Files<D>) -> Checked<Files<D>> {
     match connected(trial.alloc, files, SHORT_LOG) {
         Ok(conn) => {
@@ -58,13 +59,13 @@ fn earlier_files(trial: &mut Trial) -> Checked<Files<Device>> {
     earlier(trial, new_files(trial.alloc, ALL))
 }
 
-// The script was served up to where the files are closed.
+// The script was served up to the request at which the files are closed.
 const MIGRATED: Stage = Stage {
     answered: OPENED_AGAIN,
     on_their_way: 0,
 };
 
-// The store in these files goes on with the script after this.
+// Lets the store in these files go on with the script.
 fn goes_on<D: Disk + Drop>(
     trial: &mut Trial,
     files: Files<D>,
@@ -80,7 +81,7 @@ fn goes_on_migrated<D: Disk + Drop>(trial: &mut Trial, files: Files<D>) -> Check
     }
 }
 
-// Nothing of what was served is lost in these files: which version they are of.
+// Checks that nothing of what was served is lost in these files, and returns their version.
 fn version_in<D: Disk + Drop>(trial: &mut Trial, files: Files<D>) -> Checked<Found> {
     match goes_on(trial, files, Step::Open)? {
         (Ok(_), _) => Ok(Found::Two),
@@ -89,7 +90,8 @@ fn version_in<D: Disk + Drop>(trial: &mut Trial, files: Files<D>) -> Checked<Fou
     }
 }
 
-// Nothing is lost in these files, which are of version 2 if that was acknowledged: which version they are of.
+// Checks that nothing is lost in these files, which are of version 2 if that was acknowledged, and returns their
+// version.
 fn look<D: Disk + Drop>(trial: &mut Trial, is_done: bool, files: Files<D>) -> Checked<Found> {
     let found = version_in(trial, files)?;
     if is_done && found == Found::One {
@@ -98,7 +100,7 @@ fn look<D: Disk + Drop>(trial: &mut Trial, is_done: bool, files: Files<D>) -> Ch
     Ok(found)
 }
 
-// Migrates the store in these files: whether that was done, and the files.
+// Migrates the store in these files. Returns whether that was done, and the files.
 fn tried<D: Disk + Drop>(trial: &mut Trial, files: Files<D>) -> Checked<(bool, Files<D>)> {
     match left(trial, files, Step::Migrate, Course::Nothing)? {
         (Ok(_), files) => Ok((true, files)),
@@ -107,7 +109,7 @@ fn tried<D: Disk + Drop>(trial: &mut Trial, files: Files<D>) -> Checked<(bool, F
     }
 }
 
-// These files fail.
+// Lets these files fail.
 fn stopped<D: Stoppable>(trial: &mut Trial, files: Files<D>) -> Checked<Stop> {
     let (is_done, files) = tried(trial, files)?;
     let killed = after_kill(trial.alloc, &files)?;
@@ -116,7 +118,7 @@ fn stopped<D: Stoppable>(trial: &mut Trial, files: Files<D>) -> Checked<Stop> {
     Ok((is_done, killed, crashed))
 }
 
-// Copies of these files fail after so many calls.
+// Lets copies of these files fail after so many calls.
 fn copies_stopped<D: Stoppable>(
     trial: &mut Trial,
     files: &Files<D>,
@@ -137,7 +139,7 @@ fn stopped_after<D: Stoppable>(
     }
 }
 
-// What is found if each call of one of the files failed in turn, until none does.
+// Adds what is found as each call of one of the files fails in turn, until none does.
 fn put_stops<D: Stoppable>(
     stops: &mut Vec<Stop>,
     trial: &mut Trial,
@@ -154,7 +156,7 @@ fn put_stops<D: Stoppable>(
     Err("migrate never runs through".into())
 }
 
-// These are among what is found if each call of one of these files failed in turn.
+// Checks that these are among what is found as each call of one of these files fails in turn.
 fn assert_stops_of<D: Stoppable>(
     trial: &mut Trial,
     files: &Files<D>,

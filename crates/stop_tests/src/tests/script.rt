@@ -1,4 +1,4 @@
-//! What the publisher and two clients ask one after the other, and what each is told.
+//! The questions of the publisher and of two clients, one after the other, and the answer to each.
 use bureau::Call;
 use mcs_reader::Id;
 use questions::{Form, Wanted};
@@ -7,7 +7,7 @@ use testing::{BASE, LONG_PLAN, ONE_RECEIVED, ONE_RESOLVER, SHORT_PLAN, TWO_RESOL
 /// A value, or what is wrong.
 pub(crate) type Checked<T> = Result<T, &'static str>;
 
-/// Who asks, by a token, and what, and where.
+/// A token, a question, and the place that it is about.
 pub(crate) type Asked = (&'static [u8], Ask, Where);
 
 /// The same, with the body of the answer.
@@ -42,22 +42,22 @@ const RECEIVED: &[u8] = b"SYSMOD\nUA10002\n";
 
 const PATTERNS: &[u8] = b"CATEGORY\nIBM*\n";
 
-/// How many requests the script has.
+/// The number of requests of the script.
 pub(crate) const REQUESTS: usize = 15;
 
-/// Before this one the store's files are closed and opened again.
+/// The request before which the store's files are closed and opened again.
 pub(crate) const OPENED_AGAIN: usize = 7;
 
-/// A zone, and a SYSMOD of which a verdict is asked there.
+/// A zone, and a SYSMOD for a verdict there.
 #[derive(Clone, Copy)]
 pub(crate) enum Where {
-    /// TGT1, and one that another one supersedes later.
+    /// TGT1, and a SYSMOD that another one supersedes later.
     Plain,
-    /// One in which what is required under a condition is required, and the SYSMOD that requires it.
+    /// A zone in which a requisite under a condition is required, and the SYSMOD that requires it.
     Conditional,
 }
 
-/// What is asked of a zone and a SYSMOD, or of all that is kept. A change has a number.
+/// A question about a zone and a SYSMOD, or about all that is kept. A change has a number.
 pub(crate) enum Ask {
     Publish(u64, &'static [u8]),
     Put(u64, &'static [u8]),
@@ -77,7 +77,8 @@ pub(crate) enum Ask {
     CountsJson,
 }
 
-/// Two publications, a zone of the same name of each of two clients, the other kinds of changes, and what they ask.
+/// Two publications, a zone of the same name of each of two clients, the other kinds of changes, and the clients'
+/// questions.
 pub(crate) static SCRIPT: [Told; REQUESTS] = [
     (
         (PUBLISHER, Ask::Publish(1, BASE), Where::Plain),
@@ -120,7 +121,7 @@ pub(crate) static SCRIPT: [Told; REQUESTS] = [
     ((ALPHA, Ask::Report, Where::Plain), ONE_RECEIVED),
 ];
 
-/// All that each caller may ask of what is kept: how much is published and ALPHA's report come first.
+/// All questions of each caller about what is kept: the counts of what is published and ALPHA's report come first.
 pub(crate) static QUESTIONS: [Asked; 16] = [
     (ALPHA, Ask::Counts, Where::Plain),
     (ALPHA, Ask::Report, Where::Plain),

@@ -1,8 +1,8 @@
 //! Stores in files.
 //!
-//! Each call with a contract of its own stands in a function of its own that promises little, so that no proof
-//! carries much along. Of what speaks of files on a device, `visited` and `files_of` alone call what speaks of any
-//! database: each such call has all of a store in files proved to be one.
+//! Each call with a contract of its own has a function of its own that promises little, so that no proof carries
+//! much along. Of the functions that speak of files on a device, only `visited` and `files_of` call those that speak
+//! of any database: each such call has all of a store in files proved to be one.
 use super::script::Checked;
 use super::trial::{Course, Trial};
 use bureau_sql::{SqlStore, find_store, init, migrate};
@@ -14,7 +14,7 @@ use std::alloc::Global;
 /// A connection over files.
 pub(crate) type Opened<D> = Connection<FileStore<D>>;
 
-/// After how many pages the log is copied into the database file: some times while a script is served.
+/// The number of pages after which the log is copied into the database file: a few times while a script is served.
 pub(crate) const SHORT_LOG: usize = 8;
 
 // Few pages are kept in memory, so that the files are read often.
@@ -27,7 +27,8 @@ fn options(log_pages: usize) -> Options {
     }
 }
 
-/// A connection to these files. The log is copied after so many pages. Refused, the files as they are.
+/// Opens a connection to these files. The log is copied after so many pages. After a refusal it returns the files as
+/// they are.
 pub(crate) fn connected<D: Disk + Drop>(
     alloc: Global,
     files: Files<D>,
@@ -47,13 +48,13 @@ pub(crate) fn files_of<D: Disk + Drop>(conn: Opened<D>) -> Files<D> {
     conn.into_store().close()
 }
 
-/// Lets a connection go, and tells this. Its files are let go, since they cost less to prove than a connection.
+/// Drops a connection, and returns this error. It drops the files, since they cost less to prove than a connection.
 pub(crate) fn given_up<D: Disk + Drop, T>(conn: Opened<D>, why: &'static str) -> Checked<T> {
     let _files = files_of(conn);
     Err(why)
 }
 
-/// The files of a connection after the log was copied into the database, or if the device failed in that.
+/// The files of a connection after the log was copied into the database, or after the device failed in that.
 pub(crate) fn closed<D: Disk + Drop>(conn: Opened<D>) -> Result<Files<D>, Files<D>> {
     match conn.close_files() {
         Ok(files) => Ok(files),
@@ -61,21 +62,22 @@ pub(crate) fn closed<D: Disk + Drop>(conn: Opened<D>) -> Result<Files<D>, Files<
     }
 }
 
-// A connection is not at rest. No step is to be refused so.
+// A connection is not at rest. No step should be refused so.
 const NOT_AT_REST: StoreFault = StoreFault::Memory;
 
-/// What is done to a database before a desk is asked over it.
+/// The step that is made in a database before a desk is asked over it.
 #[derive(Clone, Copy)]
 pub(crate) enum Step {
-    /// A store with the callers is made in it.
+    /// Makes a store with the callers in it.
     Init,
-    /// The store is opened that is in it.
+    /// Opens the store that is in it.
     Open,
-    /// The store of version 1 that is in it is made one of version 2.
+    /// Makes the store of version 1 that is in it one of version 2.
     Migrate,
-    /// Something else than the bureau takes away what version 1 did not have.
+    /// Deletes, as something else than the bureau, what version 1 did not have.
     TakeBack,
-    /// The connection says that its file is damaged, and commits a change all the same. It is refused if it doesn't.
+    /// Commits a change after the connection says that its file is damaged. It is refused if the connection doesn't
+    /// say so.
     Commit,
 }
 
@@ -125,7 +127,7 @@ fn done<S: Alter>(
     }
 }
 
-// The store that a connection has. Refused, the connection.
+// The store of a connection; after a refusal the connection.
 fn store_over<S: Alter + Drop>(
     alloc: Global,
     conn: Connection<S>,
@@ -136,7 +138,7 @@ fn store_over<S: Alter + Drop>(
     Ok(SqlStore::over(alloc, conn))
 }
 
-// The store that a connection has after this step. Refused, the connection with what was wrong.
+// The store of a connection after this step; after a refusal the connection, and what was wrong.
 fn store_after<S: Alter + Drop>(
     trial: &Trial,
     mut conn: Connection<S>,
@@ -148,10 +150,11 @@ fn store_after<S: Alter + Drop>(
     }
 }
 
-/// How many requests were answered in a visit, or why the step was refused; and the connection, or the files.
+/// The number of requests that were answered in a visit, or why the step was refused; and the connection, or the
+/// files.
 pub(crate) type Visited<C> = (Result<usize, StoreFault>, C);
 
-// A desk is asked over the store that a connection has after this step.
+// Asks a desk over the store that a connection has after this step.
 fn visited_over<S: Alter + Drop>(
     trial: &mut Trial,
     conn: Connection<S>,
@@ -167,7 +170,7 @@ fn visited_over<S: Alter + Drop>(
     }
 }
 
-/// A desk is asked over the store that a connection over files has after this step.
+/// Asks a desk over the store that a connection over files has after this step.
 pub(crate) fn visited<D: Disk + Drop>(
     trial: &mut Trial,
     conn: Opened<D>,

@@ -1,4 +1,4 @@
-//! The script with what is right in it, and stores over which it is served.
+//! The script with the right answers, and stores over which it is served.
 use super::desk::{Known, all_told, are_same, in_lists, knows_callers, push, served, tells};
 use super::script::{CALLERS, Checked, QUESTIONS, SCRIPT};
 use bureau::{Bureau, Reply};
@@ -9,17 +9,17 @@ use std::alloc::Global;
 use std::hash::RandomState;
 use verdicts::Judge;
 
-/// The callers of the script, what is right in it, and what desks are made of that are asked.
+/// The callers of the script, the right answers, and the parts of the desks that are asked.
 pub(crate) struct Trial {
     pub(crate) alloc: Global,
     keys: RandomState,
     pub(crate) callers: Vec<CallerRow>,
     known: Known,
-    /// What the questions are told before the first request of the script, and after each.
+    /// The answers to the questions before the first request of the script, and after each.
     pub(crate) after: Vec<Vec<Reply>>,
 }
 
-// It is written out, so that whoever has one lets it go by one call.
+// By hand, so that a function that owns one drops it by one call.
 impl Drop for Trial {
     fn drop(self) {
         let Trial {
@@ -32,26 +32,26 @@ impl Drop for Trial {
     }
 }
 
-/// How far a script was served: so many of its requests were answered, and so many more may have been on their way.
+/// The stage of a script: so many of its requests were answered, and so many more may have been on their way.
 #[derive(Clone, Copy)]
 pub(crate) struct Stage {
     pub(crate) answered: usize,
     pub(crate) on_their_way: usize,
 }
 
-/// What a desk is asked.
+/// The questions to a desk.
 #[derive(Clone, Copy)]
 pub(crate) enum Course {
     /// The requests of the script from this one on, and before that one, as `served`.
     Part(usize, usize),
-    /// The questions, which are told what is right at this stage. Then all that is left of the script, which has the
-    /// answers that it has without a stop.
+    /// The questions, with the right answers at this stage. Then the rest of the script, with the answers that it
+    /// has without a stop.
     Rest(Stage),
     /// Nothing.
     Nothing,
 }
 
-// What the questions are told is put after what they were told before.
+// Adds the answers to the questions.
 fn put_stage<S: Store, J: Judge<S>>(
     alloc: Global,
     after: &mut Vec<Vec<Reply>>,
@@ -61,7 +61,7 @@ fn put_stage<S: Store, J: Judge<S>>(
     push(after, all_told(alloc, known, bureau, &QUESTIONS)?)
 }
 
-// What the questions are told before the first request and after each, by a desk that answers all as it should.
+// The answers to the questions before the first request and after each, by a desk that answers all as it should.
 fn put_stages<S: Store, J: Judge<S>>(
     alloc: Global,
     after: &mut Vec<Vec<Reply>>,
@@ -97,7 +97,7 @@ fn known_callers(alloc: Global) -> Checked<Vec<CallerRow>> {
     callers(alloc, CALLERS).ok().ok_or("callers")
 }
 
-/// The script with what is right: what a desk over lists, which have no device, is asked after each request.
+/// The script with the right answers: those of a desk over lists, which have no device, after each request.
 pub(crate) fn worked(alloc: Global, keys: RandomState) -> Checked<Trial> {
     let callers = known_callers(alloc)?;
     let mut known = Known::new(alloc, callers.as_slice())?;
@@ -130,7 +130,7 @@ impl Trial {
         served(&mut self.known, bureau, rows)
     }
 
-    // Whether so is told at this stage.
+    // Whether these answers are right at this stage.
     fn is_right(&self, stage: Stage, replies: &[Reply]) -> bool {
         self.after
             .iter()
@@ -139,7 +139,7 @@ impl Trial {
             .any(|after| are_same(replies, after.as_slice()))
     }
 
-    // The questions are told what is right at this stage.
+    // Checks that the questions have the right answers at this stage.
     fn finds<S: Store, J: Judge<S>>(
         &mut self,
         stage: Stage,
@@ -152,7 +152,7 @@ impl Trial {
         Ok(())
     }
 
-    // All that is left of the script has the answers that it has without a stop.
+    // Checks that the rest of the script has the answers that it has without a stop.
     fn ends<S: Store, J: Judge<S>>(
         &mut self,
         stage: Stage,
@@ -201,7 +201,7 @@ impl Trial {
         Ok((answered, store))
     }
 
-    /// Asks this at a desk over this store. How many requests were answered, and the store.
+    /// Asks this at a desk over this store. Returns the number of requests that were answered, and the store.
     pub(crate) fn asked_over<S: Store + Drop>(
         &mut self,
         store: S,
