@@ -55,7 +55,7 @@ blocked_needs_of content rows sysmods =
 
 -- ---- what is so of it
 
--- a row of a SYSMOD stands in the table
+-- the table has a row of a SYSMOD
 pub record HasRow (found : List BlockedNeed) (id : List ℕ) : Type 0 where
   pub one : BlockedNeed
   pub listed : Contains found one

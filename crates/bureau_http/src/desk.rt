@@ -13,8 +13,8 @@ use bureau_store::{Caller, StoreFault};
 
 /// Answers calls, over any store and any judge.
 ///
-/// What a call tells of the tables is promised only if they were this product's own as the call began, and if what
-/// lies below has returned what was written, up to the call's end.
+/// What a call tells of the tables is promised under two conditions. They were this product's own as the call
+/// began, and what lies below has returned what was written, up to the call's end.
 pub trait Desk {
     /// The view of the desk, with its tables.
     ghost tables_view: { View Self Tables };

@@ -7,9 +7,9 @@
 //! - [`law`]: what an opening finds in the files of a store, and that callers of a callers file can be written
 //!
 //! `specs/` says how contracts look at such a store (`SqlView`), how it answers with what a connection gives (`Told`),
-//! and what a change of it leaves (`Committed`). It says how a store is made (`Founded`), why a connection isn't taken
-//! for one (`Opening`), how a file of version 1 becomes one of version 2 (`Migrated`), and what the files hold between
-//! two runs (`Files`).
+//! and what a change of it leaves (`Committed`). It says how a store is made (`Founded`), and why a connection isn't
+//! taken for one (`Opening`). It says how a file of version 1 becomes one of version 2 (`Migrated`), and what the
+//! files hold between two runs (`Files`).
 //!
 //! ```
 //! use bureau_sql::{SqlStore, find_store, init};

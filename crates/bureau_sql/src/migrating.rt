@@ -69,8 +69,8 @@ fn refusal<S: Alter>(conn: &mut Connection<S>, error: Error) -> StoreFault
 ///
 /// # Errors
 ///
-/// [`StoreFault::Version`] if the tables are of another version than 1, [`StoreFault::Shape`] if one of them or of
-/// their columns is missing, or if there is a table of requisites under a condition already; `Memory` or `Size` if
+/// [`StoreFault::Version`] if the tables are of another version than 1. [`StoreFault::Shape`] if one of them or of
+/// their columns is missing, or if there is a table of requisites under a condition already. `Memory` or `Size` if
 /// memory or room ran out. Each of these leaves the file as it was, unless the device failed too and memory was too
 /// short to see it. `Device` if the device failed, or if the tables are somebody else's and their own rules refuse the
 /// change: then a stop may have left either.

@@ -24,9 +24,9 @@ use zone_lists::{Pattern, ZoneRow};
 /// Reads leave the tables as they are, and return an empty list of what isn't there. A change replaces what it names
 /// whole, and sets the caller's last number and reply, both at once. A refused change leaves the tables as they were.
 /// Contracts say what a change does if it is due: one of the callers makes it, with that caller's next number, and the
-/// zone that it names is there. They say what a call tells if the file was this product's own as the call began, and if
-/// the disk has returned what was written, up to the call's end. Of lists that is always true. Lists ascend in any
-/// case, each entry once.
+/// zone that it names is there. What a call tells of the tables is promised under two conditions. The file was this
+/// product's own as the call began, and the disk has returned what was written, up to the call's end. For lists both
+/// are always true. Lists ascend in any case, each entry once.
 ///
 /// # Errors
 ///

@@ -37,7 +37,7 @@ lists_in_order content this ordered is_open is = subst IsInOrder is ordered
 
 -- ---- No part of what is promised: how the lists are kept.
 
--- each record of a map stands under its own id
+-- a map has each record under its own id
 abbrev pub IsKeyed : List (List ℕ × Sysmod) → Type 0
 IsKeyed entries = ids_in (values_of entries) ≡ keys_of entries
 

@@ -7,7 +7,7 @@ use holddata::HoldChange;
 /// One change to what is published.
 #[derive(Debug, Drop)]
 pub enum Change {
-    /// The record stands from now on, whole, in place of one with the same id.
+    /// The record replaces the whole one with the same id.
     Whole(Sysmod),
     /// A hold is put or released.
     OfHold(HoldChange),

@@ -14,9 +14,9 @@ use std::alloc::Global;
 
 /// A source of the published content: lists, or a file.
 ///
-/// A call promises what it tells only if the file was this product's own as the call began, and if the disk has
-/// returned what was written, up to the call's end. Of lists that is always true. Lists ascend in any case, each
-/// entry once: rows that don't are a fault of the device.
+/// What a call tells of the content is promised under two conditions. The file was this product's own as the
+/// call began, and the disk has returned what was written, up to the call's end. For lists both are always true.
+/// Lists ascend in any case, each entry once: rows that don't are a fault of the device.
 pub trait Published {
     /// The view of the source, and what is published.
     ghost content_view: { View Self Content };

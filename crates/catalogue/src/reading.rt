@@ -21,8 +21,8 @@ use std::marker::Model;
 /// # Errors
 ///
 /// The first statement with a fault decides. Of its faults the first of these is told: `VerOutside` if no header stands
-/// before a `++VER`, `IfOutside` if none stands before an `++IF`, `IfFmid` if an `++IF` has not just one value of FMID,
-/// `BadId` if FMID, PRE, REQ or SUP has a value that is no id, `Held` for a fault of a hold or a release. `Memory` may
+/// before a `++VER`; `IfOutside` if none stands before an `++IF`; `IfFmid` if an `++IF` has not just one value of FMID;
+/// `BadId` if FMID, PRE, REQ or SUP has a value that is no id; `Held` for a fault of a hold or a release. `Memory` may
 /// come in place of any answer.
 pub fn read_changes(alloc: Global, statements: &[Statement]) -> Result<Vec<Change>, CatFault>
     ensures changes { IfOk result (λ changes. changes.items ≡ changes_of statements.now) }

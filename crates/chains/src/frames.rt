@@ -136,7 +136,7 @@ fn is_any_conditional(nodes: &[FrameNode]) -> bool
     nodes.iter().any(|node| !node.conds.as_slice().is_empty())
 }
 
-// What was gathered of them, in their order.
+// The SYSMODs that were gathered, in their order.
 fn gathered_found(alloc: Global, found: BTreeMap<Id, Gathered>) -> Result<Vec<Gathered>, NoMemory>
     ensures { IfOk result (λ all. all.items ≡ values found) }
 {

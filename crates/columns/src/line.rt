@@ -30,8 +30,8 @@ pub(crate) fn push_heading(text: &mut Vec<u8>, columns: &[Column]) -> Result<(),
     Ok(())
 }
 
-/// Appends a row to a text: each field, with blanks up to the next column, and a line end. If memory runs out, a part
-/// of the line may stand there.
+/// Appends a row to a text: each field, with blanks up to the next column, and a line end. If memory runs out, the text
+/// may have a part of the line.
 pub(crate) fn push_row(
     text: &mut Vec<u8>,
     columns: &[Column],

@@ -10,7 +10,7 @@ use std::alloc::Global;
 use std::marker::Model;
 
 /// A text in columns, made row by row: its lines so far, each ended by LF. A contract sees its columns, its
-/// text and how many rows it has.
+/// text and the number of its rows.
 #[derive(Drop)]
 pub struct Table<'a> {
     columns: &'a [Column],

@@ -16,7 +16,7 @@ use std::alloc::Global;
 use std::io;
 use transfer::RETRIES;
 
-/// How far a connection has come.
+/// The phase of a connection.
 #[derive(Clone, Copy, Debug, PartialEq, Eq)]
 pub enum Phase {
     /// Its peer may send more.
@@ -68,7 +68,7 @@ pub struct Connection {
     pub note: Option<Note>,
     /// The ordinal of its next request, counted from 1.
     pub ordinal: u64,
-    /// How far it has come.
+    /// Its phase.
     pub phase: Phase,
 }
 

@@ -207,8 +207,8 @@ fn left_after(left: u32, events: &[Event]) -> Option<u32>
     Some(rest)
 }
 
-// Says how many bytes may be read next over each connection of these events, and over those whose body didn't fit the
-// limit.
+// Tells the rounds the bytes that may be read next over each connection of these events, and over those whose body
+// didn't fit the limit.
 fn note_rooms<R: Rounds>(connections: &mut Connections, rounds: &mut R, events: &[Event])
     ensures slots { connections.new.slots.items ≡ connections.old.slots.items }
     ensures within { StaysWithin connections.old connections.new }
@@ -234,7 +234,7 @@ fn share_out<R: Rounds>(connections: &mut Connections, rounds: &mut R)
     }
 }
 
-// Says how many bytes may be read next over a connection.
+// Tells the rounds the bytes that may be read next over a connection.
 fn note_room<R: Rounds>(connections: &mut Connections, rounds: &mut R, slot: usize)
     ensures slots { connections.new.slots.items ≡ connections.old.slots.items }
     ensures within { StaysWithin connections.old connections.new }

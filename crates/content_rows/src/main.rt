@@ -31,8 +31,8 @@
 //! | `reads WORD ID..` | how many reads one question takes |
 //! | `fails WORD ID..` | the same, if each of its reads in turn fails: it reads no more then, and tells the failure |
 //!
-//! `NO ANSWER` is told if a read fails. The questions of `reads` and `fails` are `givers`, `touched`, `verdict`, `statuses`, `chain`,
-//! `errors` and `missing`, over all that is catalogued.
+//! The answer is `NO ANSWER` if a read fails. The questions of `reads` and `fails` are `givers`, `touched`, `verdict`,
+//! `statuses`, `chain`, `errors` and `missing`, over all that is catalogued.
 #![tactic(auto)]
 
 mod asked;

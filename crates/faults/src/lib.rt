@@ -1,4 +1,4 @@
-//! What is refused, and why, in one form for all crates.
+//! Faults: reasons to refuse something, in one form for all crates.
 //!
 //! - [`Fault`]: a reason to refuse something
 //! - [`AnyFault`]: a fault of any kind: its number, its place, if it has one, and its cause

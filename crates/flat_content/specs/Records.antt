@@ -1,4 +1,5 @@
--- No part of what is promised: private contracts cite it. Records whose lists stand in lists of all.
+-- No part of what is promised: private contracts cite it. Records whose lists are parts of lists of
+-- all.
 use Rattle.std.specs.Prelude.{ℕ, Bool, List, map}
 use Rattle.std.specs.List.{AllByRecursion}
 use Rattle.std.specs.List.Sorted.{IsStrictlySortedBy}
@@ -38,7 +39,7 @@ record_at names conds head = record {
 abbrev pub records_of : List (List ℕ) → List CondNeed → List Head → List Sysmod
 records_of names conds heads = map (record_at names conds) heads
 
--- each list of a record stands among all
+-- each list of a record is a part of the list of all
 pub record IsHead (names : List (List ℕ)) (all : List CondNeed) (head : Head) : Type 0 where
   pub fmids : IsIds names (fmids_of head)
   pub pre : IsIds names (pre_of head)

@@ -29,7 +29,7 @@ pub(crate) fn links_of(records: &Records) -> Result<Vec<Link>, NoMemory>
     Ok(links)
 }
 
-/// The SYSMODs whose links are to an id, in the order in which the links stand.
+/// The SYSMODs whose links are to an id, in the order of the links.
 pub(crate) fn superseders(alloc: Global, links: &[Link], id: &Id) -> Result<Vec<Id>, NoMemory>
     requires { IsSortedList links.now }
     ensures { IfOk result (λ ids. ids.items ≡ linked id.now links.now) }

@@ -1,4 +1,4 @@
-//! Records whose lists stand in one list of ids and in one of requisites under conditions.
+//! Records whose lists are parts of one list of ids and of one of requisites under conditions.
 ghost use Rattle.std.specs.Prelude.{◌≡◌, ◌++◌, ◌∷◌, List, [], IfOk, OnOk, find, map};
 ghost use Rattle.catalogue.specs.Content.{ids_in, is_of};
 ghost use Rattle.catalogue.specs.Ids.{Ascend};
@@ -13,8 +13,8 @@ use mcs_reader::Id;
 use std::alloc::Global;
 use std::marker::Model;
 
-/// What is kept of a record: its id, and the spans of its lists among those of all records. Its lists of ids follow
-/// one another, so the first start and the ends are enough.
+/// The head of a record: its id, and the spans of its lists among those of all records. Its lists of ids follow one
+/// another, so the first start and the ends are enough.
 #[derive(Clone, Copy, Debug)]
 pub(crate) struct Head {
     pub(crate) id: Id,

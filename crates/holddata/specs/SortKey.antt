@@ -42,6 +42,6 @@ sort_key_cmp a b =
     ordering_then (slice_cmp nat_cmp a.sysmod b.sysmod)
     (ordering_then (nat_cmp (rank_number a.rank) (rank_number b.rank)) (slice_cmp nat_cmp a.reason b.reason))
 
--- each hold of a map stands under the sort key of its key
+-- a map has each hold under the sort key of its key
 abbrev pub HasSortKeys : List (SortKey × Hold) → Type 0
 HasSortKeys entries = map sort_key_of (keys_in (values_of entries)) ≡ keys_of entries

@@ -34,13 +34,13 @@ pub record PassesList (line : ℕ) (name text after : List ℕ) : Type 0 where
   pub list : Option (List (List ℕ))
   pub found : scan line 0 (named_before name) false text ≡ with_list_after list (scan line 0 no_name false after)
 
--- an operand stands there, and is gathered with those before it if it is asked for
+-- an operand is there, and is gathered with those before it if it is asked for
 pub record GathersOperand (asked : Asked) (line : ℕ) (text : List ℕ) (before now : List OperandText) (after : List ℕ) : Type 0 where
   pub operand : OperandText
   pub found : scan line 0 no_name false text ≡ on_found (with_operands (operand ∷ [])) (scan line 0 no_name false after)
   pub gathered : now ≡ before ++ operands_for asked (operand ∷ [])
 
--- operands stand there up to the period, and these are gathered of them
+-- there are operands up to the period, and these of them are gathered
 pub record HasOperands (asked : Asked) (line : ℕ) (text : List ℕ) (gathered : List OperandText) (after : List ℕ) : Type 0 where
   pub operands : List OperandText
   pub found : scan line 0 no_name false text ≡ Ok (record { values = None; operands = operands; rest = after })

@@ -1,4 +1,4 @@
--- No part of what is promised: private contracts cite it. The position where the reader stands in the text.
+-- No part of what is promised: private contracts cite it. The position of the reader in the text.
 use Rattle.std.specs.Prelude.{◌≡◌, ℕ, ◌+◌, ◌^◌, ◌<◌, ◌≤◌, ◌==◌, List, [], ◌∷◌, length, drop, Option, Some, None, option_map, if◌then◌else◌}
 use Rattle.mcs_reader.specs.Byte.{is_blank, is_name_byte, line_end}
 use Rattle.mcs_reader.specs.Comment.{role_here}
@@ -29,18 +29,18 @@ abbrev pub role_at : List ℕ → Option ByteRole
 role_at [] = None
 role_at (b ∷ text) = if b == line_end then None else Some (role_here b text)
 
--- what stands after the first line
+-- the text after the first line
 abbrev pub after_line : List ℕ → List ℕ
 after_line [] = []
 after_line (b ∷ text) = if b == line_end then text else after_line text
 
--- after ++: the name, and what stands after it
+-- after ++: the name, and the text after it
 abbrev pub name_after : List ℕ → List ℕ
 name_after text = run is_name_byte (after_run is_blank text)
 
 abbrev pub text_after : List ℕ → List ℕ
 text_after text = after_run is_name_byte (after_run is_blank text)
 
--- the verb that a line's head names, and what stands after the head
+-- the verb that a line's head names, and the text after the head
 unfoldable pub verb_at : List ℕ → Option (Verb × List ℕ)
 verb_at text = if begins_statement text then option_map (λ verb. (verb, text_after (drop 2 text))) (verb_named (name_after (drop 2 text))) else None

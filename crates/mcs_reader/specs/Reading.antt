@@ -1,4 +1,4 @@
--- What a source is read as, or refused for.
+-- The reading of a source, or the fault for which it is refused.
 use Rattle.std.specs.Prelude.{◌≡◌, ℕ, ◌+◌, ◌<◌, ◌≤◌, ◌⊎◌, List, [], ◌++◌, length}
 use Rattle.mcs_reader.specs.Line.{text_of, line_ends}
 use Rattle.mcs_reader.specs.StatementText.{StatementText, spell_statement}

@@ -1,4 +1,5 @@
--- No part of what is promised: private contracts cite it. The longest run of bytes from a position on, and what stands after it.
+-- No part of what is promised: private contracts cite it. The longest run of bytes from a position on, and the text after
+-- it.
 use Rattle.std.specs.Prelude.{ℕ, Bool, false, List, [], ◌∷◌, if◌then◌else◌}
 use Rattle.mcs_reader.specs.Byte.{belongs_to_value}
 use Rattle.mcs_reader.specs.Comment.{role_here}

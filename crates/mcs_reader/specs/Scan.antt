@@ -15,8 +15,8 @@ use Rattle.mcs_reader.specs.StatementText.{subject_of}
 use Rattle.mcs_reader.specs.declared.statement.Verb.{Verb}
 use Rattle.mcs_reader.specs.declared.statement.Statement.{Statement}
 
--- What is found from a position in a statement to its period: the values of the list that is open there,
--- or that follows there before any name; the operands that follow; the text after the period.
+-- The parts of a statement from a position to its period: the values of the list that is open there, or that follows there
+-- before any name; the operands that follow; the text after the period.
 pub record Found : Type 0 where
   pub values : Option (List (List ℕ))
   pub operands : List OperandText
@@ -55,19 +55,19 @@ closing (suc depth) outcome = outcome
 abbrev pub stray : ℕ → Bool → List ℕ → McsFault
 stray line begun text = if begun && begins_statement text then NoPeriod line else BadByte line
 
--- what stands after the first */, if there is one
+-- the text after the first */, if there is one
 abbrev pub after_comment : List ℕ → Option (List ℕ)
 after_comment [] = None
 after_comment (b ∷ text) = if ends_comment (b ∷ text) then Some (drop 1 text) else after_comment text
 
--- What stands after the parenthesis that closes a list of COMMENT, in which this many more are open; or
--- how many are open at the text's end.
+-- The text after the parenthesis that closes a list of COMMENT, in which this many more are open; or the number that are
+-- open at the text's end.
 abbrev pub after_raw : ℕ → List ℕ → Result (List ℕ) ℕ
 after_raw depth [] = Err depth
 after_raw zero (b ∷ text) = if b == 40 then after_raw 1 text else if b == 41 then Ok text else after_raw zero text
 after_raw (suc depth) (b ∷ text) = if b == 40 then after_raw (suc (suc depth)) text else if b == 41 then after_raw depth text else after_raw (suc depth) text
 
--- after a comment or a list of COMMENT, if it ends: how many bytes are passed to there
+-- after a comment or a list of COMMENT, if it ends: the number of bytes that are passed to there
 abbrev pub past : ℕ → List ℕ → Option (List ℕ) → (ℕ → Outcome) → Outcome
 past line text None next = Err (Unbalanced line)
 past line text (Some rest) next = next (length text - length rest)

@@ -1,4 +1,4 @@
--- What stops a statement that has no reading, and which fault that is.
+-- The stops of a statement that has no reading, and the fault of each.
 use Rattle.std.specs.Prelude.{◌≡◌, ℕ, Bool, false, ◌&&◌, List, [], ◌∷◌, ◌++◌, Option, Some, None, IsTrue}
 use Rattle.mcs_reader.specs.declared.byte.ByteRole.TheVariants.{Other}
 use Rattle.mcs_reader.specs.Comment.{role_here, IsCommentText}

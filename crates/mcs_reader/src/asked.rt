@@ -1,4 +1,4 @@
-//! Which operands of a statement are gathered.
+//! The operands of a statement that are gathered.
 ghost use Rattle.std.specs.Prelude.{◌≡◌, List, ℕ};
 ghost use Rattle.std.specs.List.{list_any};
 ghost use Rattle.std.specs.Str.{str_eq_ignore_ascii_case};

@@ -19,7 +19,7 @@ use std::marker::Model;
 /// and the line's number. The first line is line 1; before it stands a line end of line 0.
 #[derive(Drop)]
 pub(crate) struct Cursor<'a> {
-    /// What is left of the line's columns.
+    /// The rest of the line's columns.
     columns: &'a [u8],
     /// The lines after this one, as they stand in the source.
     after: &'a [u8],
@@ -217,7 +217,7 @@ impl<'a> Cursor<'a> {
     }
 }
 
-/// `++`, blanks and a verb that is known: the verb, and what stands after it.
+/// `++`, blanks and a verb that is known: the verb, and the bytes after it.
 #[inline]
 #[tactic(auto, unfolding(crate::specs::Position::verb_at))]
 fn split_verb(columns: &[u8]) -> Option<(Verb, &[u8])>

@@ -22,7 +22,7 @@ pub enum McsFault {
     /// The text ends inside parentheses or a comment, or `)` stands outside them.
     #[error("line {0}: the parentheses do not match")]
     Unbalanced(u32),
-    /// A byte that can't stand outside lists and comments stands there, or a `(` without a name before it, gaps and
+    /// Outside lists and comments there is a byte that can't be there, or a `(` without a name before it, gaps and
     /// comments aside.
     #[error("line {0}: a character stands where it cannot")]
     BadByte(u32),

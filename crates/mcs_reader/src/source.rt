@@ -28,7 +28,7 @@ pub const MOST_BYTES: usize = 67_108_864;
 /// has one: at the first position at which its text can't go on, or else that of its subject. The other statements are
 /// not returned. [`McsFault::Memory`] if memory runs out.
 pub fn read(alloc: Global, source: &[u8]) -> Result<Vec<Statement<'_>>, McsFault>
-    // What is returned is the source's reading, or its first fault.
+    // The answer is the source's reading, or its first fault.
     ensures reading { IfOk result (λ statements. IsReading source.now statements.items) }
     ensures fault { IfErr result (IsRefusal Memory (λ fault. IsFirstFault source.now fault)) }
 

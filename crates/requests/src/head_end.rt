@@ -16,7 +16,7 @@ pub(crate) enum Ending {
     Line,
     /// The LF that ends a line.
     Feed,
-    /// That and a CR.
+    /// The LF that ends a line, and a CR.
     FeedReturn,
 }
 

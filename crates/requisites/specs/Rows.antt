@@ -12,7 +12,7 @@ abbrev pub AreEnds : ℕ → List ℕ → ℕ → Type 0
 AreEnds start [] len = start ≡ len
 AreEnds start (end ∷ ends) len = (start ≤ end) × AreEnds end ends len
 
--- where the row of a node starts
+-- the index at which the row of a node starts
 abbrev pub start_at : ℕ → List ℕ → ℕ → ℕ
 start_at start ends zero = start
 start_at start ends (suc node) = slice_index ends node

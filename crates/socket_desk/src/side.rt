@@ -60,7 +60,7 @@ pub(crate) struct Side {
     pub(crate) heard: Instant,
     // when the last of them that was told to the desk came or went
     pub(crate) told: Instant,
-    // how many bytes may be read next
+    // the bytes that may be read next
     pub(crate) room: usize,
     // the desk has ended its side
     pub(crate) is_closing: bool,

@@ -20,7 +20,7 @@ tally_of tables name = record {
   last = (tables.last (caller_named name)).number;
 }
 
--- a caller, and how much it has
+-- a caller with its amounts
 abbrev pub line_of : Tables → CallerRow → CallerLine
 line_of tables caller = record { name = caller.name; has = tally_of tables caller.name }
 

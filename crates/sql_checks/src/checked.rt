@@ -17,7 +17,7 @@ pub(crate) trait Checked: AllColumns {
     /// The rules of each of its rows.
     ghost keeps_to: { Values → Type 0 };
 
-    /// How the bureau makes it.
+    /// Its shape, as the bureau makes it.
     fn shape() -> TableShape
         ensures { table_of_shape result ≡ Self.table };
 

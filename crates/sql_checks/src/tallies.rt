@@ -15,7 +15,7 @@ use sql_reads::ReadFault;
 use sqlite::{Alter, Connection};
 use std::alloc::Global;
 
-/// How much a caller has.
+/// The amounts of a caller.
 #[derive(Clone, Copy, Debug, PartialEq, Eq)]
 pub struct CallerTally {
     /// The number of its zones.
@@ -26,7 +26,7 @@ pub struct CallerTally {
     pub last: u64,
 }
 
-/// A caller, and how much it has.
+/// A caller with its amounts.
 #[derive(Clone, Copy, Debug, PartialEq, Eq)]
 pub struct CallerLine {
     pub name: Id,
@@ -74,7 +74,7 @@ pub fn store_tally<S: Alter>(
     }
 }
 
-// How much each of these callers has.
+// The amounts of each of these callers.
 fn lines<S: Alter>(
     alloc: Global,
     conn: &mut Connection<S>,

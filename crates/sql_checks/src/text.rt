@@ -29,8 +29,8 @@ const COLUMNS: [Column; 4] = [
     },
 ];
 
-/// Prints how much a store has, in columns: a title with the version and the numbers of callers, SYSMODs and
-/// holds, and a row for each caller with its zones, the rows of all of them, and the number of its last change.
+/// Prints how much a store has, in columns. The title has the version and the numbers of callers, SYSMODs and
+/// holds. Each caller has a row: its zones, the rows of all of them, and the number of its last change.
 ///
 /// # Errors
 ///

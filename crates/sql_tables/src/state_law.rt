@@ -9,8 +9,8 @@ pub fn known()
     ensures { (database : Database) → IsOurs database → IsKnown database }
 {}
 
-/// The trees alone decide whose a database is. Whatever schema a connection took it to have, a database that obeys that
-/// schema and has trees of the bureau's own has the bureau's tables, of version 2 or of version 1.
+/// The trees alone decide whose a database is. A connection may have taken any schema for that of a database. If the
+/// database obeys it and has trees of the bureau's own, it has the bureau's tables, of version 2 or of version 1.
 pub fn found()
     ensures ours { (database : Database) → IsDatabase database → AreOurs database.trees → IsOurs database }
     ensures earlier { (database : Database) → IsDatabase database → AreOfVersion1 database.trees

@@ -29,8 +29,8 @@ pub fn text()
         → is_true (binary (Compare Eq Binary) value (Text text)) ≡ is_text text value }
 {}
 
-/// A query of two tables answers what it shows of each row of the one with each row of the other, if the two
-/// pass its tests together.
+/// A query of two tables answers what it shows of each two rows, one of each table, that pass its tests
+/// together.
 pub fn join()
     ensures { (left right : ℕ) (tests project order : List Term) (db : Trees) (params : Row) (rows : List Row)
         → IsAnswer (query_of (inner left (inner right end)) tests project order) db params rows

@@ -19,7 +19,7 @@ pub(crate) fn sysmods(count: usize) -> &'static str
     }
 }
 
-// Of one row, of two, and so on up to eight.
+// The texts for one row, for two, and so on up to eight.
 const SUPS: [&str; 8] = [
     "INSERT INTO sysmod_sup (id, member) VALUES (?1, ?2)",
     "INSERT INTO sysmod_sup (id, member) VALUES (?1, ?2), (?3, ?4)",
@@ -55,7 +55,7 @@ pub(crate) fn conds(count: usize) -> &'static str
     "INSERT INTO sysmod_cond (id, fmid, member) VALUES (?1, ?2, ?3)"
 }
 
-// Of one row, of two, and so on up to eight.
+// The texts for one row, for two, and so on up to eight.
 const ZONE_ROWS: [&str; 8] = [
     "INSERT INTO zone_row (client, zone, sysmod, state) VALUES (?1, ?2, ?3, ?4)",
     "INSERT INTO zone_row (client, zone, sysmod, state) VALUES (?1, ?2, ?3, ?4), \

@@ -67,8 +67,8 @@ impl Intake {
         ensures { self.new ≡ drop count self.old }
     {
         self.start += count;
-        // What is left goes to the front once it is less than what was taken off, so that the room stays
-        // small and no byte is moved often.
+        // Moves what is left to the front once it is less than what was taken off. So the room stays small, and
+        // no byte is moved often.
         if self.end - self.start <= self.start {
             self.room.copy_within(self.start..self.end, 0);
             self.end -= self.start;

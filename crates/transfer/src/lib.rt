@@ -4,7 +4,8 @@
 //! - [`Intake`]: bytes that come in piece by piece, and are taken off at the front
 //! - [`read_some`]: one read
 //! - [`write_whole`]: a whole text, written and flushed
-//! - [`TransferFault`]: why no bytes were read; [`RETRIES`]: how often an interrupted call is made again
+//! - [`TransferFault`]: why no bytes were read; [`RETRIES`]: the number of times that interrupted calls
+//!   are made again
 //!
 //! A call that is interrupted is made again while a retry is left, so each transfer ends, whatever its
 //! reader or writer does. Nothing but an interruption is tried again.

@@ -1,4 +1,4 @@
-//! Which calls are made again.
+//! The calls that are made again.
 ghost use Rattle.std.specs.Prelude.{◌≡◌, ◌+◌, IfErr, OnOk};
 ghost use Rattle.std.specs.IoError.{error_kind};
 

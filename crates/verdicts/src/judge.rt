@@ -46,8 +46,8 @@ pub trait Judge<P: Published> {
 
     /// Forgets what is kept of these SYSMODs. It takes no memory.
     ///
-    /// If the judge was right for a content, it stays right for it, and is right for each content that says the same
-    /// outside these ids, provided that both are in order: such as the content before a publication and after it.
+    /// If the judge was right for a content, it stays right for it. It is then right also for each content that says
+    /// the same outside these ids, if both are in order: such as the content before a publication and after it.
     fn drop_touched(&mut self, ids: &[Id])
         ensures stays { (content : Content) → is_right self.old content → is_right self.new content }
         ensures right { (old new : Content) → IsInOrder old → IsInOrder new → is_right self.old old
