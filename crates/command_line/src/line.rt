@@ -28,7 +28,7 @@ pub enum Line {
         callers: String,
     },
     /// `serve --port P --cache N --connections K --open M --log STORE`: serves K connections to a port of 127.0.0.1,
-    /// 1 to 65,535, side by side over the store in a file. It keeps N frames at most, 1 to 65,536. K is 1 to
+    /// 1 to 65,535, side by side over the store in a file. N frames at most are kept, 1 to 65,536. K is 1 to
     /// 1,000,000, and M of them at most are open at once, 1 to 8,192. It keeps a log if `--log` is given.
     Serve {
         port: u16,
@@ -39,7 +39,7 @@ pub enum Line {
         store: String,
     },
     /// `replay --cache N CALLERS FILE..`: writes the replies to connections whose bytes are in files, over a store in
-    /// memory that has these callers. It keeps N frames at most, 1 to 65,536.
+    /// memory that has these callers. N frames at most are kept, 1 to 65,536.
     Replay {
         cache: u32,
         callers: String,

@@ -15,7 +15,7 @@ const IDLE: u64 = 60;
 // A client that sends or takes nothing for so long has gone, or is no client.
 const PAUSE: u64 = 60;
 
-// At 112 KB a second, the largest body, 64 MiB, takes so long.
+// The largest body, 64 MiB, takes so long at 112 KB a second.
 const WHOLE: u64 = 600;
 
 // A client that got its last reply closes its side at once.
