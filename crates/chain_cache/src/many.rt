@@ -17,14 +17,15 @@ use std::collections::BTreeSet;
 use supersede::Zone;
 use verdicts::{Status, listed, put_plan};
 
-// The number of nodes that the frames of several SYSMODs may have for each SYSMOD.
+// The number of nodes that each of several SYSMODs adds to the room for their frames.
 const NODES_EACH: usize = 8;
 
 // The most SYSMODs that are judged from frames at once.
 const FEW: usize = 256;
 
 impl ChainCache {
-    /// Whether a survey judges SYSMODs at once: they are many, or frames were too large for no more than these.
+    /// Whether a survey judges these SYSMODs, and no frame is tried: they are many, or frames were too large for
+    /// no more of them.
     pub(crate) fn is_for_survey(&self, ids: &[Id]) -> bool {
         ids.len() > FEW || self.surveys.is_wide(ids.len())
     }

@@ -10,8 +10,8 @@ use std::alloc::Global;
 /// Marks those of `len` nodes that are left: no other one outdoes them. `givers` has for each node all those that give
 /// it. A node outdoes another that it gives; if each gives the other, the greater one does.
 ///
-/// It takes time in proportion to the entries of the rows. For each node in a row that may be given back, it walks that
-/// node's row too.
+/// It takes time in proportion to the entries of the rows. For each node and each lesser node that gives it, it also
+/// walks the row of that lesser one.
 ///
 /// # Errors
 ///

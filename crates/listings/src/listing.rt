@@ -179,8 +179,8 @@ impl Listing {
         Ok(ascending(found))
     }
 
-    /// The listing of a later content. This one is of that content but for some marked ids, and `read` has what the
-    /// content says of these. It looks at the marked ids only, and takes over all else.
+    /// Makes the listing of a later content. This one is of that content but for some marked ids, and `read` has
+    /// what the content says of these. It looks at the marked ids only, and takes over all else.
     ///
     /// # Errors
     ///

@@ -97,7 +97,7 @@ fn are_all_apart(alloc: Global, changes: &[Change]) -> bool
 }
 
 /// Whether the ids of these records have no rows, and no two have one id. It answers yes only if nothing is
-/// catalogued: then three reads do for all records.
+/// catalogued: then three reads answer for all records.
 pub(crate) fn are_free<S: Alter>(
     alloc: Global,
     tx: &mut Transaction<'_, S>,
