@@ -169,9 +169,9 @@ pub(crate) fn holds<S: Alter>(
 /// # Errors
 ///
 /// [`StoreFault::Shape`] if a table of a store or one of its columns is missing, [`StoreFault::Version`] if the tables
-/// are of another version than 2; `Memory` if memory ran out, and `Device` if the device failed. If no limit of steps
-/// is set, a database that the bureau made is refused only if memory ran out, the device failed or the connection was
-/// closed.
+/// are of another version than 2; `Memory` if memory ran out, and `Device` if the device failed. A database that the
+/// bureau made is refused only if memory ran out, the device failed or the connection was closed, or if a limit of
+/// steps is set.
 pub fn find_store<S: Alter>(conn: &mut Connection<S>) -> Result<(), StoreFault>
     requires rest { conn.old.in_transaction ≡ false }
     ensures is_open { OnOk result (HasCleanDisk (state S.Store conn.new)

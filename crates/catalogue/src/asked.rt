@@ -27,8 +27,8 @@ const NAMES: [&[u8]; 15] = [
 ];
 
 /// The names of the operands that say something of what is published: those of [`holddata::hold_operands`], of a
-/// `++VER` FMID, PRE, REQ and SUP, and of an `++IF` FMID and REQ. Statements that are read with these, and maybe
-/// with more, publish the same and have the same faults as with all of their operands.
+/// `++VER` FMID, PRE, REQ and SUP, and of an `++IF` FMID and REQ. Statements may be read with these alone, or
+/// with these and more. They then publish the same, and have the same faults, as with all of their operands.
 pub fn publication_operands() -> &'static [&'static [u8]]
     ensures names { bytes_of_each result.now ≡ publication_operands }
     ensures changes { (names : List (List ℕ)) (statements : List Statement) →

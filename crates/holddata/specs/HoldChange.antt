@@ -25,6 +25,6 @@ names key change = is_same_key (key_of change) key
 abbrev pub hold_left : List HoldChange → HoldKey → Option Hold
 hold_left changes key = option_and_then hold_put (find (names key) (reverse changes))
 
--- Serves private contracts alone: the same changes in another order; those that name one key keep theirs
+-- Serves private contracts alone: the same changes in another order; those that name one key keep theirs.
 abbrev pub IsRearranged : List HoldChange → List HoldChange → Type 0
 IsRearranged changes others = (key : HoldKey) → filter (names key) others ≡ filter (names key) changes

@@ -22,8 +22,8 @@ const NAMES: [&[u8]; 12] = [
     b"FIXCAT",
 ];
 
-/// The names of the operands of `++HOLD` and `++RELEASE` that say something of a hold. A statement that is read with
-/// these, and maybe with more, makes the same change and has the same faults as one that is read with all of its
+/// The names of the operands of `++HOLD` and `++RELEASE` that say something of a hold. A statement may be read with
+/// these alone, or with these and more. It then makes the same change, and has the same faults, as with all of its
 /// operands.
 pub fn hold_operands() -> &'static [&'static [u8]]
     ensures names { bytes_of_each result.now ≡ hold_operands }

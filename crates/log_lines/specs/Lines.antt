@@ -8,8 +8,8 @@ use Rattle.log_lines.specs.Words.{none}
 abbrev pub field : List ℕ → List ℕ
 field word = word ++ 32 ∷ []
 
--- The line of a request: the time at which its reply had gone out, its caller, its method and its path, the status, the
--- bytes that came and went, and the milliseconds that it took.
+-- The line of a request. It has the time at which its reply had gone out, its caller, its method and its path. Then
+-- come the status, the bytes that came and went, and the milliseconds that it took.
 abbrev pub request_text : List ℕ → Note → ℕ → List ℕ
 request_text stamp note took = field stamp ++ field note.caller ++ field note.method ++ field note.path
     ++ field (decimal note.status) ++ field (decimal note.came) ++ field (decimal note.went) ++ decimal took ++ 10 ∷ []

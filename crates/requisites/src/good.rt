@@ -52,7 +52,7 @@ pub fn resolve(alloc: Global, nodes: &Nodes) -> Result<Resolution, NoMemory>
 }
 
 // The number of rounds over all nodes before the links to each node are made. Most needs that nothing gives are a few
-// steps away from what falls with them, so that mostly nothing falls any more after two or three rounds.
+// steps away from what falls with them. So mostly nothing falls any more after two or three rounds.
 const ROUNDS: usize = 8;
 
 // Takes the marks from nodes that aren't good, and finds the givers among the rest. If nothing falls after a few

@@ -18,8 +18,8 @@ const EVENTS: usize = 1024;
 /// In each round it makes one read or one write of each socket that is ready. Then it tells all of these. So
 /// each connection gets at most one request answered before the next one's turn.
 ///
-/// If a log is kept, it gets a line for each reply that went out whole, and for each connection that failed, at
-/// the end of the round. A line that can't be written is left out, and nothing else depends on it.
+/// At the end of the round the log, if one is kept, gets a line for each reply that went out whole, and for
+/// each connection that failed. A line that can't be written is left out, and nothing else depends on it.
 #[derive(Drop)]
 pub struct SocketRounds<'c, C, W> {
     sockets: Sockets,

@@ -87,8 +87,8 @@ impl Side {
         }
     }
 
-    // Ends the desk's side, which has nothing more to write. What the client still sends is read for a while,
-    // since a socket that is closed while bytes lie unread in it may lose its last reply (RFC 9112, section 9.6).
+    // Ends the desk's side, which has nothing more to write. What the client still sends is read for a while: a
+    // socket that is closed with bytes unread in it may lose its last reply (RFC 9112, section 9.6).
     pub(crate) fn close(&mut self, now: Instant) {
         let _ = self.stream.shutdown(Shutdown::Write);
         self.is_closing = true;
