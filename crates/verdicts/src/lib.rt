@@ -12,6 +12,7 @@
 //! - [`sort_each_once`], [`do_ascend`], [`ascending`]: ids in ascending order
 //!
 //! ```
+//! use mcs_reader::Id;
 //! use verdicts::{Status, Verdict};
 //! let needed = Id::new(b"AJ00001").ok_or("an id")?;
 //! assert_eq!(rt; Verdict::Held(needed).status(), Status::Held);
