@@ -1,5 +1,5 @@
-//! Verdicts on SYSMODs: which can be installed in a zone. It defines what a verdict is and what a judge answers, and
-//! has ids by their indices in a list.
+//! Verdicts on SYSMODs: which can be installed in a zone. This crate defines what a verdict is and what a judge
+//! answers, and has ids by their indices in a list.
 //!
 //! Other crates find verdicts: `chains` over all that is catalogued, and `chain_cache` from frames that it keeps.
 //!
