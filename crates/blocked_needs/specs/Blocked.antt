@@ -42,13 +42,13 @@ next_by (Some blocked) = blocked.giver
 abbrev pub next_of : Content → List ZoneRow → List ℕ → Option (List ℕ)
 next_of content rows id = next_by (blocked_at content rows id)
 
--- a SYSMOD, the one that would give what blocks it, the one that would give what blocks that, and so on, in at most so many steps
+-- a SYSMOD, the giver of its blocked need, the giver of that one's, and so on, in at most so many steps
 abbrev pub waits_within : Content → List ZoneRow → ℕ → List ℕ → List (List ℕ)
 waits_within content rows zero id = id ∷ []
 waits_within content rows (suc steps) id = id ∷ flat_map (waits_within content rows steps) (cons_option (next_of content rows id) [])
 
--- The table of blocked needs for some SYSMODs, ascending, each once: what blocks each of them, and what blocks each SYSMOD
--- that would give what blocks another. More steps than there are records lead nowhere else.
+-- The table of blocked needs for some SYSMODs, ascending, each once: a row for each of them that is HELD, and for each giver
+-- in a row that is HELD itself. More steps than there are records lead nowhere else.
 abbrev pub blocked_needs_of : Content → List ZoneRow → List (List ℕ) → List BlockedNeed
 blocked_needs_of content rows sysmods =
     filter_map (blocked_at content rows) (in_order (flat_map (waits_within content rows (length content.sysmods)) sysmods))

@@ -21,8 +21,8 @@ use verdicts::Judge;
 // Each SYSMOD that was looked at, with what blocks it if it is HELD.
 type Seen = BTreeMap<Id, Option<BlockedNeed>>;
 
-/// Makes the table of blocked needs for some SYSMODs, ascending, each once. It has what blocks each of them that is
-/// HELD, and what blocks each SYSMOD that would give what blocks another.
+/// Makes the table of blocked needs for some SYSMODs, ascending, each once. It has a row for each of them that is
+/// HELD, and for each giver in a row that is HELD itself.
 ///
 /// # Errors
 ///

@@ -28,7 +28,7 @@ use verdicts::{do_ascend, ids_at, index_of, sort_each_once};
 /// Finds for each of some SYSMODs the candidates that give it, ascending, or `None` if it is there: the zone lists it,
 /// or an installed SYSMOD gives it (IBM z/OS SMP/E Reference, `++VER`, operands SUP and FMID).
 ///
-/// A listing that is at hand answers in the source's place, but for ids that are marked: these the source is asked for.
+/// If a listing is at hand, it answers in the source's place, and the source is asked only for ids that are marked.
 /// Without a listing, the source is asked once for what supersedes each SYSMOD, and for the record of each that gives
 /// one that isn't there. The ids that are there are found in time in proportion to what was read.
 ///

@@ -21,7 +21,7 @@
 //! | `in-frame ID ID..` | whether a publication that touches the others touches the frame of the first id |
 //! | `verdict ID..` | of each id GOOD and its plan, HELD and the need that blocks it, or LACK. If the verdict over all that is catalogued, that from what is kept, and that from its frame alone aren't one, all are told |
 //! | `statuses` | GOOD, HELD or LACK of each id that is catalogued, by what is kept |
-//! | `together ID..` | what the plans of these ids, or of all that are catalogued, have together, by what is kept |
+//! | `together ID..` | the members of the plans of these ids, or of all that are catalogued, by what is kept |
 //! | `candidates ID..` | how many SYSMODs resolve each id, or of all that are catalogued, by what is kept; `there` if it is installed or given by what is |
 //! | `unkept ID..` | the same by a judge that keeps nothing |
 //! | `kept` | how many frames were built, and the ids whose frames are kept, the last one that was used first |
