@@ -7,9 +7,9 @@ from service import check, same
 
 PICTURES = sys.argv[1] if len(sys.argv) > 1 else None
 NORTH, SOUTH, PUBLISHER = "north-token", "south-token", "publisher-token"
-# the date comes later than the rest, and is looked at by itself
+# the date comes later than the rest, and is looked at by itself, as boxes are
 LINES = """[...document.querySelectorAll('.report tbody tr:not(.space)')].map(
-    r => [...r.cells].filter(c => !c.classList.contains('of-date')).map(c => c.innerText.replace(/[+−]\\d+$/, '').trim()))"""
+    r => [...r.cells].filter(c => !c.matches('.of-date, .of-box')).map(c => c.innerText.replace(/[+−]\\d+$/, '').trim()))"""
 ZONES = """[...document.querySelectorAll('.zone')].map(z => [z.querySelector('.zone-name').innerText,
     [...z.querySelectorAll('.figure')].map(f => f.innerText.replace(/\\s+/g, ' ')).join(', ')])"""
 

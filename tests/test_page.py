@@ -180,6 +180,52 @@ def chain_job(browser, north):
     )
 
 
+def chosen(browser, front, north):
+    """SYSMODs that are chosen by boxes, in two reports, and their chains together. bureau-client makes the same job."""
+    place = folder()
+    browser.open(front.url + "/page/?chosen")
+    go(browser, "#MVSPROD/errors")
+    browser.until("document.querySelector('td.of-box input')")
+    click(browser, "td.of-box input")
+    same("a box opens nothing", browser.run("location.hash"), "#MVSPROD/errors")
+    shows(browser, "1 SYSMOD chosen", ".choice-bar")
+    go(browser, "#MVSPROD/fixes")
+    shows(browser, "1 SYSMOD chosen", ".choice-bar")
+    click(browser, "th.of-box input")
+    shows(browser, "2 SYSMODs chosen", ".choice-bar")
+    picture(browser, "chosen-bar")
+    click(browser, ".choice-bar .main")
+    shows(browser, "3 SYSMODs to install, 1 of them received, 1 with holds to heed.", ".together")
+    same("their address", browser.run("location.hash"), "#MVSPROD/fixes/UJ92003+UJ92005")
+    members = "[...document.querySelectorAll('.together .box')].map(e => e.innerText.replaceAll('\\n', ' '))"
+    wanted = ["UJ92003 for HBB77E0 (AJ64005)", "UJ92005 for UJ92001 (AJ64001) SYSTEM hold: IPL", "UJ93001 needed by UJ92003"]
+    same("each with its reason", browser.run(members), wanted)
+    picture(browser, "chosen")
+    browser.call("Browser.setDownloadBehavior", behavior="allow", downloadPath=place)
+    click(browser, ".together [aria-label='Save as SMP/E job']")
+    path = place + "/MVSPROD-chosen.smpcntl.txt"
+    check("saved as a job", until(lambda: os.path.exists(path)))
+    time.sleep(0.2)
+    same("the client's", without_time(open(path).read()), without_time(north.run("job", "MVSPROD", "UJ92003", "UJ92005")[1]))
+    for only, left in (("ipl", "UJ92005 needs an IPL."), ("received", "UJ92003 needs what was not received."), ("hiper", "UJ92003 is for no HIPER hold.")):
+        click(browser, ".together .only-" + only)
+        shows(browser, left, ".left-out")
+        same("the focus stays", browser.run("document.activeElement.className"), "chip only-" + only)
+    shows(browser, "Nothing is left to install.", ".together")
+    same("no job of nothing", browser.run("document.querySelectorAll('.together .saves').length"), 0)
+    browser.call("Page.reload")
+    shows(browser, "3 SYSMODs to install", ".together")
+    same("the boxes too", browser.run("document.querySelector('td.of-box input').checked"), True)
+    click(browser, "td.of-box input")
+    shows(browser, "UJ92005 can be installed by itself.", ".beside")
+    same("one is left", browser.run("location.hash"), "#MVSPROD/fixes/UJ92005")
+    go(browser, "#MVSPROD/errors/UJ92003+UJ92002")
+    shows(browser, "UJ92002 can't be installed: AJ64002 is in the way.", ".left-out")
+    click(browser, ".choice-bar .plain")
+    same("none", browser.run("location.hash"), "#MVSPROD/errors")
+    click(browser, "#leave")
+
+
 def sent_link(browser, front):
     """A link leads there also who has to enter the token first."""
     browser.open(front.url + "/page/?sent#MVSPROD/errors/UJ92002?status=GOOD")
@@ -593,6 +639,8 @@ def main():
     nothing_there(browser, front, north)
     publisher.run("publish", os.path.join(SITE, "publication.txt"))
     sample(browser, front, north)
+    enter(browser, NORTH)
+    chosen(browser, front, north)
     sent_link(browser, front)
     same("lists of SOUTH", south.run("sync", SITE + "/south")[0], 0)
     installed(browser, front, north, south)

@@ -155,7 +155,7 @@ def order(browser):
     """What can be resolved comes first, by its class, and what nothing resolves last."""
     go(browser, "#MIDDLE/errors")
     browser.run("dispatchEvent(new Event('beforeprint'))")  # which draws all lines
-    got = browser.run("[...document.querySelectorAll('tbody tr.first')].map(r => [...r.cells].slice(1, 3).map(c => c.innerText))")
+    got = browser.run("[...document.querySelectorAll('tbody tr.first')].map(r => [...r.cells].slice(2, 4).map(c => c.innerText))")
     browser.run("dispatchEvent(new Event('afterprint'))")
     classes, statuses = ["HIPER", "PE"], ["GOOD", "HELD", "none"]
 
@@ -197,13 +197,13 @@ def beside(browser):
         browser.run("[...document.querySelectorAll('.needs .id')].map(e => e.innerText)"),
         [row[4], "AJ99998", "AJ99999"],
     )
-    same("the line is marked", browser.run("document.querySelector('tr.chosen td:nth-child(2)').innerText"), row[1])
+    same("the line is marked", browser.run("document.querySelector('tr.chosen .of-sysmod').innerText"), row[1])
     left = "document.querySelector('.beside').getBoundingClientRect().left"
     check("beside the table", browser.run("document.querySelector('.tab-body').getBoundingClientRect().right < %s + 1" % left))
     check("and as high as it", browser.run("document.querySelector('.beside').getBoundingClientRect().top < 200"))
     browser.call("Page.reload")
     shows(browser, "can’t be installed now", ".beside")
-    same("marked after a reload too", browser.run("document.querySelector('tr.chosen td:nth-child(2)').innerText"), row[1])
+    same("marked after a reload too", browser.run("document.querySelector('tr.chosen .of-sysmod').innerText"), row[1])
     click(browser, ".close")
     same("closed", (browser.run("location.hash"), browser.run("document.querySelectorAll('tr.chosen').length")), ("#LARGE/errors?status=HELD", 0))
     browser.run("history.back()")
@@ -231,13 +231,14 @@ def keyboard(browser):
     bottom = "document.querySelector('.scroll').getBoundingClientRect().bottom"
     check("is in sight", browser.run("%s.getBoundingClientRect().bottom <= %s + 1" % (at, bottom)))
     browser.key("Home", 36)
-    first = browser.run(at + ".innerText.split(/\\s+/)[1]")
+    first = browser.run(at + ".querySelector('.of-sysmod').innerText")
     browser.key("Enter", 13, "\r")
     browser.until("document.activeElement.className.includes('beside')")
     same("Enter leads to the chain", browser.run("document.activeElement.ariaLabel"), "Chain")
     browser.key("Escape", 27)
     browser.until("document.activeElement.tagName === 'TABLE'")
-    same("and Escape back to the line", browser.run(at + ".innerText.split(/\\s+/)[1]"), first)
+    same("and Escape back to the line", browser.run(at + ".querySelector('.of-sysmod').innerText"), first)
+    boxes(browser)
     browser.run("[...document.querySelectorAll('th button')].find(b => b.innerText.includes('SYSMOD')).focus()")
     for wanted in ("ascending", "descending", "none"):
         browser.key("Enter", 13, "\r")
@@ -250,6 +251,58 @@ def keyboard(browser):
     browser.until("document.querySelector('.missingfix tbody tr.first')")
     same("from tab to tab", browser.run("location.hash + document.activeElement.ariaSelected"), "#MIDDLE/fixestrue")
     same("each with its name", browser.run("document.querySelector('[role=tabpanel]').getAttribute('aria-labelledby')"), "tab-fixes")
+
+
+def boxes(browser):
+    """A blank ticks the box of the active line, and the box on top all that are shown, as far as there is room."""
+    ticked = "document.querySelector('.choice-bar').hidden ? '' : document.querySelector('.choice-bar .count').innerText"
+    go(browser, "#MIDDLE/errors?status=GOOD")
+    browser.run("document.querySelector('table').focus()")
+    browser.key("Home", 36)
+    same("none", browser.run(ticked), "")
+    for wanted in ("1 SYSMOD chosen", ""):
+        browser.key(" ", 32, " ")
+        same("ticked: " + wanted, browser.run(ticked), wanted)
+    good = {min(found, key=lambda one: (BEST[one[1]], one[2] == "NO"))[0] for _, found in ZONES[3].holds if state(found) == "GOOD"}
+    click(browser, "th.of-box input")
+    same("all that are shown", browser.run(ticked), "%d SYSMODs chosen" % len(good))
+    same("each is marked", browser.run("[...document.querySelectorAll('tbody tr.first')].every(r => r.ariaSelected === 'true')"), True)
+    click(browser, ".choice-bar .plain")
+    same("and none again", (browser.run(ticked), browser.run("document.querySelectorAll('tr[aria-selected=true]').length")), ("", 0))
+    go(browser, "#LARGE/errors?status=GOOD")
+    click(browser, "th.of-box input")
+    said(browser, "At most 200 SYSMODs can be chosen at once.")
+    same("none of too many", (browser.run(ticked), browser.run("document.querySelector('th.of-box input').checked")), ("", False))
+    go(browser, "#LARGE/errors?status=HELD")
+    same("no box of what can't be installed", browser.run("document.querySelectorAll('td.of-box input').length"), 0)
+    check("nor one on top", browser.run("document.querySelector('th.of-box input').disabled"))
+    go(browser, "#MIDDLE/errors")
+
+
+def plan_filter(browser):
+    """The plan has a filter too, which the files do not follow; and boxes."""
+    members = ZONES[3].plan("errsysmods")["members"]
+    classes = {hold[:2]: hold[2] or "other" for hold, _ in ZONES[3].holds}
+    hiper = [one["id"] for one in members if "HIPER" in [classes[each["sysmod"], each["reason"]] for each in one["holds"]]]
+    browser.until("document.querySelector('.plan-filters .is-hiper')")
+    click(browser, ".plan-filters .is-hiper")
+    same("only HIPER", browser.run("document.querySelector('.plan-filters .count').innerText"), "%d of %d SYSMODs" % (len(hiper), len(members)))
+    shows(browser, "Job, CSV and JSON have the whole plan.", ".plan-filters")
+    same("these", [row[1] for row in lines(browser)][:9], hiper[:9])
+    click(browser, ".plan-filters .is-received")
+    received = [one["id"] for one in members if one["received"] and one["id"] in hiper]
+    same("and received", [row[1] for row in lines(browser)][:9], received[:9])
+    same("the address has it", browser.run("location.hash"), "#MIDDLE/plan?class=HIPER&received=received")
+    click(browser, "td.of-box input")
+    shows(browser, "1 SYSMOD chosen", ".choice-bar")
+    click(browser, ".choice-bar .plain")
+    click(browser, ".filters .plain")
+    go(browser, "#MIDDLE/plan?heed=IPL")
+    same("those with an IPL", [row[1] for row in lines(browser)][:5], [one["id"] for one in members if "IPL" in one["system"]][:5])
+    filter_by(browser, "no such thing")
+    shows(browser, "No SYSMOD of the plan has all that is chosen above.", ".scroll")
+    filter_by(browser, "")
+    go(browser, "#MIDDLE/plan")
 
 
 def plan(browser, front):
@@ -285,6 +338,7 @@ def plan(browser, front):
     same("the members", [row[1] for row in rows[1 : len(members) + 1]], [one["id"] for one in members])
     same("and what is left over", len(rows), 1 + len(members) + len(wanted["held"]) + len(wanted["unresolved"]))
     job(saved["SMP/E job"], members)
+    plan_filter(browser)
     go(browser, "#MIDDLE/errors?class=HIPER")
     click(browser, "[aria-label='Save as CSV']")
     path = os.path.join(place, "MIDDLE-errsysmods.csv")

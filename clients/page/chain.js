@@ -1,18 +1,10 @@
 // What stands beside the table: one hold with its resolvers, and the chain of one of them.
 import { jobOf } from './job.js';
 import { saveButtons } from './save.js';
-import { button, classBadge, make, statusBadge } from './make.js';
+import { boxFor, button, classBadge, make, reasonsOf, statusBadge } from './make.js';
 import { several } from './words.js';
 
 const STEPS = 12; // of a row of blocked needs
-
-function reasons(kind, list) {
-  return list.map((reason) => make('span', 'heed', kind + ' hold: ' + reason));
-}
-
-function box(id, className, words, ...more) {
-  return make('li', 'box ' + className, make('strong', 'id', id), words ? make('span', 'soft', words) : '', ...more);
-}
 
 // Of a SYSMOD that the report shows as installed.
 function sentenceOfInstalled({ sysmod, status, plan, blocked }) {
@@ -41,7 +33,7 @@ function membersOf(chain, isInstalled) {
   const others = chain.plan.filter((member) => member.id !== chain.sysmod);
   const boxes = [...own, ...others].map((member) => {
     const words = member.id === chain.sysmod ? ownWords(isInstalled) : 'to be installed too';
-    return box(member.id, 'good', words, ...reasons('SYSTEM', member.system), ...reasons('USER', member.user));
+    return boxFor(member.id, 'good', words, ...reasonsOf('SYSTEM', member.system), ...reasonsOf('USER', member.user));
   });
   return make('ul', 'members', ...boxes);
 }
@@ -82,7 +74,7 @@ async function aboutNeed(need, chainOf, giverOf) {
 
 // The row of needs that are in the way: each is followed to the first that nothing gives.
 async function rowOfNeeds(first, isInstalled, chainOf, giverOf) {
-  const boxes = [box(first.sysmod, 'held', ownWords(isInstalled))];
+  const boxes = [boxFor(first.sysmod, 'held', ownWords(isInstalled))];
   const passed = new Set([first.sysmod]);
   let chain = first;
   while (chain.status === 'HELD' && passed.size < STEPS) {
@@ -94,7 +86,7 @@ async function rowOfNeeds(first, isInstalled, chainOf, giverOf) {
     passed.add(need);
     const next = await aboutNeed(need, chainOf, giverOf);
     chain = next.chain;
-    boxes.push(box(need, chain.status.toLowerCase(), next.words));
+    boxes.push(boxFor(need, chain.status.toLowerCase(), next.words));
   }
   return make('ol', 'members needs', ...boxes);
 }
@@ -175,6 +167,27 @@ export class ChainPanel {
     if (mine !== this.turn) return;
     this.element.removeAttribute('aria-busy');
     this.picture.replaceChildren(...shown);
+  }
+
+  // Several SYSMODs. WORK makes what is shown of their chains together.
+  async showMany(sysmods, work) {
+    this.turn += 1;
+    const mine = this.turn;
+    this.element.classList.add('is-open');
+    this.input.value = '';
+    this.title.textContent = several(sysmods.length, 'chain') + ' together';
+    this.hold.replaceChildren();
+    this.picture.replaceChildren(make('p', 'soft', 'Asking for the chains ..'));
+    this.element.setAttribute('aria-busy', 'true');
+    let shown;
+    try {
+      shown = await work();
+    } catch (fault) {
+      shown = make('p', 'fault', this.faultOf(fault));
+    }
+    if (mine !== this.turn) return;
+    this.element.removeAttribute('aria-busy');
+    this.picture.replaceChildren(shown);
   }
 
   job(chain, hold, isInstalled) {

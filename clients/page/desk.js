@@ -19,6 +19,7 @@ export class Refusal extends Error {
 const AT_ONCE = 3; // a front lets one token ask four questions at a time
 const PAUSES = [500, 1000, 2000]; // milliseconds, before a question is asked again for which there was no room
 const KEPT = 12; // reports that are kept; of the others their counts alone
+const CHAINS = 1000; // chains that are kept, which are small
 
 function refusalOf(status, body) {
   if (status === 401) return new Refusal('The desk does not know this token.', status);
@@ -40,6 +41,7 @@ export class Snapshot {
     this.token = token;
     this.asked = new Date();
     this.answers = new Map();
+    this.chains = new Map();
     this.counts = new Map();
     this.days = new Map(); // of each zone {before, counts}: what this browser has kept of it
     this.news = new Map(); // of each zone {since, came, went, changed, hiper}, where it has kept a report of an earlier day
@@ -133,19 +135,19 @@ export class Snapshot {
     return body;
   }
 
-  // The answer to a question, which is asked once. A refusal is not kept.
-  kept(key, work) {
-    let answer = this.answers.get(key);
+  // The answer to a question, which is asked once. A refusal is not kept. Of many answers the last MOST are.
+  kept(key, work, answers = this.answers, most = KEPT) {
+    let answer = answers.get(key);
     if (!answer) {
       answer = work();
-      answer.catch(() => this.answers.delete(key));
+      answer.catch(() => answers.delete(key));
     }
     // what was used last goes last
-    this.answers.delete(key);
-    this.answers.set(key, answer);
-    for (const old of this.answers.keys()) {
-      if (this.answers.size <= KEPT) break;
-      this.answers.delete(old);
+    answers.delete(key);
+    answers.set(key, answer);
+    for (const old of answers.keys()) {
+      if (answers.size <= most) break;
+      answers.delete(old);
     }
     return answer;
   }
@@ -267,8 +269,8 @@ export class Snapshot {
   }
 
   chain(zone, sysmod) {
-    return this.kept('chain ' + zone + ' ' + sysmod, async () =>
-      chainOf(await this.ask(this.pathOf(zone, 'chains', sysmod)), zone, sysmod));
+    const work = async () => chainOf(await this.ask(this.pathOf(zone, 'chains', sysmod)), zone, sysmod);
+    return this.kept(zone + ' ' + sysmod, work, this.chains, CHAINS);
   }
 }
 

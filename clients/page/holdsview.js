@@ -102,7 +102,7 @@ function rowsFor(report, holds, symptoms, accepted) {
   return [heading, ...rows.map(fields)];
 }
 
-// WAYS are {choose(hold, member), changed(words), say(text), read(text), accept(text)}. SYMPTOMS may be absent, and so are
+// WAYS are {boxes, choose(hold, member), changed(words), say(text), read(text), accept(text)}. SYMPTOMS may be absent, and so are
 // they of missing fixes. ACCEPTED is the site's list of accepted holds, if there is one.
 export class HoldsView {
   constructor(name, zone, report, words, symptoms, accepted, ways) {
@@ -118,6 +118,7 @@ export class HoldsView {
     this.filters.offer(report.holds);
     this.table = new Table({
       caption: this.title, columns: [...COLUMNS[name](symptoms), ...more.columns, DATE], order: byUrgency(symptoms), choose: ways.choose,
+      boxes: ways.boxes,
     });
     this.nothing = make('p', 'nothing', 'No ' + UNITS[name][0] + ' has all that is chosen above.');
     this.table.element.append(this.nothing);

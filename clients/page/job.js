@@ -52,12 +52,13 @@ function leftOver(plan) {
   const none = plan.unresolved.map((hold) => hold.sysmod + ' (' + hold.reason + ')');
   const held = plan.held.map((hold) => hold.sysmod + ' (' + hold.reason + ')');
   return [
+    ...(plan.notes ?? []).flatMap(comment),
     ...(none.length > 0 ? comment('NOTHING RESOLVES ' + none.join(', ')) : []),
     ...(held.length > 0 ? comment('ALL RESOLVERS ARE HELD OF ' + held.join(', ')) : []),
   ];
 }
 
-// The job for a plan. TITLE says what it is for and how old it is.
+// The job for a plan. TITLE says what it is for and how old it is. NOTES of a plan are sentences that the job tells.
 export function jobOf(plan, title) {
   const notReceived = plan.members.filter((member) => !member.received).map((member) => member.id);
   const lines = [

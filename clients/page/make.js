@@ -54,6 +54,14 @@ export function lineOver(days) {
   return made;
 }
 
+// A SYSMOD of a chain, with what is to be said of it.
+export function boxFor(id, className, words, ...more) {
+  return make('li', 'box ' + className, make('strong', 'id', id), words ? make('span', 'soft', words) : '', ...more);
+}
+
+// The SYSTEM or USER holds of a SYSMOD, which somebody has to heed.
+export const reasonsOf = (kind, list) => list.map((reason) => make('span', 'heed', kind + ' hold: ' + reason));
+
 // Waits until what is there now was painted.
 export const painted = () => new Promise((done) => requestAnimationFrame(() => setTimeout(done)));
 

@@ -1,6 +1,7 @@
 // A zone's plan: what to install, in which order, why, and what to heed; and what is left over.
 import { make, orderBadge, receivedMark } from './make.js';
 import { counted, several } from './words.js';
+import { Filters } from './filters.js';
 import { planRows } from './plan.js';
 import { jobOf } from './job.js';
 import { csvOf, saveButtons } from './save.js';
@@ -48,15 +49,28 @@ const COLUMNS = [
   { name: 'why', title: 'Why', of: why, cell: (group) => cut(why(group)) },
 ];
 
-// The members as groups of a table: each has one line.
+// The members as groups of a table: each has one line. A member can be installed, with its chain.
 function groupsOf(plan) {
   return plan.members.map((member, order) => {
-    const group = { ...member, order, resolvers: [], reason: '' };
-    group.sysmod = member.id;
-    group.best = { id: member.id };
-    return group;
+    const text = [member.id, ...member.fmids, ...member.system, ...member.user, ...member.holds.flatMap(({ sysmod, reason }) => [sysmod, reason])];
+    return {
+      ...member, order, resolvers: [], sysmod: member.id, reason: '', best: { id: member.id, status: 'GOOD' },
+      classes: [], text: text.join(' ').toLowerCase(),
+    };
   });
 }
+
+const KINDS = [
+  { name: 'class', title: 'Class', of: (group) => group.classes, order: ['HIPER', 'PE'] },
+  {
+    name: 'received', title: 'Received', order: ['received', 'not received'],
+    of: (group) => [group.received ? 'received' : 'not received'],
+  },
+  {
+    name: 'heed', title: 'Hold to heed', isList: true, word: 'hold to heed',
+    of: (group) => (group.system.length + group.user.length > 0 ? [...group.system, ...group.user] : ['']),
+  },
+];
 
 function leftOver(title, words, items) {
   if (items.length === 0) return '';
@@ -97,9 +111,9 @@ function summary(plan) {
     counted(heeded) + ' with holds to heed.';
 }
 
-// WAYS are {choose(sysmod, isEntered), say(text)}.
+// WORDS are those of the filter. WAYS are {boxes, choose(sysmod, isEntered), changed(words), say(text)}.
 export class PlanView {
-  constructor(name, zone, plan, snapshot, ways) {
+  constructor(name, zone, plan, snapshot, words, ways) {
     const title = 'Plan for the ' + NAMES[name] + ' of zone ' + zone + ', ' + snapshot.age;
     const file = zone + '-' + name + '-plan';
     const job = { title: 'SMP/E job', name: file + '.smpcntl.txt', kind: 'text/plain', text: () => jobOf(plan, title) };
@@ -108,16 +122,47 @@ export class PlanView {
       { title: 'CSV', name: file + '.csv', kind: 'text/csv', text: () => csvOf(planRows(plan)) },
       { title: 'JSON', name: file + '.json', kind: 'application/json', text: () => plan.json + '\n' },
     ];
+    this.title = 'Plan for the ' + NAMES[name] + ' of ' + zone;
+    this.groups = groupsOf(plan);
+    this.filters = new Filters(KINDS, ['SYSMOD', 'SYSMODs'], () => {
+      ways.changed(this.filters.words);
+      this.show();
+    });
+    this.filters.words = words;
+    this.filters.offer(this.groups);
     this.table = new Table({
-      caption: 'Plan for the ' + NAMES[name] + ' of ' + zone, columns: COLUMNS,
+      caption: this.title, columns: COLUMNS, boxes: ways.boxes,
       order: (one, other) => one.order - other.order,
       choose: (group, member, isEntered) => ways.choose(group.id, isEntered),
     });
-    this.table.show(groupsOf(plan));
+    this.nothing = make('p', 'nothing', 'No SYSMOD of the plan has all that is chosen above.');
+    this.table.element.append(this.nothing);
+    this.note = make('p', 'soft', 'Job, CSV and JSON have the whole plan. Tick boxes for a job of some of it.');
+    const isAny = plan.members.length > 0;
     const bar = make('div', 'bar', make('p', 'count', summary(plan)), saveButtons(forms, ways.say));
+    const filters = make('div', 'bar plan-filters', this.filters.element, this.note);
     this.element = make('div', 'report plan', bar,
       leftOver('Held', 'all resolvers can’t be installed now, and why', plan.held.map(heldWords)),
       leftOver('No resolver', 'nothing that is published resolves these', unresolved(plan, name === 'errsysmods' ? snapshot.symptoms : null)),
-      plan.members.length > 0 ? this.table.element : '');
+      ...(isAny ? [filters, this.table.element] : []));
+    this.show();
+  }
+
+  // The classes of the holds that members resolve come after the plan, since a plan does not tell them.
+  classify(holds) {
+    const classes = new Map(holds.map((hold) => [hold.sysmod + ' ' + hold.reason, hold.class || (hold.categories.length > 0 ? '' : 'other')]));
+    for (const group of this.groups) {
+      group.classes = [...new Set(group.holds.map(({ sysmod, reason }) => classes.get(sysmod + ' ' + reason)))].filter(Boolean);
+    }
+    this.filters.offer(this.groups);
+    if (this.filters.words.includes('class=')) this.show();
+  }
+
+  show() {
+    const shown = this.filters.of(this.groups);
+    this.table.name(this.title + (this.filters.shown ? ', only ' + this.filters.shown : ''));
+    this.table.show(shown);
+    this.note.hidden = shown.length === this.groups.length;
+    this.nothing.hidden = shown.length > 0;
   }
 }

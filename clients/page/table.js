@@ -5,6 +5,15 @@ import { button, make } from './make.js';
 const BEYOND = 10; // lines that are drawn above and below those that are seen, once somebody scrolls
 const LEAST = 5; // when fewer of them are left, the lines are drawn anew
 
+function boxOf(label, change) {
+  const box = make('input');
+  box.type = 'checkbox';
+  box.tabIndex = -1;
+  box.setAttribute('aria-label', label);
+  box.addEventListener('change', change);
+  return box;
+}
+
 // Whom a line shows of its group.
 const memberOf = ({ group, nth }) => (nth === 0 ? group.best : group.resolvers[nth]);
 const isSame = (one, other) => one?.group === other?.group && one?.nth === other?.nth;
@@ -16,19 +25,22 @@ export class Table {
   // COLUMNS are {name, title, of(group) to sort by, cell(group, member, isFirst)}. A group has `resolvers`, a line
   // for each; the lines after the first are shown where the group is opened. CHOOSE(group, member, isEntered) is
   // called for the line that is chosen, by a click or by Enter. ORDER compares groups where no heading was chosen.
-  constructor({ caption, columns, order, choose }) {
-    Object.assign(this, { columns, order, choose, groups: [], lines: [], at: -1, sorted: null, isDown: false });
+  // BOXES are those of lines that can be ticked, or absent: {keyOf(group, member), label(group, member), has(key), set(keys, isOn)}. A
+  // line whose key is empty has none.
+  constructor({ caption, columns, order, choose, boxes }) {
+    Object.assign(this, { columns, order, choose, boxes, groups: [], lines: [], at: -1, sorted: null, isDown: false });
     this.opened = new Set();
     this.isWhole = false;
     this.body = make('tbody');
     this.body.setAttribute('role', 'rowgroup');
     this.heads = columns.map((column) => this.head(column));
-    const first = make('tr', '', ...this.heads);
+    const first = make('tr', '', ...(boxes ? [this.headOfBoxes()] : []), ...this.heads);
     first.setAttribute('role', 'row');
     first.setAttribute('aria-rowindex', '1');
     this.caption = make('caption', '', caption);
     this.table = make('table', '', this.caption, make('thead', '', first), this.body);
     this.table.setAttribute('role', 'grid');
+    if (boxes) this.table.setAttribute('aria-multiselectable', 'true');
     this.table.tabIndex = 0;
     this.table.addEventListener('keydown', (event) => this.key(event));
     this.element = make('div', 'scroll', this.table);
@@ -48,6 +60,54 @@ export class Table {
     this.caption.textContent = text;
   }
 
+  // The box over all others ticks the first line of each group that is shown.
+  headOfBoxes() {
+    this.boxOfAll = boxOf('Choose all that are shown', () => this.boxes.set(this.keys(), this.boxOfAll.checked));
+    this.boxOfAll.tabIndex = 0;
+    const head = make('th', 'of-box', make('label', '', this.boxOfAll));
+    head.scope = 'col';
+    head.setAttribute('role', 'columnheader');
+    return head;
+  }
+
+  keys() {
+    return [...new Set(this.groups.map((group) => this.boxes.keyOf(group)).filter(Boolean))];
+  }
+
+  // The box of a line. A click beside it is one into it, and opens nothing.
+  cellOfBox(row, { group, nth }, member) {
+    const cell = make('td', 'of-box');
+    const key = this.boxes.keyOf(group, member);
+    cell.setAttribute('role', 'gridcell');
+    cell.addEventListener('click', (event) => event.stopPropagation());
+    if (!key) return cell;
+    const box = boxOf('Choose ' + this.boxes.label(group, member), () => this.boxes.set([key], box.checked));
+    box.dataset.key = key;
+    box.checked = this.boxes.has(key);
+    row.setAttribute('aria-selected', String(box.checked));
+    cell.append(make('label', nth === 0 ? '' : 'more', box));
+    return cell;
+  }
+
+  // Shows in the boxes what is ticked now.
+  tick() {
+    if (!this.boxes) return;
+    for (const box of this.body.querySelectorAll('.of-box input')) {
+      box.checked = this.boxes.has(box.dataset.key);
+      box.closest('tr').setAttribute('aria-selected', String(box.checked));
+    }
+    this.tickAll();
+  }
+
+  tickAll() {
+    const isAny = this.groups.some((group) => this.boxes.keyOf(group));
+    this.boxOfAll.disabled = !isAny;
+    this.boxOfAll.checked = isAny && this.groups.every((group) => {
+      const key = this.boxes.keyOf(group);
+      return !key || this.boxes.has(key);
+    });
+  }
+
   // Up, down, and back to the order that was there.
   sort(column) {
     if (this.sorted !== column) Object.assign(this, { sorted: column, isDown: false });
@@ -65,6 +125,7 @@ export class Table {
     this.at = -1;
     this.element.scrollTop = 0;
     this.layOut();
+    if (this.boxes) this.tickAll();
     this.draw(0);
   }
 
@@ -144,6 +205,7 @@ export class Table {
       return cell;
     });
     const row = make('tr', isFirst ? 'first' : 'more', ...cells);
+    if (this.boxes) row.prepend(this.cellOfBox(row, line, member));
     row.id = 'line-' + at;
     row.setAttribute('role', 'row');
     row.setAttribute('aria-rowindex', String(at + 2));
@@ -173,6 +235,12 @@ export class Table {
     else this.opened.delete(group);
     this.layOut();
     this.draw();
+  }
+
+  // Ticks the box of a line, or takes the tick away.
+  flip(line) {
+    const key = this.boxes.keyOf(line.group, memberOf(line));
+    this.boxes.set([key], !this.boxes.has(key));
   }
 
   // Chooses a line.
@@ -211,6 +279,7 @@ export class Table {
     const line = this.lines[this.at];
     if (event.key in moves) this.moveTo(this.at + moves[event.key]);
     else if (!line) return;
+    else if (event.key === ' ' && this.boxes?.keyOf(line.group, memberOf(line))) this.flip(line);
     else if (event.key === 'Enter' || event.key === ' ') this.take(this.at, event.key === 'Enter');
     else if (event.key === 'ArrowRight') this.open(line.group, true);
     else if (event.key === 'ArrowLeft') this.open(line.group, false);

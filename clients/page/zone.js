@@ -4,6 +4,7 @@ import { counted, several } from './words.js';
 import { REPORT_OF, addressOf } from './address.js';
 import { Accepted, NoAccepted } from './accepted.js';
 import { ChainPanel } from './chain.js';
+import { Choosing } from './choiceview.js';
 import { HoldsView } from './holdsview.js';
 import { NewsView } from './newsview.js';
 import { PlanView } from './planview.js';
@@ -41,6 +42,17 @@ export class ZoneView {
       age: () => snapshot.age,
       symptomsOf: (hold) => (hold.held === 'SYSMOD' ? snapshot.symptoms?.wordsOf(hold) ?? '' : ''),
       fixOf: (hold) => (hold.held === 'SYSMOD' ? snapshot.symptoms?.fixOf(hold) ?? '' : ''),
+      say: ways.say,
+    });
+    this.choosing = new Choosing(snapshot, zone, {
+      beside: this.chain,
+      table: () => this.view?.table,
+      go: (sysmod) => ways.go({ ...this.where, sysmod }),
+      replace: (sysmod) => {
+        this.where = { ...this.where, sysmod };
+        ways.replace(this.where);
+        this.showChain(this.where);
+      },
       say: ways.say,
     });
     const list = make('div', 'tabs', ...Object.values(this.tabs));
@@ -127,7 +139,7 @@ export class ZoneView {
     try {
       const parts = await work();
       if (mine !== this.where) return;
-      this.body.replaceChildren(...parts);
+      this.body.replaceChildren(...parts, ...(this.view?.table ? [this.choosing.bar.element] : []));
       this.view?.table?.draw(0);
     } catch (fault) {
       if (mine !== this.where || this.snapshot.isEnded) return;
@@ -149,6 +161,7 @@ export class ZoneView {
       }
       const symptoms = name === 'errsysmods' ? this.snapshot.symptoms : null;
       this.view = new HoldsView(name, this.zone, report, where.words, symptoms, this.snapshot.accepted, {
+        boxes: this.choosing.boxes,
         choose: (hold, member, isEntered) => {
           this.hold = hold;
           this.isEntered = isEntered;
@@ -171,6 +184,12 @@ export class ZoneView {
     await painted();
     const dates = await this.snapshot.dates(this.zone, name).catch(() => new Map());
     if (this.view === view) view.date(dates);
+  }
+
+  async classify(view, name) {
+    await painted();
+    const report = await this.snapshot.report(this.zone, name).catch(() => null);
+    if (report && this.view === view) view.classify(report.holds);
   }
 
   // The symptoms of a file are there for all zones, until the token is forgotten.
@@ -237,13 +256,19 @@ export class ZoneView {
         made.setAttribute('aria-pressed', String(this.plan === name));
         return made;
       };
-      this.view = new PlanView(this.plan, this.zone, plan, this.snapshot, {
+      this.view = new PlanView(this.plan, this.zone, plan, this.snapshot, this.where.words, {
+        boxes: this.choosing.boxes,
         choose: (sysmod, isEntered) => {
           this.isEntered = isEntered;
           this.ways.go({ ...this.where, sysmod });
         },
+        changed: (words) => {
+          this.where = { ...this.where, words };
+          this.ways.replace(this.where);
+        },
         say: this.ways.say,
       });
+      this.classify(this.view, this.plan);
       const choices = [choice('errsysmods', 'For the errors'), choice('missingfix', 'For the fixes')];
       const chips = make('div', 'chips plan-of', ...choices);
       chips.setAttribute('role', 'group');
@@ -253,6 +278,11 @@ export class ZoneView {
   }
 
   showChain({ sysmod, tab }) {
+    if (this.choosing.show(sysmod ?? '')) {
+      this.hold = undefined;
+      this.focusIfEntered();
+      return;
+    }
     const hold = sysmod && tab !== 'plan' ? this.holdOf(sysmod) : undefined;
     const isReport = tab in REPORT_OF;
     const member = hold?.resolvers.find((each) => each.id === sysmod) ?? hold?.best;
@@ -262,7 +292,11 @@ export class ZoneView {
       return;
     }
     this.chain.show(sysmod === '-' ? '' : sysmod, hold);
-    // by the keyboard the chain is the next thing to read; Escape leads back
+    this.focusIfEntered();
+  }
+
+  // By the keyboard the chain is the next thing to read; Escape leads back.
+  focusIfEntered() {
     if (this.isEntered) this.chain.element.focus();
     this.isEntered = false;
   }
