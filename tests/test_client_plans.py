@@ -218,6 +218,31 @@ def forms():
         same("no such words: %s" % (words,), (status, out), (2, ""))
 
 
+def jobs_of_zones():
+    """One job for several zones: what they want is received once, and each is applied by itself."""
+    other = NEEDS_TWO.replace("TGT1", "TGT2").replace("UA10005", "UA10006")
+    zones = '{"zones":[{"sysmods":4,"zone":"TGT1"},{"sysmods":4,"zone":"TGT2"},{"sysmods":0,"zone":"TGT3"}]}'
+    plans = {"/zones/TGT1/errsysmods/plan.json": NEEDS_TWO, "/zones/TGT2/errsysmods/plan.json": other,
+             "/zones/TGT3/errsysmods/plan.json": IS_HELD.replace("TGT1", "TGT3")}
+    stand = Stand(**{**plans, "/zones.json": zones})
+    status, out, err = stand.north.run("job", "--all")
+    one = without_time(stand.north.run("job", "TGT1")[1])
+    same("all zones", (status, stand.north.run("job", "--zones", "TGT1,TGT2,TGT3,TGT1")[0]), (0, 0))
+    check("one title", " /* PLANS FOR THE EXCEPTION SYSMODS OF ZONES TGT1, TGT2, TGT3," in out, out)
+    check("what is left over, by its zone", " /* IN ZONE TGT3 ALL RESOLVERS ARE HELD OF UA10001 (AA20002) */" in out, out)
+    same("one RECEIVE", re.findall(r"RECEIVE SYSMODS SELECT\(\n(.*)", out), ["    UA10008,UA10009"])
+    same("each zone", re.findall(r"SET BOUNDARY\((\w+)\)", out), ["GLOBAL", "TGT1", "TGT2"])
+    part = one[one.index(" /* UA10008 IS NEEDED") :]
+    same("as its own job has it", part in out and part.replace("UA10005", "UA10006").replace("TGT1", "TGT2") in out, True)
+    check("said of each zone", "'bureau-client plan TGT3' tells more" in err, err)
+    same("one zone is as by its name", without_time(stand.north.run("job", "--zones", "TGT1")[1]), one)
+    check("columns 1 to 71", not [line for line in out.splitlines() if len(line) > 71])
+    for words in (("TGT1", "--all"), ("TGT1", "--zones", "TGT2"), ("--zones", "TGT1,,TGT2"), ("--zones", "tgt1"), ("--zones", ""), ("--zones",)):
+        same("no such words: %s" % (words,), stand.north.run("job", *words)[:2], (2, ""))
+    stand.answers["/zones.json"] = '{"zones":[]}'
+    same("no zone", stand.north.run("job", "--all")[:2], (1, ""))
+
+
 def jobs_that_are_none():
     """What is no plan makes no job."""
     whole = json.loads(NEEDS_TWO)
@@ -304,6 +329,6 @@ def jobs_of_many():
         same("as the page makes it", page_job(plan, title), out)
 
 
-for part in (words_that_are_wrong, plans, no_plans, why_empty, jobs, forms, jobs_that_are_none, jobs_of_many):
+for part in (words_that_are_wrong, plans, no_plans, why_empty, jobs, forms, jobs_of_zones, jobs_that_are_none, jobs_of_many):
     part()
 finish("client's plans" + (", " + PYTHON if PYTHON else ""))

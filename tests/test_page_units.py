@@ -98,7 +98,7 @@ class Together(unittest.TestCase):
             members = jobs.members_of(good, resolved, {"UB1", "UB2", "UA3"}, installed)
             notes = [jobs.why_not(chain, installed) for chain in chains if chain["status"] != "GOOD"]
             title = "Chain%s of %s in zone TGT1, published 9 SYSMODs and 7 holds, asked now" % ("s" if len(ids) > 1 else "", ", ".join(ids))
-            self.assertEqual(got, jobs.job_of("TGT1", members, notes, title, jobs.Form()))
+            self.assertEqual(got, jobs.job_of([("TGT1", members)], notes, title, jobs.Form()))
 
     def test_a_plan(self):
         """All that the chains have, each SYSMOD once: so each member's needs are met by those of its own chain."""

@@ -45,12 +45,14 @@ def with_fixes(table, known):
     return [title, heading.ljust(18) + "FIX", *(row.ljust(18) + known.order(*row.split()[:2]) for row in rows)]
 
 
-def job(desk, zone, *sysmods, fixes=False, **wanted):
+def job(desk, zone="", *sysmods, fixes=False, zones="", all=False, **wanted):
     form = Form(**wanted)
     if sysmods:
-        job_of_chains(desk, zone, list(dict.fromkeys(sysmods)), form)
-    else:
-        job_of_plan(desk, zone, report_for(fixes), form)
+        return job_of_chains(desk, zone, list(dict.fromkeys(sysmods)), form)
+    named = [zone] if zone else list(dict.fromkeys(zones.split(","))) if zones else [each for each, _ in desk.zones()]
+    if not named:
+        raise Stop(1, f"{desk.url} has no zone of yours")
+    job_of_plans(desk, named, report_for(fixes), form)
 
 
 def report_for(fixes):
@@ -150,17 +152,20 @@ def bypass(members, classes=()):
     return [f" /* {line} */" for line in lines]
 
 
-def job_of(zone, members, left_over, title, form):
-    """The job that installs the members. LEFT_OVER says what it can't install, a sentence each."""
+def job_of(parts, left_over, title, form):
+    """The job that installs members in zones: each part is a zone with its members. LEFT_OVER says what it can't install, a sentence each.
+    What several zones want is received once."""
     notes = [title, "made by bureau, and not tried on a real z/OS. Read it before you run it.", *left_over]
-    notes += [] if members else ["nothing can be installed"]
+    notes += [] if any(members for _, members in parts) else ["nothing can be installed"]
     lines = [line for note in notes for line in comment(note)]
-    if to_receive := [member["id"] for member in members if not member["received"]]:
-        lines += ["", " SET BOUNDARY(GLOBAL).", *form.receive(to_receive)]
-    if members:
-        lines += ["", *(line for member in members for line in about(member)), "", f" SET BOUNDARY({zone})."]
-        ids = [member["id"] for member in members]
-        lines += [" APPLY SELECT(" if form.is_applied else " APPLY CHECK SELECT(", *list_of(ids), "    )", *form.retry, *form.bypass(members), " ."]
+    to_receive = dict.fromkeys(member["id"] for _, members in parts for member in members if not member["received"])
+    if to_receive:
+        lines += ["", " SET BOUNDARY(GLOBAL).", *form.receive(list(to_receive))]
+    for zone, members in parts:
+        if members:
+            lines += ["", *(line for member in members for line in about(member)), "", f" SET BOUNDARY({zone})."]
+            ids = [member["id"] for member in members]
+            lines += [" APPLY SELECT(" if form.is_applied else " APPLY CHECK SELECT(", *list_of(ids), "    )", *form.retry, *form.bypass(members), " ."]
     return form.whole("\n".join(lines) + "\n")
 
 
@@ -256,32 +261,44 @@ def job_of_chains(desk, zone, sysmods, form):
     good = [chain for chain in chains if chain["status"] == "GOOD"]
     left_over = [why_not(chain, installed) for chain in chains if chain["status"] != "GOOD"]
     title = f"Chain{'s' if len(sysmods) > 1 else ''} of {', '.join(sysmods)} in zone {zone}, {age}"
-    run.out(job_of(zone, members_of(good, resolved, received | received_list(desk), installed), left_over, title, form))
+    members = members_of(good, resolved, received | received_list(desk), installed)
+    run.out(job_of([(zone, members)], left_over, title, form))
     for sentence in left_over:
         run.refused(sentence)
 
 
-# --- The job of a plan --------------------------------------------------------------------------------------------------
+# --- The job of a plan, or of several -----------------------------------------------------------------------------------
 
 
 def several(number, word):
     return f"{number} {word}{'' if number == 1 else 's'}"
 
 
-def job_of_plan(desk, zone, report, form):
+def plan_for(desk, zone, report):
+    """The members of a plan, and the holds that it leaves over: those that nothing resolves, and those whose resolvers are all held."""
+    data = ask_plan(desk, zone, report, "plan.json")
+    plan = in_form(data, {**PLAN, "report": report, "zone": zone}, NoAnswer)
+    members = [{**member, "holds": pairs_of(member["holds"])} for member in plan["members"]]
+    return zone, members, pairs_of(plan["unresolved"]), pairs_of(plan["held"])
+
+
+def job_of_plans(desk, zones, report, form):
     """A plan tells of each member whether it was received."""
     asked = now()
-    data = ask_plan(desk, zone, report, "plan.json")
-    age = age_of(desk, asked)
-    plan = in_form(data, {**PLAN, "report": report, "zone": zone}, NoAnswer)
-    unresolved, held = pairs_of(plan["unresolved"]), pairs_of(plan["held"])
-    members = [{**member, "holds": pairs_of(member["holds"])} for member in plan["members"]]
-    left_over = [f"nothing resolves {named(unresolved)}"] if unresolved else []
-    left_over += [f"all resolvers are held of {named(held)}"] if held else []
-    subject, option = ("exception SYSMODs", "") if report == "errsysmods" else ("missing fixes", "--fixes ")
-    run.out(job_of(zone, members, left_over, f"Plan for the {subject} of zone {zone}, {age}", form))
-    if left_over:
-        told = f"{several(len(unresolved), 'hold')} that nothing resolves, and {several(len(held), 'hold')}"
-        say(f"left over: {told} of which all resolvers are held. 'bureau-client plan {option}{zone}' tells more")
-    elif not members:
-        say("nothing is to be installed: the plan has no member")
+    plans = [plan_for(desk, zone, report) for zone in zones]
+    age, is_one = age_of(desk, asked), len(zones) == 1
+    left_over = []
+    for zone, _, unresolved, held in plans:
+        place = "" if is_one else f"in zone {zone} "
+        left_over += [f"{place}nothing resolves {named(unresolved)}"] if unresolved else []
+        left_over += [f"{place}all resolvers are held of {named(held)}"] if held else []
+    subject = "exception SYSMODs" if report == "errsysmods" else "missing fixes"
+    title = f"Plan for the {subject} of zone {zones[0]}, {age}" if is_one else f"Plans for the {subject} of zones {', '.join(zones)}, {age}"
+    run.out(job_of([plan[:2] for plan in plans], left_over, title, form))
+    option = "" if report == "errsysmods" else "--fixes "
+    for zone, members, unresolved, held in plans:
+        if unresolved or held:
+            told = f"{several(len(unresolved), 'hold')} that nothing resolves, and {several(len(held), 'hold')}"
+            say(f"left over: {told} of which all resolvers are held. 'bureau-client plan {option}{zone}' tells more")
+        elif not members:
+            say("nothing is to be installed" + ("" if is_one else f" in zone {zone}") + ": the plan has no member")

@@ -22,7 +22,7 @@ QUESTIONS = {
     "history": ("ZONE, or nothing for all zones", "history", "csv"),
     "compare": ("ZONE ZONE", "across", "csv"),
     "installed": ("SYSMOD", "across", "csv"),
-    "job": ("ZONE, or ZONE SYSMOD..", "jobs", "fixes jcl order holdclass retry apply"),
+    "job": ("ZONE, or ZONE SYSMOD..", "jobs", "fixes zones all jcl order holdclass retry apply"),
     "last-publication": ("", "reports", ""),
 }
 # A change is a method of a class, which is called while this run has the lock.
@@ -44,7 +44,7 @@ LOCAL = {
 COMMANDS = {**QUESTIONS, **CHANGES, **LOCAL}
 # The options in the order in which they are refused, with whether a word comes after each.
 OF_A_JOB = {"jcl": True, "order": False, "holdclass": True, "retry": False, "apply": False}
-OPTIONS = {**OF_A_JOB, "csv": False, "all": False, "fixes": False, "alert": True, "since": True, "symptoms": True, "published": True, "to": True}
+OPTIONS = {**OF_A_JOB, "zones": True, "csv": False, "all": False, "fixes": False, "alert": True, "since": True, "symptoms": True, "published": True, "to": True}
 
 
 class Words:
@@ -85,8 +85,8 @@ class Words:
             self.desks, self.named = self.desks + [word.removesuffix("/") for word in named[:1]], []
             is_good = self.desks
         else:
-            is_all = self.command == "errsysmods" and "all" in self.options
-            is_good = named if self.command == "job" else not named if is_all else len(named) < 2 if "nothing" in wants else len(named) == len(wants.split())
+            is_all = self.command in ("errsysmods", "job") and (self.options.get("all") or self.options.get("zones"))
+            is_good = not named if is_all else named if self.command == "job" else len(named) < 2 if "nothing" in wants else len(named) == len(wants.split())
         if not is_good:
             raise usage(f"{self.command} wants: {wants or 'no more words'}")
 
@@ -99,6 +99,8 @@ class Words:
             need_id("SYSMOD", word)
         for word in self.options.get("alert", ()):
             need_id("class", word)
+        for word in self.options["zones"].split(",") if "zones" in self.options else ():
+            need_id("name of a zone", word)
         if "FILE" in kinds:
             run.need_file(named[-1])
 
@@ -110,7 +112,7 @@ class Words:
                 raise usage(f"{self.command} has no --{option}")
             if option == "since" and not self.named:
                 raise usage("--since wants a zone: a report is of one zone")
-            if option == "fixes" and len(self.named) != 1:
+            if option == "fixes" and len(self.named) > 1:
                 raise usage("--fixes wants the zone alone: a job of SYSMODs is for no report")
         for path in (given[option] for option in ("since", "symptoms", "published") if option in given):
             run.need_file(path)
