@@ -1,4 +1,4 @@
-"""A real nginx in front of desks, from examples/front/nginx.conf, on free ports and with a certificate
+"""A real nginx in front of desks, from deploy/nginx.conf, on free ports and with a certificate
 of its own."""
 import atexit
 import os
@@ -11,7 +11,7 @@ import time
 
 from service import TOP, folder, free_port, write
 
-SAMPLE_FRONT = os.path.join(TOP, "examples", "front")
+SAMPLE_FRONT = os.path.join(TOP, "deploy")
 NGINX = shutil.which("nginx") or "/usr/sbin/nginx"
 
 

@@ -17,7 +17,7 @@ TOP = os.path.dirname(os.path.dirname(os.path.abspath(__file__)))
 sys.path.insert(0, os.path.join(TOP, "clients"))
 sys.dont_write_bytecode = True
 
-from bureau_client import changes, desk, faults, holddata, jobs, lists, reports, run, statements, zone_csv
+from bureau_client import changes, desk, faults, holddata, jobs, lists, reports, run, statements, words, zone_csv
 
 
 class Checksums(unittest.TestCase):
@@ -301,6 +301,58 @@ class ZoneLists(unittest.TestCase):
             self.assertEqual(zone_csv.state_of(fields, "zone"), wanted, fields)
         self.assertEqual(zone_csv.state_of({"STATUS": ["APP", "REC"]}, "received"), ("RECEIVED", None))
         self.assertEqual(zone_csv.state_of({"STATUS": ["APP"]}, "received"), (None, "not received"))
+
+
+class Completion(unittest.TestCase):
+    """What bash completes, in a bash of its own."""
+
+    @classmethod
+    def setUpClass(cls):
+        cls.client = os.path.join(TOP, "clients", "bureau-client")
+        cls.script = subprocess.run([cls.client, "completion"], capture_output=True, text=True).stdout
+        cls.place = tempfile.TemporaryDirectory()
+        for zone in ("MVSPROD", "MVSTEST"):
+            os.makedirs(cls.place.name + "/desks/x.1/sent/zones", exist_ok=True)
+            with open(cls.place.name + "/desks/x.1/sent/zones/" + zone, "w"):
+                pass
+        with open(cls.place.name + "/made.csv", "w"):
+            pass
+
+    @classmethod
+    def tearDownClass(cls):
+        cls.place.cleanup()
+
+    def of(self, *typed):
+        lines = self.script + "COMP_WORDS=(\"$@\") COMP_CWORD=$(($# - 1)); _bureau_client; printf '%s\\n' \"${COMPREPLY[@]}\""
+        done = subprocess.run(
+            ["bash", "-c", lines, "bash", "bureau-client", *typed], capture_output=True, text=True, cwd=self.place.name,
+            env={**os.environ, "BUREAU_HOME": self.place.name},
+        )
+        self.assertEqual(done.stderr, "")
+        return done.stdout.split()
+
+    def test_commands(self):
+        self.assertEqual(set(self.of("")), {"help", *(each for each in words.COMMANDS if " " not in each)})
+        self.assertEqual(self.of("err"), ["errsysmods"])
+        self.assertEqual(self.of("--csv", "overv"), ["overview"])
+
+    def test_options(self):
+        """Of each command its own options, as the words are read."""
+        self.assertEqual(self.of("errsysmods", "--a"), ["--all", "--alert"])
+        self.assertEqual(self.of("zone", "--"), ["--to"])
+        self.assertEqual(self.of("fault", "--"), [])
+        for command in (each for each in words.COMMANDS if " " not in each):
+            for option in self.of(command, "--"):
+                self.assertTrue(option == "--to" or option[2:] in words.COMMANDS[command][2].split(), (command, option))
+
+    def test_zones_and_files(self):
+        """Zones are those whose lists were sent from here."""
+        self.assertEqual(sorted(self.of("errsysmods", "MVS")), ["MVSPROD", "MVSTEST"])
+        self.assertEqual(self.of("report", "--html", "MVSP"), ["MVSPROD"])
+        self.assertEqual(self.of("zone", "MVSPROD", "ma"), ["made.csv"])
+        self.assertEqual(self.of("errsysmods", "--symptoms", "m"), ["made.csv"])
+        self.assertEqual(self.of("--to", "http://127.0.0.1:9", "last-"), ["last-publication"])
+        self.assertEqual(self.of("errsysmods", "--alert", "H"), [])
 
 
 if __name__ == "__main__":

@@ -47,7 +47,7 @@ run = subprocess.run(["sh", alone, "http://127.0.0.1:9"], capture_output=True, t
 check("without its bodies it sends nothing", run.returncode == 1 and "examples/site" in run.stderr, run.stderr)
 
 # the line that makes callers.map from the callers file, as it stands in the sample and on its page
-front = os.path.join(TOP, "examples", "front", "callers.map")
+front = os.path.join(TOP, "deploy", "callers.map")
 line = re.search(r"awk -F.*callers\.csv", read(front).decode())[0]
 check("it is on its page too", line in read(os.path.join(TOP, "docs", "SCALING.md")).decode())
 names = subprocess.run(line.replace("callers.csv", CALLERS), shell=True, capture_output=True, text=True).stdout

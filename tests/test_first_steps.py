@@ -14,7 +14,7 @@ from service import PROGRAM, TOP, finish, folder, free_port, without_time
 from stand_in import until
 
 place = folder()
-for part in ("clients", "examples"):
+for part in ("clients", "deploy", "examples"):
     shutil.copytree(os.path.join(TOP, part), os.path.join(place, part))
 shutil.copy(PROGRAM, os.path.join(place, "bureau"))
 os.chmod(place, 0o755)
@@ -23,7 +23,7 @@ with open(os.path.join(TOP, "docs", "FIRST-STEPS.md")) as page:
     text = page.read()
 for old, new in ports.items():
     text = text.replace(old, str(new))
-conf = os.path.join(place, "examples", "front", "nginx.conf")
+conf = os.path.join(place, "deploy", "nginx.conf")
 with open(conf) as file:
     lines = file.read().replace("listen 8443", "listen 127.0.0.1:%(8443)d" % ports).replace(":8081 ", ":%(8081)d " % ports)
 with open(conf, "w") as file:

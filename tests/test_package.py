@@ -229,7 +229,7 @@ if debs:
         hidden(root, "usr/bin/bureau holds usr/lib/bureau/examples/holddata.txt | tail -n 1"),
         (0, b"ROWS 39\n"),
     )
-    with open(root + "/usr/lib/bureau/examples/service/bureau.service") as unit:
+    with open(root + "/usr/lib/bureau/deploy/bureau.service") as unit:
         named = re.findall(r"^(?:Documentation=.*file://|ExecStart=)(/[^ \n]*)", unit.read(), re.M)
     same("the unit names what is there", [path for path in named if not os.path.exists(root + path)], [])
     same("the unit names its page and the program", len(named), 2)
@@ -259,7 +259,12 @@ if debs:
     same("no page names what isn't there", named_in_vain(root + "/usr/lib/bureau") if FILES else [], [])
     set_up(os.path.join(made, debs[0]))
     unit = root + "/lib/systemd/system/bureau.service"
-    same("the unit is installed", read(unit), read(TOP + "/examples/service/bureau.service"))
+    same("the unit is installed", read(unit), read(TOP + "/deploy/bureau.service"))
+    units = [TOP + "/deploy/bureau-report" + kind for kind in (".timer", ".service")]
+    run = subprocess.run(["systemd-analyze", "verify", "--user", "--man=no", *units], capture_output=True, text=True)
+    check("systemd reads the units of the report", run.returncode == 0 and "bureau-report" not in run.stderr, run.stderr)
+    completion = read(root + "/usr/share/bash-completion/completions/bureau-client")
+    check("what bash completes is there", b"complete -o filenames -F _bureau_client bureau-client" in completion, completion)
     line = ["systemd-analyze", "security", "--offline=yes", "--threshold=30", unit]
     run = subprocess.run(line, capture_output=True, text=True)
     check("systemd calls it exposed by less than 3", run.returncode == 0, run.stdout[-300:] + run.stderr)

@@ -23,6 +23,7 @@ QUESTIONS = {
     "compare": ("ZONE ZONE", "across", "csv"),
     "installed": ("SYSMOD", "across", "csv"),
     "job": ("ZONE, or ZONE SYSMOD..", "jobs", "fixes zones all jcl order holdclass retry apply"),
+    "report": ("ZONE.., or nothing for all zones", "handout", "html csv mail xlsx symptoms"),
     "last-publication": ("", "reports", ""),
 }
 # A change is a method of a class, which is called while this run has the lock.
@@ -39,12 +40,13 @@ CHANGES = {
 LOCAL = {
     "fault": ("NUMBER", "faults", ""),
     "holds": ("FILE", "holddata", ""),
+    "completion": ("", "completion", ""),
     "published categories": ("", "holddata", "published"),
 }
 COMMANDS = {**QUESTIONS, **CHANGES, **LOCAL}
 # The options in the order in which they are refused, with whether a word comes after each.
 OF_A_JOB = {"jcl": True, "order": False, "holdclass": True, "retry": False, "apply": False}
-OPTIONS = {**OF_A_JOB, "zones": True, "csv": False, "all": False, "fixes": False, "alert": True, "since": True, "symptoms": True, "published": True, "to": True}
+OPTIONS = {**OF_A_JOB, "zones": True, "html": False, "mail": True, "xlsx": True, "csv": False, "all": False, "fixes": False, "alert": True, "since": True, "symptoms": True, "published": True, "to": True}
 
 
 class Words:
@@ -86,7 +88,7 @@ class Words:
             is_good = self.desks
         else:
             is_all = self.command in ("errsysmods", "job") and (self.options.get("all") or self.options.get("zones"))
-            is_good = not named if is_all else named if self.command == "job" else len(named) < 2 if "nothing" in wants else len(named) == len(wants.split())
+            is_good = not named if is_all else takes(wants, len(named))
         if not is_good:
             raise usage(f"{self.command} wants: {wants or 'no more words'}")
 
@@ -122,6 +124,13 @@ class Words:
         module, *kind = COMMANDS[self.command][1].split(".")
         place = import_module("." + module, __package__)
         return getattr(getattr(place, kind[0])(subject) if kind else place, re.sub("[- ]", "_", self.command))
+
+
+def takes(wants, count):
+    """Whether a command that wants this takes so many words."""
+    if ".." in wants:
+        return count > 0 or "nothing" in wants
+    return count < 2 if "nothing" in wants else count == len(wants.split())
 
 
 def usage(text):
