@@ -92,13 +92,13 @@ def calls_of_a_desk(program):
 
 
 unproved = folder()
-subprocess.run(["cp", "-a", "make-package", "launcher", unproved], cwd=TOP, check=True)
-run = subprocess.run([unproved + "/make-package", unproved], env={**os.environ, "BUREAU_PROGRAM": PROGRAM}, capture_output=True, text=True)
+subprocess.run(["cp", "-a", "tools", "launcher", unproved], cwd=TOP, check=True)
+run = subprocess.run([unproved + "/tools/make-package", unproved], env={**os.environ, "BUREAU_PROGRAM": PROGRAM}, capture_output=True, text=True)
 check("a program that was not proved here is not packed", run.returncode == 1 and "was not proved here" in run.stderr, run.stderr)
 made, again = folder(), folder()
 for target in (made, again):
     run = subprocess.run(
-        [TOP + "/make-package", "--unproved", target],
+        [TOP + "/tools/make-package", "--unproved", target],
         env={**os.environ, "BUREAU_PROGRAM": PROGRAM},
         capture_output=True,
         text=True,
