@@ -152,7 +152,7 @@ def filters(browser):
 
 
 def order(browser):
-    """What can be resolved comes first, by its class, and what nothing resolves last."""
+    """What can be resolved comes first, then what is held, and what nothing resolves last: each by its class."""
     go(browser, "#MIDDLE/errors")
     browser.run("dispatchEvent(new Event('beforeprint'))")  # which draws all lines
     got = browser.run("[...document.querySelectorAll('tbody tr.first')].map(r => [...r.cells].slice(2, 4).map(c => c.innerText))")
@@ -161,7 +161,7 @@ def order(browser):
 
     def ranks(one):
         hold, resolvers = one
-        return not resolvers, classes.index(hold[2]) if hold[2] in classes else 2, statuses.index(state(resolvers))
+        return statuses.index(state(resolvers)), classes.index(hold[2]) if hold[2] in classes else 2
 
     same("all of them", got, [list(hold[:2]) for hold, _ in sorted(ZONES[3].holds, key=ranks)])
 

@@ -45,7 +45,8 @@ def in_node(script, imports="Choice, MOST, chosenIn, holdsOf, titleOf, together,
     """What a script of the page's modules prints as JSON."""
     with open(PLACE + "/run.js", "w") as file:
         file.write("import { %s } from './page/choice.js';\nimport { jobOf } from './page/job.js';\n" % imports)
-        file.write("import { addressOf, whereIs } from './page/address.js';\n%s\n" % FACTS)
+        file.write("import { addressOf, whereIs } from './page/address.js';\nimport { sumsByDay } from './page/words.js';\n")
+        file.write("import { byUrgency } from './page/holds.js';\n%s\n" % FACTS)
         file.write("const tell = (value) => console.log(JSON.stringify(value));\n" + script)
     done = subprocess.run(["node", PLACE + "/run.js"], capture_output=True, text=True)
     if done.returncode:
@@ -67,6 +68,22 @@ class Chosen(unittest.TestCase):
         told = in_node("""const address = addressOf({ zone: 'TGT1', tab: 'errors', sysmod: 'UB1+U@#$', words: 'class=HIPER' });
             const { sysmod } = whereIs(address); tell([address, sysmod, chosenIn(sysmod), chosenIn('UB1'), chosenIn(''), chosenIn('UB1+'), chosenIn('UB1+U/1')]);""")
         self.assertEqual(told, [address.replace("@#$", "%40%23%24"), "UB1+U@#$", ["UB1", "U@#$"], None, None, None, None])
+
+
+class Sums(unittest.TestCase):
+    def test_by_day(self):
+        """The sums begin where each zone has counts. A zone without counts of a day has those of its last day."""
+        days = [[["1", {"holds": 5}], ["3", {"holds": 7}]], [["2", {"holds": 1}], ["4", {"holds": 0}]]]
+        told = in_node("tell(sumsByDay(%s, 'holds'));" % json.dumps(days))
+        self.assertEqual(told, [["2", 6], ["3", 8], ["4", 7]])
+
+    def test_what_comes_first(self):
+        """That about which something can be done, then what is held, then what nothing resolves, and then what is accepted."""
+        told = in_node("""const hold = (id, classRank, status, more) => ({ sysmod: id, reason: '', classRank, status, rank: { GOOD: 0, HELD: 2, none: 6 }[status], order: 0, ...more });
+            const holds = [hold('A', 0, 'none'), hold('B', 1, 'HELD'), hold('C', 0, 'HELD'), hold('D', 2, 'GOOD'), hold('E', 0, 'GOOD', { accepted: {} }),
+                hold('F', 0, 'GOOD'), hold('G', 0, 'none', { fix: 'U1' })];
+            tell([undefined, { fixOf: ({ fix }) => fix }].map((symptoms) => [...holds].sort(byUrgency(symptoms)).map(({ sysmod }) => sysmod).join('')));""")
+        self.assertEqual(told, ["FDCBAGE", "FGDCBAE"])
 
 
 class Together(unittest.TestCase):

@@ -34,10 +34,10 @@ class Hold:
         self.has_symptoms = bool(known) and kind == "errsysmods"
 
     def urgency(self):
-        """HIPER comes first, then PE; of each what can be resolved. Then comes what nothing resolves and no fix is known of, and then
-        what is accepted."""
-        is_stuck = not self.status and not self.fix
-        return self.is_accepted, is_stuck, CLASSES.get(self.name, 2), RANKS.get(self.status, 2)
+        """What can be done something about comes first, then what is held, then what nothing resolves, and then what is accepted: in each
+        of these HIPER, then PE. The page has the same order."""
+        place = 0 if self.status == "GOOD" or not self.status and self.fix else 1 if self.status else 2
+        return self.is_accepted, place, CLASSES.get(self.name, 2), RANKS.get(self.status, 2)
 
 
 class Zone:

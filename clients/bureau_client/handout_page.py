@@ -14,7 +14,7 @@ h1 { font-size: 1.5rem; margin: 0; } h2 { font-size: 1.25rem; margin: 2rem 0 .25
 p { margin: .25rem 0; } a { color: var(--accent); } .soft { color: var(--soft); } .id { font-family: ui-monospace, "DejaVu Sans Mono", monospace; }
 .scroll { overflow-x: auto; } table { border-collapse: collapse; width: 100%; background: var(--card); border: 1px solid var(--line); }
 th, td { text-align: left; vertical-align: top; padding: .3rem .6rem; border-top: 1px solid var(--line); } th { color: var(--soft); font-weight: 600; white-space: nowrap; }
-td.number { text-align: right; font-variant-numeric: tabular-nums; } tr.accepted { color: var(--soft); }
+td.number, .counts th + th { text-align: right; font-variant-numeric: tabular-nums; } tr.accepted { color: var(--soft); }
 b.mark { white-space: nowrap; } .good { color: var(--good); } .held { color: var(--held); } .none { color: var(--none); } .order { color: var(--order); }
 .hiper { color: var(--hiper); } .pe { color: var(--pe); } .other { color: var(--other); } .heed { color: var(--held); font-weight: 600; }
 @media print { :root { --back: #fff; --card: #fff; --text: #000; --soft: #333; --line: #999; --accent: #000; --good: #0a6b2d; --held: #a14400;
@@ -33,10 +33,10 @@ def id_of(text):
     return f'<span class="id">{escape(text)}</span>'
 
 
-def table(heading, rows):
+def table(heading, rows, kind="rows"):
     """ROWS have what stands in a `tr`, with its attributes."""
     head = "".join(f"<th scope=col>{escape(each)}</th>" for each in heading)
-    return f"<div class=scroll><table><thead><tr>{head}</tr></thead><tbody>\n" + "\n".join(rows) + "\n</tbody></table></div>"
+    return f"<div class=scroll><table class={kind}><thead><tr>{head}</tr></thead><tbody>\n" + "\n".join(rows) + "\n</tbody></table></div>"
 
 
 def row(cells, attribute=""):
@@ -66,7 +66,7 @@ def overview(made):
             count, colour = zone.counts[name], {"HIPER": "hiper", "NONE": "none", "HELD": "held", "ORDER": "order"}.get(name)
             cells.append(f"<td class=number>{mark(colour, str(count)) if colour and count else count}</td>")
         rows.append("<tr>" + "".join(cells) + "</tr>")
-    return table(made.columns, rows)
+    return table(made.columns, rows, "counts")
 
 
 def status_of(hold):

@@ -18,7 +18,7 @@ export class Refusal extends Error {
 
 const AT_ONCE = 3; // a front lets one token ask four questions at a time
 const PAUSES = [500, 1000, 2000]; // milliseconds, before a question is asked again for which there was no room
-const KEPT = 12; // reports that are kept; of the others their counts alone
+const KEPT = 16; // answers about reports that are kept; of the other zones their counts alone
 const CHAINS = 1000; // chains that are kept, which are small
 
 function refusalOf(status, body) {
@@ -238,12 +238,14 @@ export class Snapshot {
   }
 
   // What is new in a zone: {since, changes}, or null where this browser has no report of an earlier day.
-  async newsOf(zone) {
-    await this.countsOf(zone);
-    const before = this.days.get(zone)?.before;
-    if (!before) return null;
-    const [errors, fixes] = await Promise.all(['errsysmods', 'missingfix'].map((name) => this.report(zone, name)));
-    return { since: before.day, changes: this.changesSince(zone, before, errors, fixes) };
+  newsOf(zone) {
+    return this.kept('news ' + zone, async () => {
+      await this.countsOf(zone);
+      const before = this.days.get(zone)?.before;
+      if (!before) return null;
+      const [errors, fixes] = await Promise.all(['errsysmods', 'missingfix'].map((name) => this.report(zone, name)));
+      return { since: before.day, changes: this.changesSince(zone, before, errors, fixes) };
+    });
   }
 
   get day() {

@@ -52,6 +52,8 @@ class Hold {
     this.classRank = classRankOf(this.class);
     this.date = ''; // YYYY-MM-DD, once it is known
     this.accepted = null; // {until, why}, where a site has accepted it
+    this.news = ''; // `came` or `changed`, since the day of SINCE
+    this.since = '';
     this.rank = rankOf(report, row); // that of its best resolver
   }
 
@@ -139,11 +141,16 @@ export class HoldReport extends Report {
   }
 }
 
-// What has to be looked at first: HIPER, then PE; of these what can be resolved; else as the desk has it. What nothing
-// resolves comes last, since nothing can be done for it, unless its fix is known by name; and after it what is accepted.
+// What has to be looked at first: that about which something can be done, since a resolver can be installed or the fix is known by name.
+// Then comes what is held, then what nothing resolves, and then what is accepted. In each of these HIPER comes first, then PE, and else as
+// the desk has it.
 export const byUrgency = (symptoms) => (one, other) => {
-  const isLast = (hold) => (hold.accepted ? 2 : hold.status === 'none' && !symptoms?.fixOf(hold) ? 1 : 0);
-  return isLast(one) - isLast(other) || one.classRank - other.classRank ||
+  const placeOf = (hold) => {
+    if (hold.accepted) return 3;
+    if (hold.status === 'none') return symptoms?.fixOf(hold) ? 0 : 2;
+    return hold.status === 'GOOD' ? 0 : 1;
+  };
+  return placeOf(one) - placeOf(other) || one.classRank - other.classRank ||
     RANKS[one.rank].at - RANKS[other.rank].at || one.order - other.order;
 };
 

@@ -8,6 +8,7 @@ import { SYMPTOMS, meaningOf } from './symptoms.js';
 
 const TITLES = { errsysmods: 'Exception SYSMODs of ', missingfix: 'Missing fixes of ' };
 const UNITS = { errsysmods: ['hold', 'holds'], missingfix: ['fix', 'fixes'] };
+const keyOf = (hold) => hold.sysmod + ' ' + hold.reason;
 const text = (name, title, of) => ({ name, title, of, cell: (hold, member, isFirst) => (isFirst ? of(hold) : '') });
 
 // SYMPTOMS tell what can be done about a hold that nothing resolves.
@@ -34,6 +35,20 @@ function categories(hold, member, isFirst) {
   return made;
 }
 
+// A hold that is new, or that has changed, has a mark beside its reason.
+const REASON = {
+  name: 'reason', title: 'Reason', of: (hold) => hold.reason,
+  cell: (hold, member, isFirst) => (isFirst ? make('span', '', hold.reason, ...(hold.news ? [newsMark(hold)] : [])) : ''),
+};
+
+function newsMark({ news, since }) {
+  const mark = make('span', 'news-mark is-' + news);
+  mark.title = news + ' since ' + since;
+  mark.setAttribute('role', 'img');
+  mark.setAttribute('aria-label', mark.title);
+  return mark;
+}
+
 const COLUMNS = {
   errsysmods: (symptoms) => [
     {
@@ -41,14 +56,14 @@ const COLUMNS = {
       cell: (hold, member, isFirst) => (isFirst ? classBadge(hold.class) : ''),
     },
     text('sysmod', 'SYSMOD', (hold) => hold.sysmod),
-    text('reason', 'Reason', (hold) => hold.reason),
+    REASON,
     text('fmid', 'FMID', (hold) => hold.fmid),
     ...resolverColumns(symptoms),
   ],
   missingfix: () => [
     { name: 'category', title: 'Category', of: (hold) => hold.categories[0] ?? '', cell: categories },
     text('fmid', 'FMID', (hold) => hold.fmid),
-    text('reason', 'Reason', (hold) => hold.reason),
+    REASON,
     ...resolverColumns(null),
   ],
 };
@@ -63,10 +78,11 @@ const AGE = {
   name: 'age', title: 'Age', isList: true, least: 1, order: AGES.map(([days]) => days), label: (days) => 'not older than ' + Object.fromEntries(AGES)[days],
   of: (hold) => (hold.date ? AGES.filter(([days]) => Date.now() - Date.parse(hold.date) <= days * 86400000).map(([days]) => days) : []),
 };
+const NEWS = { name: 'news', title: 'New', of: (hold) => (hold.news ? [hold.news] : []), order: ['came', 'changed'], least: 1 };
 const ACCEPTED = { name: 'accepted', title: 'Accepted', of: (hold) => [hold.accepted ? 'accepted' : 'open'], order: ['open', 'accepted'] };
 const KINDS = {
-  errsysmods: [{ name: 'class', title: 'Class', of: (hold) => [hold.class], order: ['HIPER', 'PE'] }, STATUS, RECEIVED, FMID, AGE, ACCEPTED],
-  missingfix: [{ name: 'category', title: 'Category', of: (hold) => hold.categories, isList: true }, STATUS, RECEIVED, AGE, ACCEPTED],
+  errsysmods: [{ name: 'class', title: 'Class', of: (hold) => [hold.class], order: ['HIPER', 'PE'] }, STATUS, RECEIVED, NEWS, FMID, AGE, ACCEPTED],
+  missingfix: [{ name: 'category', title: 'Category', of: (hold) => hold.categories, isList: true }, STATUS, RECEIVED, NEWS, AGE, ACCEPTED],
 };
 
 // What symptoms add to the columns, and to the filters.
@@ -129,22 +145,25 @@ export class HoldsView {
     ];
     const saves = saveButtons(forms, ways.say);
     if (name === 'errsysmods') {
-      const open = fileButton('Open', ways.read, 'Open a file of symptoms');
-      const accept = fileButton('Open', ways.accept, 'Open a file of accepted holds');
-      const pair = (title, made) => make('span', 'pair', make('span', 'pair-name', title), made);
-      saves.prepend(pair('Symptoms', open), pair('Accepted', accept));
+      const open = fileButton('Symptoms', ways.read, 'Open a file of symptoms');
+      const accept = fileButton('Accepted', ways.accept, 'Open a file of accepted holds');
+      saves.prepend(make('span', 'pair', make('span', 'pair-name', 'Open'), open, accept));
     }
     const bar = make('div', 'bar', this.filters.element, saves);
     this.element = make('div', 'report ' + name + (symptoms ? ' with-symptoms' : ''), bar, this.table.element);
     this.show();
   }
 
-  // The dates of holds come after the report, since the text of a report has none.
-  date(dates) {
-    if (dates.size === 0) return;
-    for (const hold of this.report.holds) hold.date = dates.get(hold.sysmod + ' ' + hold.reason) ?? '';
+  // The dates of holds come after the report, since the text of a report has none, and so does what is new among them.
+  date(dates, news) {
+    const marks = new Map(news?.changes.filter(({ hold }) => hold.held === this.report.held).map(({ hold, mark }) => [keyOf(hold), mark]));
+    if (dates.size === 0 && marks.size === 0) return;
+    for (const hold of this.report.holds) {
+      hold.date = dates.get(keyOf(hold)) ?? '';
+      if (marks.size > 0) Object.assign(hold, { news: marks.get(keyOf(hold)) ?? '', since: news.since });
+    }
     this.filters.offer(this.report.holds);
-    if (this.filters.words.includes('age=')) this.show();
+    if (/(^|&)(age|news)=/.test(this.filters.words)) this.show();
     else this.table.draw();
   }
 

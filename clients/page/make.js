@@ -36,8 +36,15 @@ export function link(text, className, address, label) {
   return made;
 }
 
-// A small line over numbers, one for each day: [day, number].
-export function lineOver(days) {
+// What stands where there is no row: a sign, what that means, and where to go on.
+export function emptyState(sign, title, words, ...links) {
+  const mark = make('span', 'empty-sign ' + (sign === '✓' ? 'good' : ''), sign);
+  mark.setAttribute('aria-hidden', 'true');
+  return make('div', 'nothing', mark, make('p', 'empty-title', title), ...(words ? [make('p', 'soft', words)] : []), ...links);
+}
+
+// A small line over numbers, one for each day: [day, number]. WHAT they count is told.
+export function lineOver(days, what = 'Holds') {
   const most = Math.max(1, ...days.map(([, number]) => number));
   const points = days.map(([, number], at) => [2 + (56 * at) / (days.length - 1), 14 - (12 * number) / most]);
   const of = (tag, words) => {
@@ -48,7 +55,7 @@ export function lineOver(days) {
   const made = of('svg', { class: 'trend', viewBox: '0 0 60 16', width: 60, height: 16, role: 'img' });
   const title = of('title', {});
   const told = [days[0], days.at(-1)].map(([day, number]) => number + ' on ' + day);
-  title.textContent = 'Holds: ' + told.join(', ');
+  title.textContent = what + ': ' + told.join(', ');
   const [x, y] = points.at(-1);
   made.append(title, of('polyline', { points: points.map((point) => point.map((each) => each.toFixed(1)).join(',')).join(' ') }), of('circle', { cx: x, cy: y, r: 2 }));
   return made;

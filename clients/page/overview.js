@@ -1,6 +1,6 @@
 // All zones at a glance: what is urgent comes first. A zone's counts fill in as its reports come.
 import { lineOver, link, make } from './make.js';
-import { counted, several } from './words.js';
+import { counted, several, sumsByDay } from './words.js';
 import { sinceWords } from './news.js';
 import { ALL, addressOf } from './address.js';
 
@@ -10,9 +10,10 @@ const BARS = [['hiper', 'HIPER'], ['pe', 'PE'], ['other', 'other']];
 function tile(title, className, address) {
   const number = make('strong', 'tile-number', '–');
   const words = make('span', 'soft', '');
-  const element = address ? link('', 'tile ' + className, address) : make('div', 'tile ' + className);
-  element.append(make('span', 'tile-title', title), number, words);
-  return { element, number, words };
+  const trend = make('span', 'tile-trend');
+  const element = link('', 'tile ' + className, address);
+  element.append(make('span', 'tile-title', title), number, trend, words);
+  return { element, number, words, trend, title };
 }
 
 // A bar of the three kinds of holds, as long as its share of the largest zone.
@@ -62,7 +63,7 @@ export class Overview {
   // FAULT(fault) gives the words for what did not come.
   constructor(snapshot, faultOf) {
     Object.assign(this, { snapshot, faultOf });
-    this.since = tile('New', 'since');
+    this.since = tile('New', 'since', addressOf({ zone: ALL, tab: 'new' }));
     this.since.element.hidden = true;
     this.tiles = {
       hiper: tile('HIPER holds', 'class-hiper', addressOf({ zone: ALL, tab: 'errors', words: 'class=HIPER' })),
@@ -109,6 +110,7 @@ export class Overview {
     if (focused?.isConnected) focused.focus();
     const sum = (name) => known.reduce((all, each) => all + each.counts[name], 0);
     const zonesWith = (name) => known.filter((each) => each.counts[name] > 0).length;
+    if (known.length === this.zones.length) this.showTrends();
     for (const [name, { number, words, element }] of Object.entries(this.tiles)) {
       number.textContent = counted(sum(name));
       const toOrder = name === 'unresolved' && sum('order') > 0 ? ', ' + counted(sum('order')) + ' to order' : '';
@@ -128,7 +130,18 @@ export class Overview {
     }
     const days = this.snapshot.days.get(zone)?.counts ?? [];
     if (days.length > 1) marks.push(lineOver(days.map(([day, { holds }]) => [day, holds])));
-    return marks.length > 0 ? make('span', 'zone-marks', ...marks) : '';
+    return make('span', 'zone-marks', ...marks);
+  }
+
+  // The sums of all zones day by day, once all counts are there.
+  showTrends() {
+    const days = this.zones.map(({ zone }) => this.snapshot.days.get(zone)?.counts ?? []);
+    if (this.hasTrends || !days.every(({ length }) => length > 0)) return;
+    this.hasTrends = true;
+    for (const [name, { trend, title }] of Object.entries(this.tiles)) {
+      const sums = sumsByDay(days, name);
+      if (sums.length > 1) trend.append(lineOver(sums, title));
+    }
   }
 
   // What came and went since the last report of an earlier day, where this browser has one.
@@ -147,9 +160,9 @@ export class Overview {
 
   lineOf({ zone, sysmods, counts, fault }, most) {
     const name = link(zone, 'zone-name id', addressOf({ zone, tab: 'errors' }));
-    const head = make('div', 'zone-head', name, make('span', 'soft', several(sysmods, 'SYSMOD')), this.marksOf(zone));
+    const head = make('div', 'zone-head', name, make('span', 'soft', several(sysmods, 'SYSMOD')));
     if (fault) return [head, make('p', 'fault', fault)];
     if (!counts) return [head, make('p', 'soft', 'Asking ..')];
-    return [head, make('div', 'zone-bars', barOf(counts, most)), make('div', 'figures', ...figuresOf(zone, counts))];
+    return [head, this.marksOf(zone), make('div', 'zone-bars', barOf(counts, most)), make('div', 'figures', ...figuresOf(zone, counts))];
   }
 }

@@ -1,5 +1,7 @@
 // The page: the token, the address, and what is shown for it. The token is kept in this tab alone.
-import { at, link, make } from './make.js';
+import { at, emptyState, link, make } from './make.js';
+import { sinceWords } from './news.js';
+import { NewsView } from './newsview.js';
 import { several, timeOf } from './words.js';
 import { ALL, REPORT_OF, addressOf, whereIs } from './address.js';
 import { AllView } from './allview.js';
@@ -8,6 +10,7 @@ import { Overview } from './overview.js';
 import { ZoneView } from './zone.js';
 
 const TOKEN = 'bureau-token';
+const LISTS = { errors: 'Errors', fixes: 'Fixes', new: 'New' };
 const OLD = 7 * 86400000; // milliseconds, after which HOLDDATA is old
 let snapshot = null;
 let view = null; // what is shown: all zones, or one
@@ -110,7 +113,7 @@ async function show() {
   const where = whereIs(location.hash);
   if (where.zone && where.zone !== ALL && !snapshot.zones.some((each) => each.zone === where.zone)) {
     view = null;
-    at('main').replaceChildren(make('p', 'nothing', link('All zones', '', '#')));
+    at('main').replaceChildren(emptyState('?', 'No such zone', '', link('All zones', '', '#')));
     say('You have no zone ' + where.zone + ' on this desk.', true);
     return;
   }
@@ -121,7 +124,7 @@ async function show() {
 
 async function showOverview() {
   if (snapshot.zones.length === 0) {
-    at('main').replaceChildren(make('p', 'nothing', 'bureau-client sync sends your lists.'));
+    at('main').replaceChildren(emptyState('–', 'No zone yet', 'bureau-client sync sends your lists.'));
     say('You have no zone on this desk.');
     return;
   }
@@ -141,6 +144,7 @@ async function showAll(where) {
   const mine = snapshot;
   const waits = {};
   const name = REPORT_OF[where.tab] ?? 'errsysmods';
+  if (!(where.tab in LISTS)) where.tab = 'errors';
   document.title = 'All zones – bureau';
   view = waits;
   at('main').replaceChildren(make('p', 'soft wait', 'Asking ..'));
@@ -148,7 +152,7 @@ async function showAll(where) {
   const failed = [];
   await Promise.all(mine.zones.map(async ({ zone }) => {
     try {
-      reports.push([zone, await mine.report(zone, name)]);
+      reports.push([zone, await (where.tab === 'new' ? mine.newsOf(zone) : mine.report(zone, name))]);
     } catch (fault) {
       failed.push(zone + ': ' + faultOf(fault));
     }
@@ -156,17 +160,32 @@ async function showAll(where) {
   if (view !== waits) return;
   const order = (each) => mine.zones.findIndex(({ zone }) => zone === each[0]);
   reports.sort((one, other) => order(one) - order(other));
-  view = new AllView(name, reports, where.words, name === 'errsysmods' ? mine.symptoms : null, {
+  view = where.tab === 'new' ? newsOfAll(reports, mine.day) : new AllView(name, reports, where.words, name === 'errsysmods' ? mine.symptoms : null, {
     choose: (hold) => WAYS.go({ zone: hold.zones[0], tab: where.tab, sysmod: hold.best.id || undefined, words: 'text=' + hold.reason }),
     changed: (words) => WAYS.replace({ ...where, words }),
     say,
   });
-  const other = where.tab === 'fixes' ? 'errors' : 'fixes';
-  const head = make('div', 'zone-title', link('Zones', 'back', '#', 'All zones'), make('h1', '', where.tab === 'fixes' ? 'Fixes of all zones' : 'Errors of all zones'),
-    link(other === 'fixes' ? 'Fixes' : 'Errors', '', addressOf({ zone: ALL, tab: other })));
+  const tabs = Object.entries(LISTS).map(([tab, title]) => {
+    const made = link(title, 'tab', addressOf({ zone: ALL, tab }));
+    if (tab === where.tab) made.setAttribute('aria-current', 'page');
+    return made;
+  });
+  const head = make('div', 'zone-title', link('Zones', 'back', '#', 'All zones'), make('h1', '', LISTS[where.tab] + ' of all zones'), make('nav', 'tabs', ...tabs));
   at('main').replaceChildren(make('div', 'zone-view', head, make('div', 'tab-body', view.element)));
-  view.table.draw(0);
+  view.table?.draw(0);
   say(failed.join(' '), failed.length > 0);
+}
+
+// What came, went or changed in all zones. NEWS are [zone, {since, changes}], or null for a zone of which this browser has kept nothing.
+function newsOfAll(news, today) {
+  const known = news.filter(([, told]) => told !== null);
+  if (known.length === 0) return { element: emptyState('–', 'Nothing is known yet', 'This browser has no report of an earlier day. From tomorrow on it tells what is new.') };
+  const since = known.map(([, told]) => told.since).sort()[0];
+  const changes = known.flatMap(([zone, told]) => told.changes.map((change) => ({ ...change, zone })));
+  return new NewsView('', sinceWords(since, today), changes, {
+    choose: (sysmod, isEntered, hold, zone) => WAYS.go({ zone, tab: 'new', sysmod: sysmod === '-' ? undefined : sysmod }),
+    say,
+  });
 }
 
 async function showZone(where) {

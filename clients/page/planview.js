@@ -1,5 +1,5 @@
 // A zone's plan: what to install, in which order, why, and what to heed; and what is left over.
-import { make, orderBadge, receivedMark } from './make.js';
+import { emptyState, make, orderBadge, receivedMark } from './make.js';
 import { counted, several } from './words.js';
 import { Filters } from './filters.js';
 import { planRows } from './plan.js';
@@ -144,7 +144,7 @@ export class PlanView {
     this.element = make('div', 'report plan', bar,
       leftOver('Held', 'all resolvers can’t be installed now, and why', plan.held.map(heldWords)),
       leftOver('No resolver', 'nothing that is published resolves these', unresolved(plan, name === 'errsysmods' ? snapshot.symptoms : null)),
-      ...(isAny ? [filters, this.table.element] : []));
+      ...(isAny ? [filters, this.table.element] : [emptyState(plan.held.length + plan.unresolved.length > 0 ? '–' : '✓', 'Nothing to install', '')]));
     this.show();
   }
 
@@ -163,6 +163,7 @@ export class PlanView {
     this.table.name(this.title + (this.filters.shown ? ', only ' + this.filters.shown : ''));
     this.table.show(shown);
     this.note.hidden = shown.length === this.groups.length;
+    this.filters.count.hidden = this.note.hidden; // the bar above has the number of all
     this.nothing.hidden = shown.length > 0;
   }
 }

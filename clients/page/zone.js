@@ -1,5 +1,5 @@
 // One zone: its errors, its fixes and its plan as tabs, and the chain beside them.
-import { button, link, make, painted } from './make.js';
+import { button, emptyState, link, make, painted } from './make.js';
 import { counted, several } from './words.js';
 import { REPORT_OF, addressOf } from './address.js';
 import { Accepted, NoAccepted } from './accepted.js';
@@ -14,12 +14,12 @@ import { NoSymptoms, Symptoms } from './symptoms.js';
 const TITLES = { errors: 'Errors', fixes: 'Fixes', plan: 'Plan', new: 'New' };
 
 // Why a report has no rows, as far as the desk tells. It does not tell the categories.
-function emptyWords(tab, { level, zones }, zone) {
-  if (level.sysmods === 0 && level.holds === 0) return 'Nothing is published yet, so there is nothing to report.';
-  if (level.holds === 0) return 'No hold is published yet, so there is nothing to report.';
-  if (zones.some((each) => each.zone === zone && each.sysmods === 0)) return 'This zone has no SYSMOD: its list is empty.';
-  if (tab === 'errors') return 'Nothing is wrong: no installed SYSMOD of this zone is held in error.';
-  return 'No fix is missing, or no fix categories are set for this zone: the desk does not tell which.';
+function whyEmpty(tab, { level, zones }, zone) {
+  if (level.sysmods === 0 && level.holds === 0) return emptyState('–', 'Nothing to report', 'Nothing is published yet, so there is nothing to report.');
+  if (level.holds === 0) return emptyState('–', 'Nothing to report', 'No hold is published yet, so there is nothing to report.');
+  if (zones.some((each) => each.zone === zone && each.sysmods === 0)) return emptyState('–', 'No SYSMOD', 'This zone has no SYSMOD: its list is empty.');
+  if (tab === 'errors') return emptyState('✓', 'All clear', 'Nothing is wrong: no installed SYSMOD of this zone is held in error.');
+  return emptyState('✓', 'No fix is missing', 'No fix is missing, or no fix categories are set for this zone: the desk does not tell which.');
 }
 
 export class ZoneView {
@@ -157,7 +157,7 @@ export class ZoneView {
       const report = await this.snapshot.report(this.zone, name);
       if (report.holds.length === 0) {
         this.view = {};
-        return [make('p', 'nothing', emptyWords(where.tab, this.snapshot, this.zone))];
+        return [whyEmpty(where.tab, this.snapshot, this.zone)];
       }
       const symptoms = name === 'errsysmods' ? this.snapshot.symptoms : null;
       this.view = new HoldsView(name, this.zone, report, where.words, symptoms, this.snapshot.accepted, {
@@ -182,8 +182,10 @@ export class ZoneView {
 
   async date(view, name) {
     await painted();
-    const dates = await this.snapshot.dates(this.zone, name).catch(() => new Map());
-    if (this.view === view) view.date(dates);
+    const [dates, news] = await Promise.all([
+      this.snapshot.dates(this.zone, name).catch(() => new Map()), this.snapshot.newsOf(this.zone).catch(() => null),
+    ]);
+    if (this.view === view) view.date(dates, news && { ...news, since: sinceWords(news.since, this.snapshot.day) });
   }
 
   async classify(view, name) {
@@ -227,7 +229,8 @@ export class ZoneView {
       const news = await this.snapshot.newsOf(this.zone);
       if (news === null) {
         this.view = {};
-        return [make('p', 'nothing', 'This browser has no report of an earlier day on this zone. From tomorrow on it tells what is new.')];
+        const words = 'This browser has no report of an earlier day on this zone. From tomorrow on it tells what is new.';
+        return [emptyState('–', 'Nothing is known yet', words)];
       }
       this.view = new NewsView(this.zone, sinceWords(news.since, this.snapshot.day), news.changes, {
         choose: (sysmod, isEntered, hold) => {
@@ -246,7 +249,7 @@ export class ZoneView {
       const plan = await this.snapshot.plan(this.zone, this.plan);
       if (plan === null) {
         this.view = {};
-        return [make('p', 'nothing', 'This desk has no plans.')];
+        return [emptyState('–', 'No plan', 'This desk has no plans.')];
       }
       const choice = (name, title) => {
         const made = button(title, 'chip', () => {
@@ -273,7 +276,8 @@ export class ZoneView {
       const chips = make('div', 'chips plan-of', ...choices);
       chips.setAttribute('role', 'group');
       chips.setAttribute('aria-label', 'Plan for');
-      return [chips, this.view.element];
+      this.view.element.querySelector('.bar').prepend(chips);
+      return [this.view.element];
     });
   }
 
