@@ -28,7 +28,10 @@ ERRORS = [
 NAMES = ("fmid", "sysmod", "reason", "resolver", "status", "received", "class", "date")
 FIXES = [{"category": MARKED, "sysmod": "HBB77E0", "reason": "AA5", "resolver": "UB5", "status": "GOOD", "received": False, "date": None}]
 SYMPTOMS = "SYSMOD,REASON,DATE,CHGDT,SYMP,FIX\nUA3,AA3,25001,,PRV,UB9\n"
-MEMBER = {"fmids": ["HBB77E0"], "id": "UB3", "needed_by": [], "holds": [{"sysmod": "UA2", "reason": "AA2"}], "received": True, "step": 1, "system": ["IPL"], "user": []}
+MEMBER = {
+    "fmids": ["HBB77E0"], "holds": [{"sysmod": "UA2", "reason": "AA2"}], "id": "UB3", "needed_by": [], "received": True, "step": 1,
+    "system": ["IPL"], "user": [],
+}
 FAKE = """import json
 class Cell: value = data_type = None
 class Width: width = 0
@@ -46,7 +49,16 @@ class Workbook:
 """
 
 
-def stand(with_front=True, with_plans=True):
+# A Python that has openpyxl, if there is one.
+PYTHONS = (sys.executable, "/usr/bin/python3")
+PYTHON = next((each for each in PYTHONS if not subprocess.run([each, "-c", "import openpyxl"], capture_output=True).returncode), None)
+READ = """import json, openpyxl, sys
+book = openpyxl.load_workbook(sys.argv[1])
+print(json.dumps({sheet.title: [[cell.value for cell in row] for row in sheet.iter_rows()] for sheet in book}))
+"""
+
+
+def stand(with_front=True, with_plans=True, python=None):
     """A desk with the zones TGT1, which has holds, and T@2, which has none."""
     desk = StandIn()
     front = {"/page/": "<title>bureau</title>", "/page/symptoms.csv": SYMPTOMS, "/page/publication.json": '{"newest": "2025-11-26", "number": 7}'}
@@ -60,7 +72,7 @@ def stand(with_front=True, with_plans=True):
     answers.update(front if with_front else {})
     changes = {"DELETE /zones/A": (409, b"GAP LAST 0\n"), "PUT /received": (200, b"RECEIVED ROWS 0\n")}
     desk.reply = lambda first: changes.get(first.rpartition(" ")[0]) or answers.get(first.split()[1], "").encode() or (404, b"NOT FOUND\n")
-    return Client("http://127.0.0.1:%d" % desk.port, NORTH)
+    return Client("http://127.0.0.1:%d" % desk.port, NORTH, python)
 
 
 class Page(html.parser.HTMLParser):
@@ -175,6 +187,16 @@ class Reports(unittest.TestCase):
         self.assertEqual(list(book), ["Overview", "Holds", "Plans"])
         self.assertEqual({kind for sheet in book.values() for _, _, value, kind in sheet if isinstance(value, str)}, {"s"})
         self.assertEqual(max(row for row, *_ in book["Holds"]), 1 + len(ERRORS) + len(FIXES))
+
+    @unittest.skipUnless(PYTHON, "openpyxl is not there")
+    def test_a_workbook_that_is_one(self):
+        """openpyxl reads what it wrote: the rows of the CSV, and counts as numbers."""
+        client, path = stand(python=PYTHON), folder() + "/a.xlsx"
+        self.assertEqual(client.run("report", "--xlsx", path), (0, "", ""))
+        book = json.loads(subprocess.run([PYTHON, "-c", READ, path], capture_output=True, text=True).stdout)
+        self.assertEqual([[each or "" for each in row] for row in book["Holds"]], list(csv.reader(io.StringIO(client.run("report", "--csv")[1]))))
+        self.assertEqual(book["Overview"][2][:3], ["TGT1", 4, 4])
+        self.assertEqual(book["Plans"][1][:4], ["error", "TGT1", "1", "UB3"])
 
     def test_without_a_library(self):
         """Without openpyxl there is CSV, and that is said."""

@@ -17,7 +17,8 @@ TOP = os.path.dirname(os.path.dirname(os.path.abspath(__file__)))
 sys.path.insert(0, os.path.join(TOP, "clients"))
 sys.dont_write_bytecode = True
 
-from bureau_client import changes, desk, faults, holddata, jobs, lists, reports, run, statements, words, zone_csv
+from bureau_client import changes, desk, faults, holddata, jobs, lists, reports, run, statements, zone_csv
+from bureau_client import words as command_line
 
 
 class Checksums(unittest.TestCase):
@@ -332,7 +333,7 @@ class Completion(unittest.TestCase):
         return done.stdout.split()
 
     def test_commands(self):
-        self.assertEqual(set(self.of("")), {"help", *(each for each in words.COMMANDS if " " not in each)})
+        self.assertEqual(set(self.of("")), {"help", *(each for each in command_line.COMMANDS if " " not in each)})
         self.assertEqual(self.of("err"), ["errsysmods"])
         self.assertEqual(self.of("--csv", "overv"), ["overview"])
 
@@ -341,9 +342,9 @@ class Completion(unittest.TestCase):
         self.assertEqual(self.of("errsysmods", "--a"), ["--all", "--alert"])
         self.assertEqual(self.of("zone", "--"), ["--to"])
         self.assertEqual(self.of("fault", "--"), [])
-        for command in (each for each in words.COMMANDS if " " not in each):
+        for command in (each for each in command_line.COMMANDS if " " not in each):
             for option in self.of(command, "--"):
-                self.assertTrue(option == "--to" or option[2:] in words.COMMANDS[command][2].split(), (command, option))
+                self.assertTrue(option == "--to" or option[2:] in command_line.COMMANDS[command][2].split(), (command, option))
 
     def test_zones_and_files(self):
         """Zones are those whose lists were sent from here."""

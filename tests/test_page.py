@@ -348,7 +348,8 @@ def news(browser, front, publisher):
     picture(browser, "news-zones")
     click(browser, ".tile.since")
     browser.until("document.querySelector('.news.of-zones tbody tr.first')")
-    same("the tile leads to what is new in all zones", (browser.run("location.hash"), [row[:2] for row in lines(browser)]), ("#*/new", [["came", "MVSPROD"], ["changed", "MVSPROD"], ["came", "MVSPROD"]]))
+    rows = [["came", "MVSPROD"], ["changed", "MVSPROD"], ["came", "MVSPROD"]]
+    same("the tile leads to what is new in all zones", (browser.run("location.hash"), [row[:2] for row in lines(browser)]), ("#*/new", rows))
     click(browser, "tbody tr.first")
     browser.until("location.hash === '#MVSPROD/new'")
     go(browser, "#MVSPROD/errors")

@@ -27,7 +27,8 @@ with open(PLACE + "/package.json", "w") as package:
 FACTS = """
 const report = (...holds) => ({ holds: holds.map(([sysmod, reason, name, ...ids]) =>
     ({ sysmod, reason, class: name, resolvers: ids.map((id) => ({ id })) })) });
-const reports = [report(['UA1', 'AA1', 'HIPER', 'UB1', 'UB2'], ['UA2', 'AA2', 'PE', 'UB2'], ['UA3', 'AA3', 'PE', 'UB3']), report(['HBB7790', 'AA9', '', 'UB3'])];
+const errors = report(['UA1', 'AA1', 'HIPER', 'UB1', 'UB2'], ['UA2', 'AA2', 'PE', 'UB2'], ['UA3', 'AA3', 'PE', 'UB3']);
+const reports = [errors, report(['HBB7790', 'AA9', '', 'UB3'])];
 const member = (id, system = [], user = []) => ({ id, system, user });
 const chain = (sysmod, ...plan) => ({ sysmod, zone: 'TGT1', status: 'GOOD', plan });
 const CHAINS = {
@@ -66,7 +67,8 @@ class Chosen(unittest.TestCase):
         """An address names several with a + between them, and leads back to them."""
         address = "#TGT1/errors/UB1+U@#$?class=HIPER"
         told = in_node("""const address = addressOf({ zone: 'TGT1', tab: 'errors', sysmod: 'UB1+U@#$', words: 'class=HIPER' });
-            const { sysmod } = whereIs(address); tell([address, sysmod, chosenIn(sysmod), chosenIn('UB1'), chosenIn(''), chosenIn('UB1+'), chosenIn('UB1+U/1')]);""")
+            const { sysmod } = whereIs(address);
+            tell([address, sysmod, chosenIn(sysmod), chosenIn('UB1'), chosenIn(''), chosenIn('UB1+'), chosenIn('UB1+U/1')]);""")
         self.assertEqual(told, [address.replace("@#$", "%40%23%24"), "UB1+U@#$", ["UB1", "U@#$"], None, None, None, None])
 
 
@@ -79,10 +81,12 @@ class Sums(unittest.TestCase):
 
     def test_what_comes_first(self):
         """That about which something can be done, then what is held, then what nothing resolves, and then what is accepted."""
-        told = in_node("""const hold = (id, classRank, status, more) => ({ sysmod: id, reason: '', classRank, status, rank: { GOOD: 0, HELD: 2, none: 6 }[status], order: 0, ...more });
-            const holds = [hold('A', 0, 'none'), hold('B', 1, 'HELD'), hold('C', 0, 'HELD'), hold('D', 2, 'GOOD'), hold('E', 0, 'GOOD', { accepted: {} }),
-                hold('F', 0, 'GOOD'), hold('G', 0, 'none', { fix: 'U1' })];
-            tell([undefined, { fixOf: ({ fix }) => fix }].map((symptoms) => [...holds].sort(byUrgency(symptoms)).map(({ sysmod }) => sysmod).join('')));""")
+        told = in_node("""const RANKS = { GOOD: 0, HELD: 2, none: 6 };
+            const hold = (id, classRank, status, more) => ({ sysmod: id, reason: '', classRank, status, rank: RANKS[status], order: 0, ...more });
+            const holds = [hold('A', 0, 'none'), hold('B', 1, 'HELD'), hold('C', 0, 'HELD'), hold('D', 2, 'GOOD'),
+                hold('E', 0, 'GOOD', { accepted: {} }), hold('F', 0, 'GOOD'), hold('G', 0, 'none', { fix: 'U1' })];
+            const ids = (symptoms) => [...holds].sort(byUrgency(symptoms)).map(({ sysmod }) => sysmod).join('');
+            tell([ids(undefined), ids({ fixOf: ({ fix }) => fix })]);""")
         self.assertEqual(told, ["FDCBAGE", "FGDCBAE"])
 
 

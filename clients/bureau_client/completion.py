@@ -25,9 +25,10 @@ _bureau_client() {
     mapfile -t COMPREPLY < <(compgen -W "$options" -- "$word")
     return
   fi
-  COMPREPLY=()
   # the zones whose lists were sent from here
-  [[ $kinds != *ZONE* ]] || mapfile -t COMPREPLY < <(compgen -W "$(cd "${BUREAU_HOME:-$HOME/.bureau}" 2>/dev/null && find desks/*/sent/zones -type f -printf '%%f ' 2>/dev/null)" -- "$word")
+  local zones=""
+  [[ $kinds != *ZONE* ]] || zones=$(cd "${BUREAU_HOME:-$HOME/.bureau}" 2>/dev/null && find desks/*/sent/zones -type f -printf '%%f ' 2>/dev/null)
+  mapfile -t COMPREPLY < <(compgen -W "$zones" -- "$word")
   [[ $kinds != *F* ]] || mapfile -t -O "${#COMPREPLY[@]}" COMPREPLY < <(compgen -f -- "$word")
 }
 complete -o filenames -F _bureau_client bureau-client

@@ -9,11 +9,13 @@ STYLE = """
   --good: #0a6b2d; --held: #a14400; --none: #8a1c7c; --order: #1a4f9c; --hiper: #b3161b; --pe: #9a4a00; --other: #47546b; }
 @media (prefers-color-scheme: dark) { :root { --back: #0f141b; --card: #181f29; --text: #e4e9f0; --soft: #9aa6b8; --line: #2c3644;
   --accent: #7ab8ff; --good: #7fdca0; --held: #ffb27a; --none: #f0a3e6; --order: #9cc4ff; --hiper: #ff9c9c; --pe: #ffbe7d; --other: #b7c3d6; } }
-body { font: 15px/1.45 system-ui, "Segoe UI", "DejaVu Sans", sans-serif; background: var(--back); color: var(--text); margin: 0 auto; max-width: 72rem; padding: 1rem; }
+body { font: 15px/1.45 system-ui, "Segoe UI", "DejaVu Sans", sans-serif; background: var(--back); color: var(--text);
+  margin: 0 auto; max-width: 72rem; padding: 1rem; }
 h1 { font-size: 1.5rem; margin: 0; } h2 { font-size: 1.25rem; margin: 2rem 0 .25rem; } h3 { font-size: 1rem; margin: 1.25rem 0 .5rem; }
 p { margin: .25rem 0; } a { color: var(--accent); } .soft { color: var(--soft); } .id { font-family: ui-monospace, "DejaVu Sans Mono", monospace; }
 .scroll { overflow-x: auto; } table { border-collapse: collapse; width: 100%; background: var(--card); border: 1px solid var(--line); }
-th, td { text-align: left; vertical-align: top; padding: .3rem .6rem; border-top: 1px solid var(--line); } th { color: var(--soft); font-weight: 600; white-space: nowrap; }
+th, td { text-align: left; vertical-align: top; padding: .3rem .6rem; border-top: 1px solid var(--line); }
+th { color: var(--soft); font-weight: 600; white-space: nowrap; }
 td.number, .counts th + th { text-align: right; font-variant-numeric: tabular-nums; } tr.accepted { color: var(--soft); }
 b.mark { white-space: nowrap; } .good { color: var(--good); } .held { color: var(--held); } .none { color: var(--none); } .order { color: var(--order); }
 .hiper { color: var(--hiper); } .pe { color: var(--pe); } .other { color: var(--other); } .heed { color: var(--held); font-weight: 600; }

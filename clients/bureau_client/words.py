@@ -46,7 +46,11 @@ LOCAL = {
 COMMANDS = {**QUESTIONS, **CHANGES, **LOCAL}
 # The options in the order in which they are refused, with whether a word comes after each.
 OF_A_JOB = {"jcl": True, "order": False, "holdclass": True, "retry": False, "apply": False}
-OPTIONS = {**OF_A_JOB, "zones": True, "html": False, "mail": True, "xlsx": True, "csv": False, "all": False, "fixes": False, "alert": True, "since": True, "symptoms": True, "published": True, "to": True}
+OF_A_REPORT = {"html": False, "mail": True, "xlsx": True}
+OPTIONS = {
+    **OF_A_JOB, **OF_A_REPORT, "zones": True, "csv": False,
+    "all": False, "fixes": False, "alert": True, "since": True, "symptoms": True, "published": True, "to": True,
+}
 
 
 class Words:
