@@ -45,6 +45,12 @@ class Zone:
             first, heading, rows = "MISSING FIX REPORT FOR ZONE ", FIXES, self.fixes
         return "%s%s\n%s%sROWS %d\n" % (first, self.name, heading, "".join(row + "\n" for row in rows), len(rows))
 
+    def dates(self, report):
+        """The dates of the holds, as far as the page asks for them as JSON."""
+        held = [hold[:2] for hold, _ in self.holds] if report == "errsysmods" else [("HBB77E0", row[75:84].strip()) for row in self.fixes]
+        rows = [{"date": "2025-06-%02d" % (at % 28 + 1), "reason": reason, "sysmod": sysmod} for at, (sysmod, reason) in enumerate(held)]
+        return {"report": report, "rows": rows, "zone": self.name}
+
     def plan(self, report):
         """Each hold's first GOOD resolver, and one more that the first one needs."""
         members, held, resolved, unresolved, blocked = [], [], [], [], {}
@@ -99,6 +105,8 @@ class DrawnDesk:
         zone = self.zones.get(parts[1]) if parts[0] == "zones" and len(parts) > 2 else None
         if zone and parts[2:] in (["errsysmods"], ["missingfix"]):
             return zone.report(parts[2]).encode()
+        if zone and parts[2:] in (["errsysmods.json"], ["missingfix.json"]):
+            return json.dumps(zone.dates(parts[2].removesuffix(".json")), separators=(",", ":")).encode()
         if zone and len(parts) == 4 and parts[3] == "plan.json" and self.with_plans:
             return json.dumps(zone.plan(parts[2]), separators=(",", ":")).encode()
         if zone and len(parts) == 4 and parts[2] == "chains":

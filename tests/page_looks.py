@@ -69,12 +69,15 @@ def looks(browser):
     """Dark, a phone, paper."""
     targets(browser)
     # 721 is the narrowest with tables, and 1201 with the chain beside them
-    for width, height in ((320, 640), (390, 844), (721, 900), (768, 1024), (1000, 800), (1201, 800), (1400, 900)):
+    for width, height in ((320, 640), (390, 844), (721, 900), (768, 1024), (1000, 800), (1201, 800), (1240, 800), (1400, 900)):
         browser.size(width, height)
         for address in ("#", "#LARGE/errors", "#LARGE/fixes", "#LARGE/plan"):
             go(browser, address)
             browser.until("document.querySelector('tbody tr.first, .figures')")
+            browser.until("!document.querySelector('td.of-date') || document.querySelector('td.of-date').textContent")
             check("nothing is wider than %d pixels: %s" % (width, address), not is_wide(browser), browser.run("document.documentElement.scrollWidth"))
+            beyond = "(frame => frame ? frame.scrollWidth - frame.clientWidth : 0)(document.querySelector('.scroll'))"
+            same("nor does a table scroll sideways at %d pixels: %s" % (width, address), browser.run(beyond), 0)
             same("nothing in a line is cut at %d pixels: %s" % (width, address), sorted(set(browser.run(CUT))), [])
             picture(browser, "%s-%d" % (address.strip("#").replace("/", "-") or "zones", width))
         right = "document.querySelector('.split').getBoundingClientRect().right"

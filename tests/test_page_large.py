@@ -177,6 +177,7 @@ def groups(browser):
     same("with the best resolver", [row[4:] for row in lines(browser)], wanted[:1])
     click(browser, ".opener")
     same("opened", [row[4:] for row in lines(browser)], wanted)
+    check("each hold has its date", browser.until("document.querySelector('tbody tr.first .of-date').innerText.startsWith('2025-06-')"))
     same("the hold stands once", [row[1] for row in lines(browser)], [hold[0]] + [""] * (len(found) - 1))
     click(browser, ".opener")
     same("and closed", len(lines(browser)), 1)
@@ -429,7 +430,7 @@ def main():
     desk = StandIn()
     desk.reply = DrawnDesk(ZONES)
     for zone in ZONES:
-        for path in ("errsysmods", "missingfix", "errsysmods/plan.json"):
+        for path in ("errsysmods", "missingfix", "errsysmods.json", "missingfix.json", "errsysmods/plan.json"):
             desk.reply("GET /zones/%s/%s HTTP/1.1" % (zone.name.replace("#", "%23").replace("@", "%40").replace("$", "%24"), path))
     # without TLS, since Chromium takes the certificate of a trial for none
     front = Front([desk.port, desk.port], {NORTH: 1}, plain=True)

@@ -10,7 +10,7 @@ import { Overview } from './overview.js';
 import { ZoneView } from './zone.js';
 
 const TOKEN = 'bureau-token';
-const LISTS = { errors: 'Errors', fixes: 'Fixes', new: 'New' };
+const LISTS = { errors: ['Errors', 'Errors of all zones'], fixes: ['Fixes', 'Fixes of all zones'], new: ['New', 'What is new in all zones'] };
 const OLD = 7 * 86400000; // milliseconds, after which HOLDDATA is old
 let snapshot = null;
 let view = null; // what is shown: all zones, or one
@@ -165,12 +165,12 @@ async function showAll(where) {
     changed: (words) => WAYS.replace({ ...where, words }),
     say,
   });
-  const tabs = Object.entries(LISTS).map(([tab, title]) => {
+  const tabs = Object.entries(LISTS).map(([tab, [title]]) => {
     const made = link(title, 'tab', addressOf({ zone: ALL, tab }));
     if (tab === where.tab) made.setAttribute('aria-current', 'page');
     return made;
   });
-  const head = make('div', 'zone-title', link('Zones', 'back', '#', 'All zones'), make('h1', '', LISTS[where.tab] + ' of all zones'), make('nav', 'tabs', ...tabs));
+  const head = make('div', 'zone-title', link('Zones', 'back', '#', 'All zones'), make('h1', '', LISTS[where.tab][1]), make('nav', 'tabs', ...tabs));
   at('main').replaceChildren(make('div', 'zone-view', head, make('div', 'tab-body', view.element)));
   view.table?.draw(0);
   say(failed.join(' '), failed.length > 0);
