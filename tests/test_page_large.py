@@ -40,6 +40,17 @@ YARDSTICK = """(async () => {
     table.remove();
     return performance.now() - began;
 })()""" % NORTH
+# The report that the browser has kept of LARGE becomes one of yesterday which lacks each tenth row; and what it has kept goes.
+KEPT = """new Promise(done => { const opening = indexedDB.open('bureau', 1); opening.onsuccess = () => {
+    const store = opening.result.transaction('zones', 'readwrite').objectStore('zones'), keys = store.getAllKeys();
+    %s }; })"""
+A_DAY_AGO = KEPT % """keys.onsuccess = () => keys.result.filter(key => key.endsWith(' LARGE')).forEach(key => {
+        const got = store.get(key); got.onsuccess = () => { const kept = got.result, lines = kept.errors.split('\\n');
+            const rows = lines.slice(2, -2).filter((_, at) => at % 10);
+            kept.errors = [...lines.slice(0, 2), ...rows, 'ROWS ' + rows.length, ''].join('\\n');
+            kept.day = new Date(Date.now() - 86400000).toLocaleString('sv-SE').slice(0, 10);
+            store.put(kept, key).onsuccess = () => done(true); }; });"""
+FORGET = KEPT % "store.clear().onsuccess = () => done(true);"
 TIMES = 1.75  # how many times as long each step may take, where the machine is so busy that this is over 300 ms
 
 
@@ -97,7 +108,9 @@ def speed(browser):
             "[...document.querySelectorAll('tbody tr.first')].some(r => r.getAttribute('aria-rowindex') > 2000 && r.getBoundingClientRect().top > 300)",
         ),
         "the plan": ("location.hash = '#LARGE/plan'", "document.querySelector('.plan tbody tr.first')"),
+        "what is new": ("location.hash = '#LARGE/new'", "document.querySelector('.news tbody tr.first')"),
     }
+    check("a report of yesterday is kept", browser.run(A_DAY_AGO))
     for slower in (1, 4):
         browser.call("Emulation.setCPUThrottlingRate", rate=slower)
         best, yardstick = {}, 1e9
@@ -116,6 +129,13 @@ def speed(browser):
         same("all within %d ms, %d times slower" % (most, slower), {name: took for name, took in best.items() if took > most}, {})
     browser.call("Emulation.setCPUThrottlingRate", rate=1)
     check("only what is seen is drawn", browser.run("document.querySelectorAll('tbody tr').length") < 120)
+    go(browser, "#LARGE/errors?news=came")
+    check("what is new is marked", browser.until("document.querySelector('tr.first .news-mark.is-came')"))
+    check("and no row else is shown", number(browser) > 100 and browser.run("document.querySelectorAll('tr.first:not(:has(.news-mark))').length") == 0)
+    browser.run(FORGET)
+    click(browser, "#again")
+    go(browser, "#LARGE/errors")
+    browser.until("document.querySelector('tbody tr.first')")
 
 
 def filters(browser):
