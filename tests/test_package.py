@@ -261,7 +261,7 @@ if debs:
     unit = root + "/lib/systemd/system/bureau.service"
     same("the unit is installed", read(unit), read(TOP + "/deploy/bureau.service"))
     units = [TOP + "/deploy/bureau-report" + kind for kind in (".timer", ".service")]
-    run = subprocess.run(["systemd-analyze", "verify", "--user", "--man=no", *units], capture_output=True, text=True)
+    run = subprocess.run(["systemd-analyze", "verify", "--man=no", *units], capture_output=True, text=True)
     check("systemd reads the units of the report", run.returncode == 0 and "bureau-report" not in run.stderr, run.stderr)
     completion = read(root + "/usr/share/bash-completion/completions/bureau-client")
     check("what bash completes is there", b"complete -o filenames -F _bureau_client bureau-client" in completion, completion)
