@@ -220,7 +220,7 @@ def chosen(browser, front, north):
     shows(browser, "UJ92005 can be installed by itself.", ".beside")
     same("one is left", browser.run("location.hash"), "#MVSPROD/fixes/UJ92005")
     go(browser, "#MVSPROD/errors/UJ92003+UJ92002")
-    shows(browser, "UJ92002 can't be installed: AJ64002 is in the way.", ".left-out")
+    shows(browser, "UJ92002 can’t be installed: AJ64002 is in the way.", ".left-out")
     click(browser, ".choice-bar .plain")
     same("none", browser.run("location.hash"), "#MVSPROD/errors")
     click(browser, "#leave")

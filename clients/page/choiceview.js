@@ -43,6 +43,8 @@ function why({ holds, needed_by: needing }) {
   return needing.length > 0 ? 'needed by ' + fewOf(needing) : 'chosen';
 }
 
+const curly = (text) => text.replaceAll("'", '’'); // a job has the other sign
+
 function listOf(className, sentences) {
   return sentences.length > 0 ? make('ul', className, ...sentences.map((each) => make('li', '', each + '.'))) : '';
 }
@@ -64,7 +66,7 @@ class TogetherView {
     const text = () => jobOf(plan, titleOf(this.zone, sysmods, this.ways.age()));
     const job = { title: 'SMP/E job', name: this.zone + '-chosen.smpcntl.txt', kind: 'text/plain', text };
     this.element.replaceChildren(
-      this.chips(), make('p', 'verdict', summary(plan)), listOf('left-out', notes), listOf('left-out soft', left),
+      this.chips(), make('p', 'verdict', summary(plan)), listOf('left-out', notes.map(curly)), listOf('left-out soft', left),
       make('ul', 'members', ...boxes), ...(plan.members.length > 0 ? [saveButtons([job], this.ways.say)] : []));
   }
 
