@@ -2,6 +2,7 @@
 # Runs the tests of `connections` and of `socket_desk` in tests/connections: tests/connections.sh
 #
 # They are built over copies of the crates and run; nothing is proved of them. To prove them would take a quarter of an hour of one core.
+# The last line counts them.
 set -euo pipefail
 top=$(cd "$(dirname "$0")/.." && pwd)
 . "$top/bench/below.bash"
@@ -13,4 +14,8 @@ for file in lib tests tests/clients tests/listed tests/side_by_side; do
     cp "$top/tests/connections/$file.rt.txt" "$work/crates/connection_tests/src/$file.rt"
 done
 cd "$work/crates/connection_tests"
-rt try --test
+status=0
+rt try --test >"$work/said" 2>&1 || status=$?
+cat "$work/said"
+sed -nE 's/^test result: [^.]*\. ([0-9]+) passed; ([0-9]+) failed;.*/\1 passed, \2 failed/p' "$work/said"
+exit "$status"
