@@ -21,6 +21,7 @@ ZONE = b"SYSMOD,STATE\nHBB7790,APPLIED\nUA10001,APPLIED\n"
 RESET = struct.pack("ii", 1, 0)
 LINE = re.compile(r"(\d{4}-\d\d-\d\dT\d\d:\d\d:\d\d\.\d{3}Z) (\S+) (\S+) (\S+) (\d+) (\d+) (\d+) (\d+)")
 FAULT = re.compile(r"(\d{4}-\d\d-\d\dT\d\d:\d\d:\d\d\.\d{3}Z) - FAULT (\d+)")
+LOST = re.compile(r"(\d{4}-\d\d-\d\dT\d\d:\d\d:\d\d\.\d{3}Z) - LOST (\d+)")
 room = folder()
 callers = write(room + "/callers", CALLERS)
 
@@ -161,6 +162,39 @@ desk = Served(full, "--log")
 os.close(full)
 same("a pipe that is full", desk.told(request("GET /zones", "alpha-token") * 2000).count(b"HTTP/1.1 200 "), 2000)
 same("a pipe that is full, and the end", (desk.process.poll(), desk.end()), (None, b""))
+os.close(unread)
+# A reader that is slow gets whole lines, and is told how many were left out.
+unread, full = os.pipe()
+desk = Served(full, "--log")
+os.close(full)
+clients = [desk.connect() for _ in range(150)]
+ASKED = request("GET /zones", "alpha-token")
+for _ in range(40):
+    for client in clients:
+        client.sendall(ASKED)
+    for client in clients:
+        check("a reply beside a slow reader of the log", client.recv(65536).startswith(b"HTTP/1.1 200 "))
+for client in clients:
+    client.close()
+os.set_blocking(unread, False)
+text = b""
+for _ in range(4):
+    # the pipe is empty after the first, so the next line tells of those that were left out
+    while True:
+        try:
+            text += os.read(unread, 65536)
+        except BlockingIOError:
+            break
+    desk.told(ASKED)
+desk.end()
+text += os.read(unread, 65536)
+lines = text.decode("ascii").split("\n")
+same("the last line for a slow reader is whole", lines.pop(), "")
+lost = [int(LOST.fullmatch(line).group(2)) for line in lines if LOST.fullmatch(line)]
+whole = sum(bool(LINE.fullmatch(line)) for line in lines)
+same("no line for a slow reader is torn", [line for line in lines if not LINE.fullmatch(line) and not LOST.fullmatch(line)], [])
+check("some lines are left out for a slow reader", lost)
+same("lines for a slow reader, with those that were left out", whole + sum(lost), 150 * 40 + 4)
 os.close(unread)
 # Where it is closed, another file may have its descriptor: no line may come into the store.
 command = command_of(callers, 0)

@@ -2,7 +2,7 @@
 use Rattle.std.proofs.Common.{◌≡◌, [], codes, refl}
 use Rattle.std.specs.Fmt.{digits}
 use Rattle.httpdate.specs.declared.parts.Parts.{Parts}
-use Rattle.log_lines.specs.Lines.{fault_text, request_text}
+use Rattle.log_lines.specs.Lines.{fault_text, lost_text, request_text}
 use Rattle.log_lines.specs.Stamps.{stamp_text}
 use Rattle.log_lines.specs.Words.{word_of}
 use Rattle.log_lines.specs.declared.note.Note.{Note}
@@ -27,6 +27,10 @@ report = record { caller = codes "NORTH"; method = codes "GET"; path = codes "/z
 report_told : request_text (codes "1994-11-06T08:49:37.007Z") report 0 ≡ codes "1994-11-06T08:49:37.007Z NORTH GET /zones/TGT1 404 71 120 0\n"
 unfolding digits
 report_told = refl
+
+lost_told : lost_text (codes "2026-11-28T08:15:09.002Z") 17 ≡ codes "2026-11-28T08:15:09.002Z - LOST 17\n"
+unfolding digits
+lost_told = refl
 
 fault_told : fault_text (codes "1994-11-06T08:49:37.007Z") 53 ≡ codes "1994-11-06T08:49:37.007Z - FAULT 53\n"
 unfolding digits

@@ -18,6 +18,10 @@ request_text stamp note took = field stamp ++ field note.caller ++ field note.me
 abbrev pub fault_text : List ℕ → ℕ → List ℕ
 fault_text stamp number = field stamp ++ field none ++ field (codes "FAULT") ++ decimal number ++ 10 ∷ []
 
+-- the line that stands for lines that were left out: when, and how many
+abbrev pub lost_text : List ℕ → ℕ → List ℕ
+lost_text stamp count = field stamp ++ field none ++ field (codes "LOST") ++ decimal count ++ 10 ∷ []
+
 -- printed characters of ASCII and blanks
 abbrev pub ArePrinted : List ℕ → Type 0
 ArePrinted text = AllByRecursion (λ b. (32 ≤ b) × (b ≤ 126)) text

@@ -6,7 +6,7 @@
 //! - [`Word`]: a text as a line shows it
 //! - [`time_word`]: the word of a time
 //! - [`Note`]: the facts on a request; [`request_line`]: its line
-//! - [`fault_line`]: the line of a connection that failed
+//! - [`fault_line`]: the line of a connection that failed; [`lost_line`]: that of lines which were left out
 //! - [`Line`]: a line, with its line end
 //!
 //! ```
@@ -32,7 +32,7 @@ mod note;
 mod stamp;
 mod word;
 
-pub use line::{Line, fault_line, request_line};
+pub use line::{Line, fault_line, lost_line, request_line};
 pub use note::Note;
 pub use stamp::time_word;
 pub use word::Word;

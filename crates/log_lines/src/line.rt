@@ -1,7 +1,7 @@
 //! A line, with its line end.
 ghost use Rattle.std.specs.Prelude.{◌≡◌, ◌+◌, ◌<◌, ◌≤◌, ◌∷◌, ◌++◌, []};
 ghost use Rattle.arrayvec.specs.ArrayVec.{array_vec_len};
-ghost use Rattle.log_lines.specs.Lines.{ArePrinted, IsOneLine, fault_text, field, request_text};
+ghost use Rattle.log_lines.specs.Lines.{ArePrinted, IsOneLine, fault_text, field, lost_text, request_text};
 
 use crate::note::Note;
 use crate::word::Word;
@@ -74,6 +74,18 @@ pub fn fault_line(stamp: &Word, number: u16) -> Line
     put_field(&mut bytes, &Word::none());
     put_field(&mut bytes, &Word::printed(b"FAULT"));
     put(&mut bytes, &Word::number(u64::from(number)));
+    Line::of(bytes)
+}
+
+/// The line that stands for lines that were left out: when it was made, and how many they are.
+pub fn lost_line(stamp: &Word, count: u64) -> Line
+    ensures { result ≡ lost_text stamp.now count }
+{
+    let mut bytes = ArrayVec::new();
+    put_field(&mut bytes, stamp);
+    put_field(&mut bytes, &Word::none());
+    put_field(&mut bytes, &Word::printed(b"LOST"));
+    put(&mut bytes, &Word::number(count));
     Line::of(bytes)
 }
 

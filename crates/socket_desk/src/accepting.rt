@@ -1,5 +1,6 @@
 //! New connections: each is accepted if there is a place, or an idle one gives way to it.
 use crate::fault::LoopFault;
+use crate::moment::Moment;
 use crate::patience::Stage;
 use crate::side::{Listed, Side};
 use crate::sockets::{MOST, Sockets, stage};
@@ -7,9 +8,9 @@ use connections::{Connections, Event};
 use mio::net::TcpStream;
 use mio::{Interest, Token};
 use std::io::{self, ErrorKind};
-use std::time::{Duration, Instant};
+use std::time::Duration;
 
-// The seconds for which a connection is idle before it may give way to another: a request may be on its way.
+// How long, in seconds, a connection is idle before it may give way to another: a request may be on its way.
 const GRACE: u64 = 1;
 
 impl Sockets {
@@ -17,7 +18,7 @@ impl Sockets {
     pub(crate) fn accept(
         &mut self,
         connections: &Connections,
-        now: Instant,
+        now: Moment,
         told: &mut Vec<Event>,
     ) -> Result<(), LoopFault> {
         for _ in 0..MOST {
@@ -29,11 +30,11 @@ impl Sockets {
         Ok(())
     }
 
-    // Accepts one, if one waits and there is a place. Returns whether more may wait.
+    // Accepts one, if one waits and there is a place. Whether more may wait.
     fn accept_one(
         &mut self,
         connections: &Connections,
-        now: Instant,
+        now: Moment,
         told: &mut Vec<Event>,
     ) -> Result<bool, LoopFault> {
         if self.left == 0 {
@@ -42,36 +43,70 @@ impl Sockets {
         let Some(slot) = self.place(connections, now) else {
             return Ok(false);
         };
-        let mut stream = match self.listener.accept() {
-            Ok((stream, _)) => stream,
-            Err(error) => return Ok(is_gone(&error)),
+        match self.listener.accept() {
+            Ok((stream, _)) => self.take_in(slot, stream, now, told),
+            Err(error) if lacks_descriptor(&error) => self.accept_for_idlest(
+                connections,
+                now,
+                told,
+            ),
+            Err(error) => Ok(is_gone(&error)),
+        }
+    }
+
+    // There is no descriptor for one that waits. The connection that has been idle longest gives its own, if one may give
+    // way. Whether more may wait.
+    fn accept_for_idlest(
+        &mut self,
+        connections: &Connections,
+        now: Moment,
+        told: &mut Vec<Event>,
+    ) -> Result<bool, LoopFault> {
+        let Some(slot) = self.idlest(connections, now) else {
+            return Ok(false);
         };
+        self.end(slot, told)?;
+        match self.listener.accept() {
+            Ok((stream, _)) => self.take_in(slot, stream, now, told),
+            Err(error) => Ok(is_gone(&error)),
+        }
+    }
+
+    // A connection that was accepted takes a slot, unless the system can't tell of it. Whether more may wait: they may.
+    fn take_in(
+        &mut self,
+        slot: usize,
+        stream: TcpStream,
+        now: Moment,
+        told: &mut Vec<Event>,
+    ) -> Result<bool, LoopFault> {
+        let mut stream = stream;
         if self.register(slot, &mut stream).is_ok() {
             self.take_place(slot, stream, now, told)?;
         }
         Ok(true)
     }
 
-    // The slot of the next connection: a free one, or that of the connection that has to give way.
-    fn place(&self, connections: &Connections, now: Instant) -> Option<usize> {
+    // The slot of the next connection: a free one, or that of the connection that is to give way.
+    fn place(&self, connections: &Connections, now: Moment) -> Option<usize> {
         match self.free.last() {
             Some(slot) => Some(*slot),
             None => self.idlest(connections, now),
         }
     }
 
-    // Asks the system to tell of a socket by its slot.
+    // The system is to tell of a socket by its slot.
     fn register(&mut self, slot: usize, stream: &mut TcpStream) -> io::Result<()> {
         stream.set_nodelay(true)?;
         self.poll.registry().register(stream, Token(slot), Interest::READABLE | Interest::WRITABLE)
     }
 
-    // Puts a socket into a slot. A connection that is there gives way, so the slot is the last of the free ones.
+    // A socket takes a slot. A connection that stands there gives way, so the slot is the last of the free ones.
     fn take_place(
         &mut self,
         slot: usize,
         stream: TcpStream,
-        now: Instant,
+        now: Moment,
         told: &mut Vec<Event>,
     ) -> Result<(), LoopFault> {
         self.end(slot, told)?;
@@ -83,12 +118,12 @@ impl Sockets {
     }
 
     // The slot of the connection that has been idle longest, if one may give way.
-    fn idlest(&self, connections: &Connections, now: Instant) -> Option<usize> {
-        let mut idlest: Option<(usize, Instant)> = None;
+    fn idlest(&self, connections: &Connections, now: Moment) -> Option<usize> {
+        let mut idlest: Option<(usize, Duration)> = None;
         for (slot, side) in self.sides.iter().enumerate() {
             if let Some(side) = side {
-                if may_give_way(connections, slot, side, now) && is_before(side.heard, idlest) {
-                    idlest = Some((slot, side.heard));
+                if may_give_way(connections, slot, side, now) && is_before(side.heard.own, idlest) {
+                    idlest = Some((slot, side.heard.own));
                 }
             }
         }
@@ -99,7 +134,7 @@ impl Sockets {
     }
 }
 
-// Whether only the connection that should be accepted is gone, or the call was interrupted: then the next one is tried.
+// Whether only the connection that was to be accepted is gone, or the call was interrupted: then the next one is tried.
 fn is_gone(error: &io::Error) -> bool {
     match error.kind() {
         ErrorKind::ConnectionAborted => true,
@@ -108,17 +143,23 @@ fn is_gone(error: &io::Error) -> bool {
     }
 }
 
-// Whether a connection is idle, and not only since its request is on its way.
-fn may_give_way(connections: &Connections, slot: usize, side: &Side, now: Instant) -> bool {
-    side.list == Listed::Nowhere
-        && stage(connections, slot, side) == Stage::Idle
-        && now.saturating_duration_since(side.heard) >= Duration::from_secs(GRACE)
+// Whether there is no descriptor, or no memory of the system's, for the connection that was to be accepted: EMFILE, ENFILE,
+// ENOBUFS and ENOMEM of accept(2).
+fn lacks_descriptor(error: &io::Error) -> bool {
+    matches!(error.raw_os_error(), Some(12 | 23 | 24 | 105))
 }
 
-// Whether bytes of one came or went before those of another, if there is another.
-fn is_before(heard: Instant, other: Option<(usize, Instant)>) -> bool {
+// Whether a connection is idle, and not only since its request is on its way.
+fn may_give_way(connections: &Connections, slot: usize, side: &Side, now: Moment) -> bool {
+    side.list == Listed::Nowhere
+        && stage(connections, slot, side) == Stage::Idle
+        && now.waited(&side.heard) >= Duration::from_secs(GRACE)
+}
+
+// Whether one was heard of before another, if there is another.
+fn is_before(heard: Duration, other: Option<(usize, Duration)>) -> bool {
     match other {
-        Some((_, instant)) => heard < instant,
+        Some((_, earlier)) => heard < earlier,
         None => true,
     }
 }

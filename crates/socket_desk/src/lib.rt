@@ -16,10 +16,13 @@
 mod accepting;
 mod fault;
 mod lines;
+mod log;
+mod moment;
 mod patience;
 mod rounds;
 mod side;
 mod sockets;
+mod sweeping;
 mod transfers;
 mod visits;
 

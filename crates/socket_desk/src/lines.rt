@@ -5,45 +5,50 @@ use log_lines::{Line, Note, Word, fault_line, request_line, time_word};
 use std::alloc::Global;
 use std::time::{Clock, Duration, SystemTime};
 
-// The bytes that the lines of a round may have: for the requests that it answers, and for each slot, whose
+// How many bytes the lines of a round may have, for the requests that it answers, and for each slot, whose
 // connection may fail.
 const ROOM: usize = 32_768;
 
 const ROOM_OF_SLOT: usize = 64;
 
-/// The lines that a round has for the log, if one is kept. A line for which there is no room is left out.
+/// The lines that a round has for the log, if one is kept. A line for which there is no room is left out, and counted.
 #[derive(Drop)]
 pub(crate) struct Lines {
     text: Vec<u8>,
-    // The number of bytes that they may have.
+    // How many bytes they may have.
     room: usize,
-    // The time of the round, with which each of its lines begins.
+    // How many lines had no room.
+    lost: u64,
+    // When the round was: what each of its lines begins with.
     stamp: Word,
 }
 
 impl Lines {
-    /// The lines of a desk that keeps no log.
+    /// Those of a desk that keeps no log.
     pub(crate) fn none(alloc: Global) -> Lines {
         Lines {
             text: Vec::new(alloc),
             room: 0,
+            lost: 0,
             stamp: Word::none(),
         }
     }
 
-    /// The lines of a desk with so many slots. It takes all memory here.
+    /// Those of a desk with so many slots. All memory is taken here.
     pub(crate) fn new(alloc: Global, slots: usize) -> Result<Lines, NoMemory> {
         let room = slots.saturating_mul(ROOM_OF_SLOT).saturating_add(ROOM);
         Ok(Lines {
             text: Vec::with_capacity(alloc, room)?,
             room,
+            lost: 0,
             stamp: Word::none(),
         })
     }
 
-    /// Begins a round, which has no lines yet.
+    /// A round begins, of which nothing is told yet.
     pub(crate) fn begin<C: Clock>(&mut self, clock: &C) {
         self.text.clear();
+        self.lost = 0;
         if self.room > 0 {
             self.stamp = now(clock);
         }
@@ -54,7 +59,17 @@ impl Lines {
         self.text.as_slice()
     }
 
-    /// Adds the line of a request whose reply went out whole, so long after the request began.
+    /// How many lines had no room among them.
+    pub(crate) fn lost(&self) -> u64 {
+        self.lost
+    }
+
+    /// When the round was.
+    pub(crate) fn stamp(&self) -> &Word {
+        &self.stamp
+    }
+
+    /// The reply to a request went out whole, so long after the request began.
     pub(crate) fn request(&mut self, note: &Note, took: Duration) {
         if self.room > 0 {
             let line = request_line(&self.stamp, note, millis(took));
@@ -62,7 +77,7 @@ impl Lines {
         }
     }
 
-    /// Adds the line of a connection that failed.
+    /// A connection failed.
     pub(crate) fn fault(&mut self, fault: ConnFault) {
         if self.room > 0 {
             let line = fault_line(&self.stamp, u16::from(AnyFault::from(fault).number));
@@ -72,13 +87,15 @@ impl Lines {
 
     fn put(&mut self, line: &Line) {
         let line = line.as_slice();
-        if self.text.len().saturating_add(line.len()) <= self.room {
-            let _ = self.text.extend_from_slice(line);
+        if self.text.len().saturating_add(line.len()) > self.room
+            || self.text.extend_from_slice(line).is_err()
+        {
+            self.lost = self.lost.saturating_add(1);
         }
     }
 }
 
-// The word of the present time, or none if the system doesn't tell it.
+// The word of the time that it is, or none if the system doesn't tell it.
 fn now<C: Clock>(clock: &C) -> Word {
     let Ok(time) = SystemTime::now(clock) else {
         return Word::none();
@@ -89,7 +106,7 @@ fn now<C: Clock>(clock: &C) -> Word {
     }
 }
 
-// The milliseconds of a time.
+// How many milliseconds a time has.
 fn millis(time: Duration) -> u64 {
     time.as_secs()
         .saturating_mul(1000)

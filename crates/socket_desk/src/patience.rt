@@ -1,12 +1,11 @@
-//! The times for which the desk waits for a client.
+//! How long the desk waits for a client.
 ghost use Rattle.std.specs.Prelude.{◌≡◌};
 ghost use Rattle.std.specs.Duration.{as_nanos};
 ghost use Rattle.socket_desk.specs.Patience.{is_late, seconds};
 
 use std::time::Duration;
 
-// A head is a few hundred bytes, which any client sends at once. So this limits clients that send it byte by
-// byte.
+// A head is a few hundred bytes, which any client sends at once. So this bounds who sends one byte by byte.
 const HEAD: u64 = 20;
 
 // As long as HTTP libraries keep a connection that they may use again.
@@ -15,20 +14,23 @@ const IDLE: u64 = 60;
 // A client that sends or takes nothing for so long has gone, or is no client.
 const PAUSE: u64 = 60;
 
-// The largest body, 64 MiB, takes so long at 112 KB a second.
+// The largest body, 64 MiB, in that time is 112 KB a second.
 const WHOLE: u64 = 600;
 
 // A client that got its last reply closes its side at once.
 const CLOSING: u64 = 2;
 
-/// The stage of a connection: what the desk waits for.
+// A desk that can hear looks at its sockets each second.
+const STEP: u64 = 2;
+
+/// How far a connection has come, as far as patience goes.
 #[derive(Clone, Copy, Debug, PartialEq, Eq)]
 pub enum Stage {
     /// No request has begun.
     Idle,
     /// A head has begun, and hasn't come whole.
     Head,
-    /// A head has come, and not yet all of its body.
+    /// A head has come, and the body hasn't whole.
     Body,
     /// A reply has to go out.
     Reply,
@@ -36,7 +38,7 @@ pub enum Stage {
     Closing,
 }
 
-/// The times for which the desk waits for a client at each stage.
+/// How long the desk waits for a client at each stage.
 #[derive(Clone, Copy, Debug, PartialEq, Eq)]
 pub struct Patience {
     /// For a head, from its first byte on.
@@ -49,16 +51,21 @@ pub struct Patience {
     pub whole: Duration,
     /// For the client to end its side, once the desk has ended its own.
     pub closing: Duration,
+    /// The most that counts between two looks at the sockets: in a longer time the desk was stopped, or busy with one call,
+    /// and could not hear its clients.
+    pub step: Duration,
 }
 
 impl Patience {
-    /// 20 seconds for a head, 60 while idle, 60 in a pause, ten minutes for a request, and 2 seconds to end.
+    /// 20 seconds for a head, 60 while idle, 60 in a pause, ten minutes for a request, and 2 seconds to end. Between two
+    /// looks 2 seconds count at most.
     pub fn usual() -> Patience
         ensures head { as_nanos result.head ≡ seconds 20 }
         ensures idle { as_nanos result.idle ≡ seconds 60 }
         ensures pause { as_nanos result.pause ≡ seconds 60 }
         ensures whole { as_nanos result.whole ≡ seconds 600 }
         ensures closing { as_nanos result.closing ≡ seconds 2 }
+        ensures step { as_nanos result.step ≡ seconds 2 }
     {
         Patience {
             head: Duration::from_secs(HEAD),
@@ -66,11 +73,12 @@ impl Patience {
             pause: Duration::from_secs(PAUSE),
             whole: Duration::from_secs(WHOLE),
             closing: Duration::from_secs(CLOSING),
+            step: Duration::from_secs(STEP),
         }
     }
 
-    /// Whether a connection's time is up at this stage, after it has been quiet for so long, and its request,
-    /// or its end, has taken so long in all.
+    /// Whether a connection's time is up: at this stage, if it has been quiet for so long, and its request, or
+    /// its end, has taken so long in all.
     pub fn is_over(&self, stage: Stage, quiet: Duration, taken: Duration) -> bool
         ensures { result ≡ is_late self.now stage (as_nanos quiet) (as_nanos taken) }
     {

@@ -1,8 +1,11 @@
 //! Rounds of reads and writes over the sockets of one port, with the lines of the log.
 use crate::fault::LoopFault;
 use crate::lines::Lines;
+use crate::log::Log;
+use crate::moment::Moment;
 use crate::patience::Patience;
 use crate::sockets::Sockets;
+use crate::sweeping::EVENTS;
 use connections::{Connections, Event, Round, RoundFault, Rounds};
 use mio::Events;
 use std::alloc::Global;
@@ -10,33 +13,32 @@ use std::io::{self, Write};
 use std::net::{Net, SocketAddr};
 use std::time::{Clock, Instant};
 
-// The most events of sockets that one wait tells.
-const EVENTS: usize = 1024;
-
 /// The sockets of a port.
 ///
-/// In each round it makes one read or one write of each socket that is ready. Then it tells all of these. So
+/// In each round one read or one write is made of each socket that is ready. Then all of these are told, and so
 /// each connection gets at most one request answered before the next one's turn.
 ///
-/// At the end of the round the log, if one is kept, gets a line for each reply that went out whole, and for
-/// each connection that failed. A line that can't be written is left out, and nothing else depends on it.
+/// If a log is kept, it gets a line for each reply that went out whole, and for each connection that failed, at
+/// the end of the round. What can't be written to it is left out, and nothing else depends on it.
 #[derive(Drop)]
 pub struct SocketRounds<'c, C, W> {
     sockets: Sockets,
     events: Events,
     clock: &'c C,
-    log: Option<W>,
-    // Some of what was read may not have been told, or not served. Then nothing more is read.
+    // When the desk looked last.
+    last: Option<Moment>,
+    log: Option<Log<W>>,
+    // Some of what was read may not have been told, or not served: then nothing more is read.
     has_stopped: bool,
 }
 
 impl<'c, C: Clock, W: Write> SocketRounds<'c, C, W> {
-    /// Listens on an address, with so many slots, and takes the time from this clock. It keeps a log if there
-    /// is a writer for it.
+    /// Listens on an address. It has so many slots, and time goes by this clock. A log is kept if there is a
+    /// writer for it.
     ///
     /// # Errors
     ///
-    /// The system's own error; or memory ran out.
+    /// The system's own; or memory ran out.
     pub fn new<N: Net>(
         net: &N,
         alloc: Global,
@@ -49,14 +51,15 @@ impl<'c, C: Clock, W: Write> SocketRounds<'c, C, W> {
     where
         W: Drop,
     {
-        let lines = match &log {
-            Some(_) => Lines::new(alloc, slots)?,
-            None => Lines::none(alloc),
+        let (lines, log) = match log {
+            Some(writer) => (Lines::new(alloc, slots)?, Some(Log::new(alloc, writer)?)),
+            None => (Lines::none(alloc), None),
         };
         Ok(SocketRounds {
             sockets: Sockets::new(net, alloc, address, slots, patience, lines)?,
             events: Events::with_capacity(alloc, EVENTS)?,
             clock,
+            last: None,
             log,
             has_stopped: false,
         })
@@ -66,17 +69,20 @@ impl<'c, C: Clock, W: Write> SocketRounds<'c, C, W> {
     ///
     /// # Errors
     ///
-    /// The system's own error.
+    /// The system's own.
     pub fn address(&self) -> io::Result<SocketAddr> {
         self.sockets.address()
     }
 
-    /// The writer of the log, if one is kept.
+    /// What the log is written to, if one is kept.
     pub fn log(&self) -> Option<&W> {
-        self.log.as_ref()
+        match &self.log {
+            Some(log) => Some(&log.writer),
+            None => None,
+        }
     }
 
-    // Waits for the sockets, reads and writes them, and tells what came of it.
+    // Waits for the sockets, and reads and writes them. What came of it is told.
     fn go_round(
         &mut self,
         connections: &Connections,
@@ -89,9 +95,9 @@ impl<'c, C: Clock, W: Write> SocketRounds<'c, C, W> {
         }
         self.sockets.begin(left)?;
         self.sockets.wait(&mut self.events)?;
-        let now = Instant::now(self.clock)?;
+        let now = self.look()?;
         self.sockets.lines.begin(self.clock);
-        let round = self.sockets.round(connections, &self.events, now, told);
+        let round = self.sockets.round(connections, &mut self.events, now, told);
         self.write_lines();
         round?;
         Ok(if self.sockets.are_closed() {
@@ -101,12 +107,23 @@ impl<'c, C: Clock, W: Write> SocketRounds<'c, C, W> {
         })
     }
 
-    // Writes the lines of the round, and leaves out those that can't be written.
+    // The moment that it is.
+    fn look(&mut self) -> io::Result<Moment> {
+        let clock = Instant::now(self.clock)?;
+        let now = match &self.last {
+            Some(last) => last.next(clock, self.sockets.patience.step),
+            None => Moment::first(clock),
+        };
+        self.last = Some(now);
+        Ok(now)
+    }
+
+    // Writes the lines of the round. Those that can't be written are left out.
     fn write_lines(&mut self) {
-        let text = self.sockets.lines.text();
+        let lines = &self.sockets.lines;
         if let Some(log) = &mut self.log {
-            if !text.is_empty() {
-                let _ = log.write_all(text);
+            if !lines.text().is_empty() || lines.lost() > 0 {
+                log.write(lines.text(), lines.lost(), lines.stamp());
             }
         }
     }
@@ -148,8 +165,8 @@ impl<C: Clock, W: Write> Rounds for SocketRounds<'_, C, W> {
     fn show_last(&mut self, connections: &Connections) {
         self.has_stopped = true;
         self.sockets.lines.begin(self.clock);
-        self.sockets
-            .show_last(connections, Instant::now(self.clock).ok());
+        let now = self.look().ok();
+        self.sockets.show_last(connections, now);
         self.write_lines();
     }
 }

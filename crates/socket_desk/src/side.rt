@@ -1,24 +1,29 @@
-//! The socket of a connection, and the times of its bytes.
+//! The socket of a connection, and when it was heard of.
+ghost use Rattle.std.specs.Prelude.{◌≡◌, ◌-◌};
+ghost use Rattle.std.specs.Duration.{as_nanos};
+ghost use Rattle.socket_desk.specs.Patience.{is_late, judged_at};
+
+use crate::moment::Moment;
 use crate::patience::{Patience, Stage};
 use bureau_http::ConnFault;
 use connections::{Connection, Phase};
 use mio::net::TcpStream;
 use std::io::{self, ErrorKind, Read};
 use std::net::Shutdown;
-use std::time::{Duration, Instant};
+use std::time::Duration;
 
-/// The list in which a connection waits for a visit.
+/// Among which a connection waits for a visit.
 #[derive(Clone, Copy, Debug, PartialEq, Eq)]
 pub(crate) enum Listed {
     /// None: the system will tell of it.
     Nowhere,
-    /// The list of those that may have something to do.
+    /// Those that may have something to do.
     Ready,
-    /// The list of those whose body doesn't fit the limit yet.
+    /// Those whose body doesn't fit the limit yet.
     Short,
 }
 
-/// The reason for which the desk would let a connection go next.
+/// Why the desk lets a connection go, should it do so next.
 #[derive(Clone, Copy, Debug, PartialEq, Eq)]
 pub(crate) enum Parting {
     /// There is no memory for it: neither side has ended it.
@@ -30,7 +35,7 @@ pub(crate) enum Parting {
 }
 
 impl Parting {
-    // The reason for a connection in this phase, all of whose replies went out.
+    // That of a connection in this phase, all of whose replies went out.
     pub(crate) fn of(connection: &Connection, phase: Phase) -> Parting {
         match phase {
             Phase::Open => Parting::NoMemory,
@@ -40,7 +45,7 @@ impl Parting {
         }
     }
 
-    // The fault that the log has of it, if any.
+    // What the log tells of it.
     pub(crate) fn fault(self) -> Option<ConnFault> {
         match self {
             Parting::NoMemory => Some(ConnFault::Memory),
@@ -50,30 +55,30 @@ impl Parting {
     }
 }
 
-/// The socket of a connection, and the times of its bytes.
+/// The socket of a connection, and when it was heard of.
 #[derive(Drop)]
 pub(crate) struct Side {
     pub(crate) stream: TcpStream,
     // when its request began, or its end
-    pub(crate) since: Instant,
+    pub(crate) since: Moment,
     // when bytes came or went last
-    pub(crate) heard: Instant,
+    pub(crate) heard: Moment,
     // when the last of them that was told to the desk came or went
-    pub(crate) told: Instant,
-    // the bytes that may be read next
+    pub(crate) told: Moment,
+    // how many bytes may be read next
     pub(crate) room: usize,
     // the desk has ended its side
     pub(crate) is_closing: bool,
     // it came, or bytes were written to it, and the desk has not noted that yet
     pub(crate) is_ahead: bool,
-    // the list in which it waits for a visit
+    // among which it waits for a visit
     pub(crate) list: Listed,
-    // the reason for which the desk would let it go next
+    // why the desk lets it go, should it do so next
     pub(crate) parting: Parting,
 }
 
 impl Side {
-    pub(crate) fn new(stream: TcpStream, now: Instant) -> Side {
+    pub(crate) fn new(stream: TcpStream, now: Moment) -> Side {
         Side {
             stream,
             since: now,
@@ -87,30 +92,30 @@ impl Side {
         }
     }
 
-    // Ends the desk's side, which has nothing more to write. What the client still sends is read for a while: a
-    // socket that is closed with bytes unread in it may lose its last reply (RFC 9112, section 9.6).
-    pub(crate) fn close(&mut self, now: Instant) {
+    // The desk has nothing more to write. What the client still sends is read for a while, since a socket that is
+    // closed while bytes lie unread in it may lose its last reply (RFC 9112, section 9.6).
+    pub(crate) fn close(&mut self, now: Moment) {
         let _ = self.stream.shutdown(Shutdown::Write);
         self.is_closing = true;
         self.since = now;
     }
 
-    // Reads once, and drops the bytes. Returns whether there may be more.
+    // One read whose bytes nobody needs. Whether there may be more.
     pub(crate) fn read_out(&mut self, room: &mut [u8]) -> io::Result<bool> {
         Ok(self.stream.read(room)? > 0)
     }
 
-    // Notes that bytes came or went. A request may begin with them, or after them.
-    pub(crate) fn hear(&mut self, now: Instant, begins: bool) {
+    // Bytes came or went. A request may begin with them, or after them.
+    pub(crate) fn hear(&mut self, now: Moment, begins: bool) {
         self.heard = now;
         if begins {
             self.since = now;
         }
     }
 
-    // The time that its request has taken.
-    pub(crate) fn taken(&self, now: Instant) -> Duration {
-        now.saturating_duration_since(self.since)
+    // How long its request has taken, by the clock.
+    pub(crate) fn taken(&self, now: Moment) -> Duration {
+        now.lasted(&self.since)
     }
 
     // What came or went was told to the desk, and so many bytes may be read next.
@@ -120,24 +125,27 @@ impl Side {
         self.room = room;
     }
 
-    // Whether its time is up at this stage. While it waits for its turn, what it sent may lie unread: then this is
-    // whether its time was up already when it had its last turn. Once the desk has ended its side, nothing that it
-    // sends counts.
-    pub(crate) fn is_late(&self, patience: &Patience, stage: Stage, now: Instant) -> bool {
-        let seen = if self.list == Listed::Ready && !self.is_closing {
-            self.told
-        } else {
-            now
+    // Whether its time is up at this stage, by the desk's own time.
+    pub(crate) fn is_late(&self, patience: &Patience, stage: Stage, now: Moment) -> bool
+        ensures { result ≡ is_late patience.now stage
+            (judged_at self.now.list self.now.is_closing (as_nanos self.now.told.own) (as_nanos now.own)
+            - as_nanos self.now.heard.own)
+            (judged_at self.now.list self.now.is_closing (as_nanos self.now.told.own) (as_nanos now.own)
+            - as_nanos self.now.since.own) }
+    {
+        let judged = match self.list {
+            Listed::Ready if !self.is_closing => self.told,
+            _ => now,
         };
         patience.is_over(
             stage,
-            seen.saturating_duration_since(self.heard),
-            seen.saturating_duration_since(self.since),
+            judged.waited(&self.heard),
+            judged.waited(&self.since),
         )
     }
 }
 
-// Whether the system would make a read or write wait; else it has failed. `None` if it should be made again.
+// Whether the system would make a read or write wait, or it has failed. `None` if it is to be made again.
 pub(crate) fn waits(error: &io::Error) -> Option<bool> {
     match error.kind() {
         ErrorKind::WouldBlock => Some(true),

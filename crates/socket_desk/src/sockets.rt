@@ -1,10 +1,10 @@
 //! Sockets that don't block, each in its slot, and whose turn it is.
 use crate::fault::LoopFault;
 use crate::lines::Lines;
+use crate::moment::Moment;
 use crate::patience::{Patience, Stage};
 use crate::side::{Listed, Side};
 use crate::visits::{ROOM, Visit};
-use bureau_http::ConnFault;
 use connections::{Connections, Event};
 use mio::net::TcpListener;
 use mio::{Events, Interest, Poll, Token};
@@ -12,18 +12,18 @@ use std::alloc::Global;
 use std::collections::VecDeque;
 use std::io::{self, ErrorKind, Write};
 use std::net::{Net, Shutdown, SocketAddr};
-use std::time::{Duration, Instant};
+use std::time::Duration;
 
 // The token of the listener. Those of sockets are their slots.
 const LISTENER: usize = usize::MAX;
 
-// The most sockets that are visited in a round with something to tell, so that what was read and not yet told stays
-// small. It is also the most that are accepted.
+// How many are visited in a round at most, of which there is something to tell: so what was read and not yet told
+// stays small. And how many are accepted.
 pub(crate) const MOST: usize = 64;
 
-// The seconds between two looks for connections whose time is up. The loop then also tries again what the system may
-// refuse for a while: to accept a connection if no descriptor was left.
-const TICK: u64 = 1;
+// How often, in seconds, the loop looks for connections whose time is up, and tries again what the system may refuse
+// for a while: to accept a connection if no descriptor was left.
+pub(crate) const TICK: u64 = 1;
 
 /// Sockets, each in its slot.
 #[derive(Drop)]
@@ -36,17 +36,17 @@ pub(crate) struct Sockets {
     pub(crate) ready: VecDeque<usize>,
     // Those whose body doesn't fit the limit yet, in the order in which they get what is left of it.
     pub(crate) short: VecDeque<usize>,
-    // Connections may wait to be accepted, and the system won't tell of them.
+    // Connections may wait to be accepted, of which the system won't tell.
     pub(crate) more_wait: bool,
-    // The number of connections that are still to be accepted.
+    // How many are to be accepted yet.
     pub(crate) left: u32,
-    // The time of the last look for connections whose time is up.
-    pub(crate) swept: Option<Instant>,
+    // When it was looked for connections whose time is up, by the desk's own time.
+    pub(crate) swept: Option<Duration>,
     pub(crate) listener: TcpListener,
     pub(crate) poll: Poll,
     pub(crate) room: Vec<u8>,
     pub(crate) patience: Patience,
-    // The lines of this round for the log.
+    // What the log is to tell of this round.
     pub(crate) lines: Lines,
 }
 
@@ -91,7 +91,7 @@ impl Sockets {
         self.listener.local_addr()
     }
 
-    /// Begins a round, while so many connections are still to be accepted. Bodies for which there is room by now are
+    /// A round begins, and so many connections are to be accepted yet. Bodies for which there is room by now are
     /// read on.
     pub(crate) fn begin(&mut self, left: u32) -> Result<(), LoopFault> {
         self.more_wait |= left > self.left;
@@ -99,18 +99,18 @@ impl Sockets {
         self.retry_short()
     }
 
-    /// Whether no socket is open, except that of the port.
+    /// Whether no socket is open, but that of the port.
     pub(crate) fn are_closed(&self) -> bool {
         self.free.len() == self.sides.len()
     }
 
-    /// The most events of a round. Visits have some. Each connection that is accepted has one for its coming, and one
-    /// for another that gave way. And each connection's time may be up.
+    /// The most events of a round: those of visits, and for each that is accepted that it came, and that another
+    /// one gave way; and each connection's time may be up.
     pub(crate) fn most_told(&self) -> usize {
         self.sides.len().saturating_add(3 * MOST)
     }
 
-    /// Waits for the system to tell of sockets, unless there is more to do.
+    /// Waits for the system to tell of sockets, but not if there is more to do.
     pub(crate) fn wait(&mut self, events: &mut Events) -> io::Result<()> {
         let wait = if self.ready.is_empty() && !self.more_wait {
             Duration::from_secs(TICK)
@@ -120,40 +120,39 @@ impl Sockets {
         self.poll_for(events, wait)
     }
 
-    fn poll_for(&mut self, events: &mut Events, wait: Duration) -> io::Result<()> {
+    pub(crate) fn poll_for(&mut self, events: &mut Events, wait: Duration) -> io::Result<()> {
         match self.poll.poll(events, Some(wait)) {
             Err(error) if error.kind() != ErrorKind::Interrupted => Err(error),
             _ => Ok(()),
         }
     }
 
-    /// Waits for a while, since there is no memory to tell of anything, and so nothing is read or written. What the
-    /// system tells of sockets counts.
+    /// There is no memory to tell of anything, so nothing is read or written. Waits for a while; what the system
+    /// tells of sockets counts.
     pub(crate) fn rest(&mut self, events: &mut Events) -> Result<(), LoopFault> {
         self.poll_for(events, Duration::from_secs(TICK))?;
         self.hear_of(events)
     }
 
-    /// Makes one read or write of each socket that is ready, beside connections as they are, and notes what has to be
-    /// told of it.
+    /// One read or write of each socket that is ready, beside connections as they stand. What came of it is to be told.
     pub(crate) fn round(
         &mut self,
         connections: &Connections,
-        events: &Events,
-        now: Instant,
+        events: &mut Events,
+        now: Moment,
         told: &mut Vec<Event>,
     ) -> Result<(), LoopFault> {
         self.hear_of(events)?;
         self.visit_ready(connections, now, told)?;
-        self.sweep_where_due(connections, now, told)?;
+        self.sweep_if_due(connections, events, now, told)?;
         if self.more_wait {
             self.accept(connections, now, told)?;
         }
         Ok(())
     }
 
-    // Puts the sockets of which the system tells after those that wait for their turns.
-    fn hear_of(&mut self, events: &Events) -> Result<(), LoopFault> {
+    // Those of which the system tells get their turns after those that wait for theirs.
+    pub(crate) fn hear_of(&mut self, events: &Events) -> Result<(), LoopFault> {
         for event in events.iter() {
             let slot = event.token().0;
             if slot == LISTENER {
@@ -165,12 +164,12 @@ impl Sockets {
         Ok(())
     }
 
-    // Gives each that waits for its turn one, as long as more may be told. The others keep their places before those
+    // Each that waits for its turn gets it, as long as more may be told. The others keep their places before those
     // that had theirs.
     fn visit_ready(
         &mut self,
         connections: &Connections,
-        now: Instant,
+        now: Moment,
         told: &mut Vec<Event>,
     ) -> Result<(), LoopFault> {
         for _ in 0..self.ready.len() {
@@ -184,12 +183,12 @@ impl Sockets {
         Ok(())
     }
 
-    // Makes one read or write of the socket in a slot, which is no longer in a list.
+    // One read or write of the socket in a slot, which is listed no more.
     fn visit(
         &mut self,
         connections: &Connections,
         slot: usize,
-        now: Instant,
+        now: Moment,
         told: &mut Vec<Event>,
     ) -> Result<(), LoopFault> {
         let Some(mut side) = self.take_out(slot) else {
@@ -208,7 +207,7 @@ impl Sockets {
         }
     }
 
-    // Lets a slot wait for a visit, unless it does already.
+    // A slot waits for a visit, unless it does already.
     fn list(&mut self, slot: usize, list: Listed) -> Result<(), LoopFault> {
         let Some(mut side) = self.take_out(slot) else {
             return Ok(());
@@ -225,51 +224,6 @@ impl Sockets {
         Ok(())
     }
 
-    // Looks for connections whose time is up, if that is due.
-    fn sweep_where_due(
-        &mut self,
-        connections: &Connections,
-        now: Instant,
-        told: &mut Vec<Event>,
-    ) -> Result<(), LoopFault> {
-        if let Some(swept) = self.swept {
-            if now.saturating_duration_since(swept) < Duration::from_secs(TICK) {
-                return Ok(());
-            }
-        }
-        self.swept = Some(now);
-        self.more_wait = true;
-        for slot in 0..self.sides.len() {
-            if self.is_late(connections, slot, now) {
-                self.tell_late(connections, slot);
-                self.end(slot, told)?;
-            }
-        }
-        Ok(())
-    }
-
-    // Ends a connection whose time is up. The log gets a fault for it only if it has a request.
-    fn tell_late(&mut self, connections: &Connections, slot: usize) {
-        let Some(Some(side)) = self.sides.get(slot) else {
-            return;
-        };
-        match stage(connections, slot, side) {
-            Stage::Idle => {}
-            Stage::Head => self.lines.fault(ConnFault::Read),
-            Stage::Body => self.lines.fault(ConnFault::Read),
-            Stage::Reply => self.lines.fault(ConnFault::Write),
-            Stage::Closing => {}
-        }
-    }
-
-    // Whether the time of the connection in a slot is up.
-    fn is_late(&self, connections: &Connections, slot: usize, now: Instant) -> bool {
-        match self.sides.get(slot) {
-            Some(Some(side)) => side.is_late(&self.patience, stage(connections, slot, side), now),
-            _ => false,
-        }
-    }
-
     /// Ends the connection in a slot at once.
     pub(crate) fn end(&mut self, slot: usize, told: &mut Vec<Event>) -> Result<(), LoopFault> {
         let Some(side) = self.take_out(slot) else {
@@ -281,10 +235,10 @@ impl Sockets {
         self.leave(slot, side.list)
     }
 
-    /// Writes, after the device has failed, the replies that wait, as far as the sockets take them at once. What the
-    /// last round told may not have been looked at. So nothing goes to a socket that came or was written to in it: what
-    /// is shown of its slot may have gone out already, or be the reply of the connection that was there before.
-    pub(crate) fn show_last(&mut self, connections: &Connections, now: Option<Instant>) {
+    /// The device has failed: replies that wait go out as far as the sockets take them at once. What the last round
+    /// told may not have been looked at. So nothing goes to a socket that came or was written to in it: what is
+    /// shown of its slot may have gone out already, or be the reply of the connection that was there before.
+    pub(crate) fn show_last(&mut self, connections: &Connections, now: Option<Moment>) {
         for slot in 0..self.sides.len() {
             if let Some(mut side) = self.take_out(slot) {
                 if !side.is_ahead {
@@ -295,13 +249,13 @@ impl Sockets {
         }
     }
 
-    // Writes once, after which nothing more is written to the socket.
+    // One write, after which nothing more is written to the socket.
     fn write_last(
         &mut self,
         connections: &Connections,
         slot: usize,
         side: &mut Side,
-        now: Option<Instant>,
+        now: Option<Moment>,
     ) {
         let text = connections.outgoing(slot);
         if text.is_empty() {
@@ -314,7 +268,7 @@ impl Sockets {
         }
     }
 
-    /// The event of a slot was told, and so many bytes may be read next.
+    /// An event of a slot was told, and so many bytes may be read next.
     pub(crate) fn let_read(&mut self, slot: usize, room: usize) {
         if let Some(mut side) = self.take_out(slot) {
             side.let_read(room);
@@ -322,12 +276,12 @@ impl Sockets {
         }
     }
 
-    /// The slot of one of those whose body doesn't fit the limit yet.
+    /// The slot of one of those that have a body that doesn't fit the limit yet.
     pub(crate) fn short_at(&self, index: usize) -> Option<usize> {
         self.short.get(index).copied()
     }
 
-    // Makes those of them ready for which there is room by now.
+    // Those of them for which there is room by now are ready.
     fn retry_short(&mut self) -> Result<(), LoopFault> {
         for _ in 0..self.short.len() {
             if let Some(slot) = self.short.pop_front() {
@@ -337,7 +291,7 @@ impl Sockets {
         Ok(())
     }
 
-    // Tries one of them; it stays among them if there is still no room.
+    // One of them; it stays among them if there is still no room.
     fn retry(&mut self, slot: usize) -> Result<(), LoopFault> {
         let Some(mut side) = self.take_out(slot) else {
             return Ok(());
@@ -366,7 +320,7 @@ impl Sockets {
         }
     }
 
-    // Frees a slot, which was in this list.
+    // A slot gets free. It was listed there.
     fn leave(&mut self, slot: usize, listed: Listed) -> Result<(), LoopFault> {
         match listed {
             Listed::Nowhere => {}
@@ -379,7 +333,7 @@ impl Sockets {
     }
 }
 
-/// The stage of the connection in a slot.
+/// At which stage the connection in a slot is.
 pub(crate) fn stage(connections: &Connections, slot: usize, side: &Side) -> Stage {
     if side.is_closing {
         return Stage::Closing;

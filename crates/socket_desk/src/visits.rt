@@ -1,5 +1,6 @@
 //! The turn of a socket: one read or write, and its outcome.
 use crate::fault::LoopFault;
+use crate::moment::Moment;
 use crate::patience::Stage;
 use crate::side::{Parting, Side, waits};
 use crate::sockets::{Sockets, stage};
@@ -7,7 +8,6 @@ use crate::transfers::{read_event, write_event};
 use bureau_http::ConnFault;
 use connections::{Connections, Event, Phase};
 use std::io;
-use std::time::Instant;
 
 // The most bytes of a read.
 pub(crate) const ROOM: usize = 65_536;
@@ -32,7 +32,7 @@ impl Sockets {
         connections: &Connections,
         slot: usize,
         side: &mut Side,
-        now: Instant,
+        now: Moment,
         told: &mut Vec<Event>,
     ) -> Result<Visit, LoopFault> {
         if side.is_closing {
@@ -56,7 +56,7 @@ impl Sockets {
         connections: &Connections,
         slot: usize,
         side: &mut Side,
-        now: Instant,
+        now: Moment,
         told: &mut Vec<Event>,
     ) -> Result<Visit, LoopFault> {
         let begins = stage(connections, slot, side) == Stage::Idle;
@@ -84,7 +84,7 @@ impl Sockets {
         connections: &Connections,
         slot: usize,
         side: &mut Side,
-        now: Instant,
+        now: Moment,
         told: &mut Vec<Event>,
     ) -> Result<Visit, LoopFault> {
         let text = connections.outgoing(slot);
@@ -110,7 +110,7 @@ impl Sockets {
         connections: &Connections,
         slot: usize,
         side: &mut Side,
-        now: Instant,
+        now: Moment,
     ) {
         if let Some(Some(connection)) = connections.slots.get(slot) {
             side.parting = Parting::of(connection, connection.phase);

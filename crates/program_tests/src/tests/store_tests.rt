@@ -148,6 +148,14 @@ fn lines_with(log: &[u8], wanted: &str) -> Result<u32, Fail> {
     Ok(count)
 }
 
+// The usual patience of a desk to which all time counts, however long it is between two looks.
+fn hasty() -> Patience {
+    Patience {
+        step: Duration::MAX,
+        ..Patience::usual()
+    }
+}
+
 // Two clients, of which one sends half of a head and no more. None closes its side. By the desk's clock five
 // seconds pass at each look, of which a round with a log has two, so that it needs no minute to let them go.
 #[test]
@@ -156,7 +164,7 @@ fn a_desk_answers_beside_a_silent_client_and_lets_both_go(rt: HostRuntime) -> Re
     let keys = RandomState::new(&rt)?;
     let clock = Ticking::new(5);
     let address = SocketAddr::from((Ipv4Addr::LOCALHOST, 0u16));
-    let (patience, log) = (Patience::usual(), Some(Vec::new(alloc)));
+    let (patience, log) = (hasty(), Some(Vec::new(alloc)));
     let Ok(sockets) = SocketRounds::new(&rt, alloc, &clock, address, 2, patience, log) else {
         return Err("no sockets".into());
     };
