@@ -1,5 +1,5 @@
 -- The reads of a store since its last change, which it answers again.
-use Rattle.std.specs.Prelude.{◌≡◌, ◌⊎◌, ℕ, IsTrue, List, [], Ok, Result, Some, Contains, length, map}
+use Rattle.std.specs.Prelude.{◌≡◌, ◌⊎◌, ℕ, IfSome, IsTrue, List, [], None, Ok, Option, Result, Some, Contains, length, map}
 use Rattle.std.specs.Option.{option_map}
 use Rattle.bureau_store.specs.Caller.{caller_with}
 use Rattle.bureau_store.specs.Tables.{Tables, zone_named}
@@ -30,9 +30,11 @@ pub record RecentLists : Type 0 where
   pub tokens : List TokenRead
   pub zones : List ZonesRead
   pub rows : List RowsRead
+  -- how many SYSMODs and holds are published, if that was read
+  pub counts : Option (ℕ × ℕ)
 
 abbrev pub nothing_read : RecentLists
-nothing_read = record { tokens = []; zones = []; rows = [] }
+nothing_read = record { tokens = []; zones = []; rows = []; counts = None }
 
 -- the tables have what was read
 abbrev pub IsTokenOf : Tables → TokenRead → Type 0
@@ -44,11 +46,15 @@ AreZonesOf tables read = read.zones ≡ map (λ zone. (zone.0, length zone.1.row
 abbrev pub AreRowsOf : Tables → RowsRead → Type 0
 AreRowsOf tables read = Some read.rows ≡ option_map (λ table. table.rows) (zone_named read.zone (tables.zones read.client))
 
+abbrev pub AreCountsOf : Tables → (ℕ × ℕ) → Type 0
+AreCountsOf tables counts = (counts.0 ≡ length tables.content.sysmods) × (counts.1 ≡ length tables.content.holds)
+
 -- each is what the tables have
 pub record AreReadFrom (tables : Tables) (recent : RecentLists) : Type 0 where
   pub tokens : (read : TokenRead) → Contains recent.tokens read → IsTokenOf tables read
   pub zones : (read : ZonesRead) → Contains recent.zones read → AreZonesOf tables read
   pub rows : (read : RowsRead) → Contains recent.rows read → AreRowsOf tables read
+  pub counts : IfSome recent.counts (AreCountsOf tables)
 
 -- Of an open connection whose database is ours, each is what the committed tables have.
 abbrev pub IsRecent : State → RecentLists → Type 0
@@ -58,3 +64,7 @@ IsRecent at recent = HasCleanDisk at → IsTrue at.is_open → IsOurs at.committ
 abbrev pub HasMore : {Read Found Fault : Type 0} → (Found → Read → Type 0) → Result Found Fault → List Read → List Read → Type 0
 HasMore {Read} {Found} Is found old new =
     (read : Read) → Contains new read → Contains old read ⊎ ((answer : Found) × (found ≡ Ok answer) × Is answer read)
+
+-- the same of what is kept once
+abbrev pub HasNew : {Found Fault : Type 0} → Result Found Fault → Option Found → Option Found → Type 0
+HasNew {Found} found old new = (new ≡ old) ⊎ ((answer : Found) × (found ≡ Ok answer) × (new ≡ Some answer))

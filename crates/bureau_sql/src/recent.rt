@@ -1,7 +1,7 @@
 //! A cache of what a store has read since its last change. It answers that again, so that a client that asks often
 //! costs little.
 ghost use Rattle.std.specs.Prelude.{◌≡◌, ◌⊎◌, Contains, IfOk, IfSome, Some, map, option_map};
-ghost use Rattle.bureau_sql.specs.Recent.{HasMore, nothing_read};
+ghost use Rattle.bureau_sql.specs.Recent.{HasMore, HasNew, nothing_read};
 ghost use Rattle.bureau_store.specs.Caller.{IsProper};
 ghost use Rattle.bureau_store.specs.Tables.{NamesAscend};
 ghost use Rattle.zone_lists.specs.ZoneList.{RowsAscend};
@@ -76,6 +76,8 @@ pub(crate) struct Recent {
     tokens: Vec<TokenRead>,
     zones: Vec<ZonesRead>,
     rows: Vec<RowsRead>,
+    // How many SYSMODs and holds are published.
+    counts: Option<(u64, u64)>,
 }
 
 impl Model for Recent {
@@ -83,7 +85,12 @@ impl Model for Recent {
 
     ghost Value = { RecentLists };
 
-    ghost view = { λ recent. record { tokens = recent.tokens.items; zones = recent.zones.items; rows = recent.rows.items } };
+    ghost view = { λ recent. record {
+      tokens = recent.tokens.items;
+      zones = recent.zones.items;
+      rows = recent.rows.items;
+      counts = recent.counts;
+    } };
 }
 
 impl Recent {
@@ -95,6 +102,7 @@ impl Recent {
             tokens: Vec::new(alloc),
             zones: Vec::new(alloc),
             rows: Vec::new(alloc),
+            counts: None,
         }
     }
 
@@ -105,6 +113,7 @@ impl Recent {
         self.tokens.clear();
         self.zones.clear();
         self.rows.clear();
+        self.counts = None;
     }
 }
 
@@ -150,6 +159,13 @@ impl Recent {
         }
         None
     }
+
+    /// How many SYSMODs and holds are published, if that was read.
+    pub(crate) fn counts(&self) -> Option<(u64, u64)>
+        ensures { result ≡ self.now.counts }
+    {
+        self.counts
+    }
 }
 
 impl Recent {
@@ -163,7 +179,8 @@ impl Recent {
         requires proper { IfOk found.now (λ caller. IfSome caller IsProper) }
         ensures tokens { HasMore (λ answer read. (answer ≡ Some read.caller) × (read.token ≡ token.now))
             found.now self.old.tokens self.new.tokens }
-        ensures others { (self.new.zones ≡ self.old.zones) × (self.new.rows ≡ self.old.rows) }
+        ensures others { (self.new.zones ≡ self.old.zones) × (self.new.rows ≡ self.old.rows)
+            × (self.new.counts ≡ self.old.counts) }
     {
         let Ok(answer) = found else { return };
         let Some(caller) = answer else { return };
@@ -184,7 +201,8 @@ impl Recent {
         requires ascend { IfOk found.now (λ zones. NamesAscend (map (λ zone. zone.0) zones.items)) }
         ensures zones { HasMore (λ answer read. read ≡ record { client = client.now; zones = answer.items })
             found.now self.old.zones self.new.zones }
-        ensures others { (self.new.tokens ≡ self.old.tokens) × (self.new.rows ≡ self.old.rows) }
+        ensures others { (self.new.tokens ≡ self.old.tokens) × (self.new.rows ≡ self.old.rows)
+            × (self.new.counts ≡ self.old.counts) }
     {
         let Ok(zones) = found else { return };
         let Ok(zones) = Vec::from_slice(alloc, zones) else {
@@ -206,7 +224,8 @@ impl Recent {
         ensures rows { HasMore (λ answer read. (option_map (λ rows. rows.items) answer ≡ Some read.rows)
             × (read.client ≡ client.now) × (read.zone ≡ zone.now))
             found.now self.old.rows self.new.rows }
-        ensures others { (self.new.tokens ≡ self.old.tokens) × (self.new.zones ≡ self.old.zones) }
+        ensures others { (self.new.tokens ≡ self.old.tokens) × (self.new.zones ≡ self.old.zones)
+            × (self.new.counts ≡ self.old.counts) }
     {
         let Ok(answer) = found else { return };
         let Some(rows) = answer else { return };
@@ -215,6 +234,17 @@ impl Recent {
         };
         let (client, zone) = (*client, *zone);
         put(&mut self.rows, RowsRead { client, zone, rows });
+    }
+
+    /// Keeps how many SYSMODs and holds are published, if the read found it.
+    pub(crate) fn keep_counts(&mut self, found: &Result<(u64, u64), ReadFault>)
+        ensures counts { HasNew found.now self.old.counts self.new.counts }
+        ensures others { (self.new.tokens ≡ self.old.tokens) × (self.new.zones ≡ self.old.zones)
+            × (self.new.rows ≡ self.old.rows) }
+    {
+        if let Ok(counts) = found {
+            self.counts = Some(*counts);
+        }
     }
 }
 

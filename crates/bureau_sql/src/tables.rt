@@ -48,7 +48,11 @@ impl<S: Alter> Store for SqlStore<S> {
 
     fn counts(&mut self) -> Result<(u64, u64), StoreFault> {
         self.check_open(StoreFault::Device)?;
+        if let Some(counts) = self.recent.counts() {
+            return Ok(counts);
+        }
         let found = sql_reads::counts(&mut self.conn);
+        self.recent.keep_counts(&found);
         self.answered(found)
     }
 
