@@ -27,8 +27,8 @@ impl Moment {
     /// busy with one call.
     pub(crate) fn next(&self, clock: Instant, step: Duration) -> Moment
         ensures clock { result.clock ≡ clock }
-        ensures own { as_nanos result.own
-            ≡ own_after (as_nanos self.now.own) (instant_nanos clock - instant_nanos self.now.clock) (as_nanos step) }
+        ensures own { as_nanos result.own ≡ own_after (as_nanos self.now.own)
+            (instant_nanos clock - instant_nanos self.now.clock) (as_nanos step) }
     {
         let gap = clock.saturating_duration_since(self.clock);
         let heard = if gap.as_nanos() < step.as_nanos() {
