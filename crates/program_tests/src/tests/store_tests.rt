@@ -15,6 +15,7 @@ use std::io::{Read, Write};
 use std::net::{Ipv4Addr, SocketAddr, TcpStream};
 use std::str;
 use std::test::Fail;
+use std::time::Duration;
 use store_runs::run_init;
 use testing::{Ticking, assert_equal, assert_equal_at};
 
@@ -150,10 +151,9 @@ fn lines_with(log: &[u8], wanted: &str) -> Result<u32, Fail> {
 
 // The usual patience of a desk to which all time counts, however long it is between two looks.
 fn hasty() -> Patience {
-    Patience {
-        step: Duration::MAX,
-        ..Patience::usual()
-    }
+    let mut patience = Patience::usual();
+    patience.step = Duration::MAX;
+    patience
 }
 
 // Two clients, of which one sends half of a head and no more. None closes its side. By the desk's clock five
