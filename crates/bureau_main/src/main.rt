@@ -3,40 +3,28 @@
 
 mod database;
 mod log_writer;
+mod run;
+mod stores;
 mod system;
 
-use bureau_program::Surroundings;
-use sqlite::{Start, Wary};
-use std::alloc::Global;
-use std::io::{Read, Write};
+use run::run;
+use sqlite::Wary;
 use std::process::ExitCode;
+use stores::StoreFiles;
 use system::System;
 
 fn main(rt: HostRuntime) -> ExitCode {
     let (mut input, mut output, mut errors) = (rt.stdin(), rt.stdout(), rt.stderr());
-    let (mut system, alloc) = (System::new(&rt), rt.alloc());
-    let status = run(
+    let (mut system, mut stores, alloc) = (System::new(&rt), StoreFiles::new(&rt), rt.alloc());
+    let (status, ended) = run(
         &mut system,
+        &mut stores,
         alloc,
         Wary,
         &mut input,
         &mut output,
         &mut errors,
     );
+    drop(ended);
     ExitCode::from(status)
-}
-
-// Does what the words ask for, and closes what is left of a store's files. It takes surroundings and streams of any kind: with the
-// system's own types at hand the proof of these lines takes minutes.
-fn run<S: Surroundings, D: Start, I: Read, O: Write, E: Write>(
-    surroundings: &mut S,
-    alloc: Global,
-    start: D,
-    input: &mut I,
-    output: &mut O,
-    errors: &mut E,
-) -> u8 {
-    let (status, ended) = bureau_program::run(surroundings, alloc, start, input, output, errors);
-    drop(ended.close());
-    status
 }

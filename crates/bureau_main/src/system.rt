@@ -1,23 +1,15 @@
 //! What the system gives a run: words, files, connections to a port, random keys and clocks.
-ghost use Rattle.std.specs.Prelude.{◌≡◌, ◌≢◌, ◌⊎◌};
-
-use crate::database::{names_a_file, open_database};
 use crate::log_writer::LogWriter;
 use bureau_program::Surroundings;
-use bureau_store::StoreFault;
 use command_line::LineFault;
 use connections::{Connections, Event, Round, RoundFault, Rounds};
 use run_parts::Files;
 use socket_desk::{LoopFault, Patience, SocketRounds};
-use sqlite::{Connection, Error, ErrorCode, FileFrom, FileStore, Start};
 use std::alloc::Global;
-use std::fs::{File, OpenOptions, Permissions};
+use std::fs::File;
 use std::hash::RandomState;
 use std::net::{Ipv4Addr, SocketAddr};
-use std::os::unix::fs::{OpenOptionsExt, PermissionsExt};
-use std::path::Path;
 use std::{env, io};
-use store_runs::{Ended, Stores};
 
 /// The system's own words, files, ports and clocks.
 #[derive(Drop)]
@@ -91,32 +83,6 @@ impl Files for System<'_> {
     }
 }
 
-impl Stores for System<'_> {
-    ghost known_store = { λ _ _ _. Unit {0} };
-
-    fn connect<D: Start>(
-        &self,
-        name: &str,
-        makes: bool,
-        start: D,
-    ) -> Result<Connection<FileStore<FileFrom<D>>>, (StoreFault, Ended<FileFrom<D>>)> {
-        if is_missing(self.rt, name) {
-            if !makes {
-                return Err((StoreFault::Shape, Ended::Nothing));
-            }
-            if names_a_file(name) {
-                // Where it can't be made, the connection can't be made either, and tells why.
-                let _made = make_private(self.rt, name);
-            }
-        }
-        match open_database(self.rt, name, start) {
-            Ok(conn) => Ok(conn),
-            Err((error, Some(left))) => Err((fault_of(error), Ended::Left(left))),
-            Err((error, None)) => Err((fault_of(error), Ended::Nothing)),
-        }
-    }
-}
-
 impl Surroundings for System<'_> {
     ghost use Rattle.std.specs.Prelude.{None};
 
@@ -151,40 +117,5 @@ impl Surroundings for System<'_> {
 
     fn random_keys(&self) -> io::Result<RandomState> {
         RandomState::new(self.rt)
-    }
-}
-
-// Whether there is no file of this name, in a folder that is there.
-fn is_missing(rt: &HostRuntime, name: &str) -> bool {
-    match File::open(rt, name) {
-        Err(error) if error.kind() == io::ErrorKind::NotFound => {
-            match Path::new(name).parent() {
-                Some(folder) if !folder.as_str().is_empty() => folder.is_dir(rt),
-                _ => true,
-            }
-        }
-        _ => false,
-    }
-}
-
-// Makes an empty file that its owner alone may read and write, whatever the umask is. The log of a store is made as
-// its file is.
-fn make_private(rt: &HostRuntime, name: &str) -> io::Result<()> {
-    let file = OpenOptions::new()
-        .write(true)
-        .create_new(true)
-        .mode(0o600)
-        .open(rt, name)?;
-    file.set_permissions(Permissions::from_mode(0o600))
-}
-
-// Why the files of a store can't be opened.
-fn fault_of(error: Error) -> StoreFault
-    ensures { ((result ≡ StoreFault.Memory) × (error ≡ Error.SqliteFailure ErrorCode.OutOfMemory))
-        ⊎ ((result ≡ StoreFault.Device) × (error ≢ Error.SqliteFailure ErrorCode.OutOfMemory)) }
-{
-    match error {
-        Error::SqliteFailure(ErrorCode::OutOfMemory) => StoreFault::Memory,
-        _ => StoreFault::Device,
     }
 }

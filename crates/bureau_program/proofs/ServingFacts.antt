@@ -25,7 +25,6 @@ use Rattle.sqlite.specs.Files.{over_files}
 use Rattle.sqlite.specs.Held.{Held, state}
 use Rattle.store_runs.specs.Desk.{HasOpened, IsNotOpened, of_store}
 use Rattle.store_runs.specs.Ended.{HasFound, IsEndOf, IsRefused, IsUsed}
-use Rattle.run_parts.specs.Outputs.{IsTold, run_status}
 use Rattle.run_parts.specs.ProgramFault.{of_program}
 use Rattle.bureau_program.specs.Replay.{IsAlwaysRight}
 use Rattle.bureau_program.specs.Serving.{DoesOver, Ends, IsNewCache, IsNotListening, IsServeOutput, IsServeRun, IsServedOver, IsUnheard, HaltsBy, ServesAll, ServesSome, ServesUntil, Session, desk_ends, desk_over, fault_of_halt, file_ends, free_in, listening_text, store_ends}
@@ -158,10 +157,9 @@ module _ {D : Type 0} {g : disk.Ghosts D} (session : Session) (from : Image) (en
       (λ why. used (λ old new. (store_ends over_files session old new).halted why)) (used (λ old new. (store_ends over_files session old new).failed))
 
   -- no connection could be made
-  pub not_connected : (fault : StoreFault) (any : AnyFault) (port : ℕ) (output old new : Option (List ℕ)) (status : ℕ) → session.log_after ≡ session.log → IsRefused false from fault ended
-      → any ≡ of_store fault → IsTold (Some any) old new → status ≡ run_status (Some any) → IsServeRun (file_ends session from ended) port output output old new status
-  not_connected fault any port output old new status same refused is told status_is =
-      record { outcome = Some any; output = inr (inr (inr ((fault, is, inl (refused, same)), Keeps-refl output))); told = told; status_is = status_is }
+  pub not_connected : (fault : StoreFault) (any : AnyFault) (port : ℕ) (output : Option (List ℕ)) → session.log_after ≡ session.log → IsRefused false from fault ended → any ≡ of_store fault
+      → IsServeOutput (file_ends session from ended) (Some any) port output output
+  not_connected fault any port output same refused is = inr (inr (inr ((fault, is, inl (refused, same)), Keeps-refl output)))
 
 -- ---- what is told
 

@@ -1,5 +1,5 @@
 -- What a run does: from the words of a command line to what it reads, what both streams get, and the exit status.
-use Rattle.std.specs.Prelude.{◌≡◌, ◌≢◌, ◌⊎◌, ℕ, Bool, [], List, map, Option, Result, Ok, Err, IfSome, string_bytes}
+use Rattle.std.specs.Prelude.{◌≡◌, ◌≢◌, ◌⊎◌, ℕ, Bool, false, [], List, map, Option, Some, Result, Ok, Err, IfSome, string_bytes}
 use Rattle.std.specs.Io.KnownBytes.{Keeps}
 use Rattle.clap.specs.Words.{fault_of}
 use Rattle.sqlite_disk.specs.declared.Disk as disk
@@ -18,7 +18,9 @@ use Rattle.report_runs.specs.declared.reporting.Question.TheVariants.{Report}
 use Rattle.run_parts.specs.Files.{KnownFile, AreContents, IsContent}
 pub use Rattle.run_parts.specs.Outputs.{Outputs, IsEndedBy, IsExplained, outputs_of}
 use Rattle.run_parts.specs.declared.fault.ProgramFault.TheVariants.{NotRead, Memory}
+use Rattle.store_runs.specs.Asked.{Asked, AsksOnce}
 use Rattle.store_runs.specs.Checking.{IsCheck}
+use Rattle.store_runs.specs.Desk.{of_store}
 use Rattle.store_runs.specs.Ended.{IsNothing}
 use Rattle.store_runs.specs.NamedStore.{IsCallers, IsInit, IsMigrate}
 use Rattle.store_runs.specs.declared.ended.Ended.{Ended}
@@ -41,60 +43,65 @@ abbrev pub IsReplay : (List ℕ → KnownFile) → List ℕ → List (List ℕ) 
 IsReplay files callers names outputs status =
     IsServed files callers names outputs status ⊎ IsEndedBy NotRead outputs status ⊎ IsEndedBy Memory outputs status
 
--- What a run may find: files by their names, what the two files of a store of a name may hold, the ports that it asks for, each with
--- how many connections may be open at once and whether a log is kept, what ended its rounds, and the rounds before it and by its end.
+-- What a run may find: files by their names, the stores that were asked for before it and by its end, the ports that it asks for, each
+-- with how many connections may be open at once and whether a log is kept, what ended its rounds, and the rounds before it and by its end.
 pub record Found : Type 1 where
   pub files : List ℕ → KnownFile
-  pub stores : List ℕ → Image → Type 0
+  pub asked : Asked
+  pub asked_after : Asked
   pub ports : ℕ → ℕ → Bool → Type 0
   pub over : RoundFault → Type 0
   pub log : Log
   pub log_after : Log
 
 -- the same, by what is known of the surroundings
-abbrev pub found_in : (List ℕ → KnownFile) → (List ℕ → Image → Type 0) → (ℕ → ℕ → Bool → Type 0) → (RoundFault → Type 0) → Log → Log → Found
-found_in files stores ports over log log_after =
-    record { files = files; stores = stores; ports = ports; over = over; log = log; log_after = log_after }
+abbrev pub found_in : (List ℕ → KnownFile) → Asked → Asked → (ℕ → ℕ → Bool → Type 0) → (RoundFault → Type 0) → Log → Log → Found
+found_in files asked asked_after ports over log log_after =
+    record { files = files; asked = asked; asked_after = asked_after; ports = ports; over = over; log = log; log_after = log_after }
 
 -- there was no round
 abbrev pub NobodyCame : Found → Type 0
 NobodyCame found = found.log_after ≡ found.log
 
 module _ (found : Found) (from : Image) {D : Type 0} {g : disk.Ghosts D} where
+  -- no store was asked for, and no files of one were opened
+  abbrev pub AsksForNone : Ended D g → Type 0
+  AsksForNone ended = (found.asked_after ≡ found.asked) × IsNothing ended
+
   -- `serve --port P --cache N --connections K --open M --log STORE`
   pub record IsServe (service : Service) (name : List ℕ) (outputs : Outputs) (status : ℕ) (ended : Ended D g) : Type 0 where
-    pub named : found.stores name from
     pub served : IsServeRun (file_ends (session_of service found.ports found.over found.log found.log_after) from ended) service.port
         outputs.output outputs.written outputs.errors outputs.told status
     pub kept : KeepsServed from found.log found.log_after served.outcome ended
     pub goes_on : GoesOn from found.log found.log_after served.outcome ended
+    pub asks : AsksOnce found.asked found.asked_after name false from (λ fault. served.outcome ≡ Some (of_store fault)) ended
 
   -- What a line asks for is done, or what is wrong with the words is told. Standard input is read where a FILE is `-`, connections
-  -- come for `serve` alone, and the files of a store are opened where a STORE is named, and nowhere else.
+  -- come for `serve` alone, and a store is asked for where a STORE is named, and nowhere else.
   abbrev pub IsAnswered : Result Line LineFault → Option (List ℕ) → Option (List ℕ) → Outputs → ℕ → Ended D g → Type 0
   IsAnswered (Ok (line.Holds file)) input rest outputs status ended =
-      IsHolds found.files (string_bytes file) input rest outputs status × NobodyCame found × IsNothing ended
+      IsHolds found.files (string_bytes file) input rest outputs status × NobodyCame found × AsksForNone ended
   IsAnswered (Ok (line.Replay cache callers names)) input rest outputs status ended =
-      Keeps input rest × IsReplay found.files (string_bytes callers) (map string_bytes names.items) outputs status × NobodyCame found × IsNothing ended
+      Keeps input rest × IsReplay found.files (string_bytes callers) (map string_bytes names.items) outputs status × NobodyCame found × AsksForNone ended
   IsAnswered (Ok (line.Init store callers)) input rest outputs status ended =
-      Keeps input rest × NobodyCame found × IsInit found.files found.stores from (string_bytes store) (string_bytes callers) outputs status ended
+      Keeps input rest × NobodyCame found × IsInit found.files found.asked found.asked_after from (string_bytes store) (string_bytes callers) outputs status ended
   IsAnswered (Ok (line.Serve port cache connections most_open log store)) input rest outputs status ended =
       Keeps input rest × IsServe (record { port = port; cache = cache; connections = connections; most_open = most_open; log = log }) (string_bytes store) outputs status ended
   IsAnswered (Ok (line.Migrate store)) input rest outputs status ended =
-      Keeps input rest × NobodyCame found × IsMigrate found.stores from (string_bytes store) outputs status ended
+      Keeps input rest × NobodyCame found × IsMigrate found.asked found.asked_after from (string_bytes store) outputs status ended
   IsAnswered (Ok (line.ErrSysmods files)) input rest outputs status ended =
-      IsReport found.files (Report ErrSysmods) files input rest outputs status × NobodyCame found × IsNothing ended
+      IsReport found.files (Report ErrSysmods) files input rest outputs status × NobodyCame found × AsksForNone ended
   IsAnswered (Ok (line.MissingFix files)) input rest outputs status ended =
-      IsReport found.files (Report MissingFix) files input rest outputs status × NobodyCame found × IsNothing ended
+      IsReport found.files (Report MissingFix) files input rest outputs status × NobodyCame found × AsksForNone ended
   IsAnswered (Ok (line.Chain sysmod files)) input rest outputs status ended =
-      IsChain found.files (string_bytes sysmod) files input rest outputs status × NobodyCame found × IsNothing ended
+      IsChain found.files (string_bytes sysmod) files input rest outputs status × NobodyCame found × AsksForNone ended
   IsAnswered (Ok (line.Check store)) input rest outputs status ended =
-      Keeps input rest × NobodyCame found × IsCheck found.stores from (string_bytes store) outputs status ended
+      Keeps input rest × NobodyCame found × IsCheck found.asked found.asked_after from (string_bytes store) outputs status ended
   IsAnswered (Ok (line.Callers store callers)) input rest outputs status ended =
-      Keeps input rest × NobodyCame found × IsCallers found.files found.stores from (string_bytes store) (string_bytes callers) outputs status ended
+      Keeps input rest × NobodyCame found × IsCallers found.files found.asked found.asked_after from (string_bytes store) (string_bytes callers) outputs status ended
   IsAnswered (Err (line_fault.Words text)) input rest outputs status ended =
-      Keeps input rest × IsExplained (string_bytes text) outputs status × NobodyCame found × IsNothing ended
-  IsAnswered (Err line_fault.Memory) input rest outputs status ended = Keeps input rest × IsEndedBy Memory outputs status × NobodyCame found × IsNothing ended
+      Keeps input rest × IsExplained (string_bytes text) outputs status × NobodyCame found × AsksForNone ended
+  IsAnswered (Err line_fault.Memory) input rest outputs status ended = Keeps input rest × IsEndedBy Memory outputs status × NobodyCame found × AsksForNone ended
 
 -- the words are understood as this line; clap has a fault to find in them, or they ask for help; or memory ran out
 abbrev pub IsUnderstoodAs : List (List ℕ) → Result Line LineFault → Type 0

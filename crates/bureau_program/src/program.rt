@@ -16,17 +16,18 @@ use run_parts::{ProgramFault, explain, read_file, refuse};
 use sqlite::{FileFrom, Start};
 use std::alloc::Global;
 use std::io::{Read, Write};
-use store_runs::{Ended, callers_file, check_file, do_init, migrate_file};
+use store_runs::{Ended, Stores, callers_file, check_file, do_init, migrate_file};
 use transfer::RETRIES;
 
 /// Does what the words of the command line ask for, and returns the exit status, and what is left of a store's files.
 ///
 /// Standard input is read where `-` stands for a FILE of `holds` or of a report, and nowhere else. Every other FILE
 /// is opened by its name. What is made of it goes to standard output, and a fault's line to standard error.
-/// Connections come where the line asks for `serve`, and nowhere else. `start` stands for what the files of STORE
-/// hold as the run begins.
-pub fn run<S: Surroundings, D: Start, I: Read, O: Write, E: Write>(
+/// Connections come where the line asks for `serve`, and nowhere else. The line's STORE is asked for, once, and no
+/// other store. `start` stands for what its files hold as the run begins.
+pub fn run<S: Surroundings, T: Stores, D: Start, I: Read, O: Write, E: Write>(
     surroundings: &mut S,
+    stores: &mut T,
     alloc: Global,
     start: D,
     input: &mut I,
@@ -34,7 +35,7 @@ pub fn run<S: Surroundings, D: Start, I: Read, O: Write, E: Write>(
     errors: &mut E,
 ) -> (u8, Ended<FileFrom<D>>)
     ensures { IsRun (S.known_words surroundings.old)
-        (found_in (S.known_file surroundings.old) (S.known_store surroundings.old)
+        (found_in (S.known_file surroundings.old) (T.asked stores.old) (T.asked stores.new)
         (S.known_port surroundings.old) (S.is_over surroundings.new)
         (S.log surroundings.old) (S.log surroundings.new))
         (image_at D.Start)
@@ -46,15 +47,25 @@ pub fn run<S: Surroundings, D: Start, I: Read, O: Write, E: Write>(
         Ok(words) => line_of(alloc, words.as_slice()),
         Err(fault) => Err(fault),
     };
-    let done = answer(surroundings, alloc, &line, start, input, output, errors);
+    let done = answer(
+        surroundings,
+        stores,
+        alloc,
+        &line,
+        start,
+        input,
+        output,
+        errors,
+    );
     // By a call, which is proved once. At the end of the scope each text of each command would be let go here.
     drop(line);
     done
 }
 
 // Does what a line asks for.
-fn answer<S: Surroundings, D: Start, I: Read, O: Write, E: Write>(
+fn answer<S: Surroundings, T: Stores, D: Start, I: Read, O: Write, E: Write>(
     surroundings: &mut S,
+    stores: &mut T,
     alloc: Global,
     line: &Result<Line, LineFault>,
     start: D,
@@ -63,7 +74,7 @@ fn answer<S: Surroundings, D: Start, I: Read, O: Write, E: Write>(
     errors: &mut E,
 ) -> (u8, Ended<FileFrom<D>>)
     ensures { IsAnswered
-        (found_in (S.known_file surroundings.old) (S.known_store surroundings.old)
+        (found_in (S.known_file surroundings.old) (T.asked stores.old) (T.asked stores.new)
         (S.known_port surroundings.old) (S.is_over surroundings.new)
         (S.log surroundings.old) (S.log surroundings.new))
         (image_at D.Start) line.now
@@ -89,7 +100,16 @@ fn answer<S: Surroundings, D: Start, I: Read, O: Write, E: Write>(
         }
         Ok(Line::Init { store, callers }) => {
             let (store, callers) = (store.as_str(), callers.as_str());
-            do_init(surroundings, alloc, store, callers, start, output, errors)
+            do_init(
+                surroundings,
+                stores,
+                alloc,
+                store,
+                callers,
+                start,
+                output,
+                errors,
+            )
         }
         Ok(
             Line::Serve {
@@ -109,10 +129,19 @@ fn answer<S: Surroundings, D: Start, I: Read, O: Write, E: Write>(
                 log: *log,
             };
             let store = store.as_str();
-            run_serve(surroundings, alloc, service, store, start, output, errors)
+            run_serve(
+                surroundings,
+                stores,
+                alloc,
+                service,
+                store,
+                start,
+                output,
+                errors,
+            )
         }
         Ok(Line::Migrate { store }) => {
-            migrate_file(surroundings, alloc, store.as_str(), start, output, errors)
+            migrate_file(stores, alloc, store.as_str(), start, output, errors)
         }
         Ok(Line::ErrSysmods { files }) => {
             let question = Question::Report(Report::ErrSysmods);
@@ -131,10 +160,19 @@ fn answer<S: Surroundings, D: Start, I: Read, O: Write, E: Write>(
         }
         Ok(Line::Callers { store, callers }) => {
             let (store, callers) = (store.as_str(), callers.as_str());
-            callers_file(surroundings, alloc, store, callers, start, output, errors)
+            callers_file(
+                surroundings,
+                stores,
+                alloc,
+                store,
+                callers,
+                start,
+                output,
+                errors,
+            )
         }
         Ok(Line::Check { store }) => {
-            check_file(surroundings, alloc, store.as_str(), start, output, errors)
+            check_file(stores, alloc, store.as_str(), start, output, errors)
         }
         Err(LineFault::Words(text)) => (explain(errors, text.as_str()), Ended::Nothing),
         Err(LineFault::Memory) => (refuse(errors, ProgramFault::Memory), Ended::Nothing),

@@ -20,7 +20,7 @@ use run_parts::{ProgramFault, numbered_line, printed, told};
 use sqlite::{Alter, Connection, FileFrom, Start};
 use std::alloc::Global;
 use std::io::{ErrorKind, Write};
-use store_runs::{Ended, end, of_store, run_open};
+use store_runs::{Ended, Stores, end, of_store, run_open};
 
 // How many bytes all connections together may hold, beyond a head of each: four bodies of the largest size.
 const HELD_MOST: usize = 1 << 28;
@@ -58,8 +58,9 @@ pub struct Prepared {
 /// more is served; a system that tells no more of connections; and want of memory for the desk itself. Whatever a
 /// stop leaves of the files from then on, the next opening finds the store in it, with the tables after the calls
 /// of the connections that came.
-pub fn run_serve<S: Surroundings, D: Start, W: Write, E: Write>(
+pub fn run_serve<S: Surroundings, T: Stores, D: Start, W: Write, E: Write>(
     surroundings: &mut S,
+    stores: &mut T,
     alloc: Global,
     service: Service,
     store: &str,
@@ -68,14 +69,14 @@ pub fn run_serve<S: Surroundings, D: Start, W: Write, E: Write>(
     errors: &mut E,
 ) -> (u8, Ended<FileFrom<D>>)
     ensures { IsServe
-        (found_in (S.known_file surroundings.old) (S.known_store surroundings.old)
+        (found_in (S.known_file surroundings.old) (T.asked stores.old) (T.asked stores.new)
         (S.known_port surroundings.old) (S.is_over surroundings.new)
         (S.log surroundings.old) (S.log surroundings.new))
         (image_at D.Start) service store.now
         (outputs_of W.contents E.contents writer.old writer.new errors.old errors.new)
         result.0 result.1 }
 {
-    match surroundings.connect(store, false, start) {
+    match stores.connect(store, false, start) {
         Ok(conn) => {
             let (status, conn) = open_and_serve(surroundings, alloc, service, conn, writer, errors);
             (status, end(conn))

@@ -1,21 +1,21 @@
 //! What surrounds a run: the words of its command line, files by their names, ports and the connections to them,
-//! and random keys.
+//! and random keys. Stores come besides.
 ghost use Rattle.std.specs.Prelude.{◌≡◌, ℕ, Bool, List, Option, None, map, string_bytes, IfOk, IfErr, IfSome, OnOk};
 ghost use Rattle.faults.specs.Refusal.{IsRefusal};
 
 use command_line::LineFault;
 use connections::Rounds;
+use run_parts::Files;
 use std::alloc::Global;
 use std::hash::RandomState;
 use std::io;
-use store_runs::Stores;
 
 /// The words of a command line, the files that they may name, and the connections that come to a port.
 ///
 /// Those of a system tell nothing of what they have. Others, as lists of words, of files and of events of
 /// connections, can tell all of it. So what is proved of every `Surroundings` says which words and which files a
 /// run reads, and which connections it serves. No connection comes before a port is listened on.
-pub trait Surroundings: Stores + Rounds {
+pub trait Surroundings: Files + Rounds {
     /// The words after the program's name, where they are known.
     ghost known_words: { Self → Option (List (List ℕ)) };
 

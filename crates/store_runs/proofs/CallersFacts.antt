@@ -36,12 +36,14 @@ use Rattle.run_parts.specs.Outputs.{IsTold, Outputs, fault_in, run_status}
 use Rattle.run_parts.specs.ProgramFault.{of_program}
 use Rattle.run_parts.specs.declared.fault.ProgramFault.TheVariants.{NotWritten}
 use Rattle.store_runs.specs.Callers.{CallersEnds, IsCallersOutput, IsCallersRun, IsLineLost, IsSetOver, IsUnopened, KeepsCallers, LeavesSet, TellsSet, callers_text, connection_set, files_set, store_set}
+use Rattle.store_runs.specs.Asked.{Asked, AsksFor, Connected, refused_with}
 use Rattle.store_runs.specs.Desk.{HasOpened, of_store}
 use Rattle.store_runs.specs.Ended.{HasEnded, HasFound, IsEndOf, IsRefused, IsUsed}
 use Rattle.store_runs.specs.NamedStore.{HasRows, IsCallers}
 use Rattle.store_runs.specs.Keeping.{HasNoTables, Leaves, TellsOnly}
 use Rattle.store_runs.specs.declared.ended.Ended.{Ended}
 use Rattle.store_runs.specs.declared.ended.Ended.TheVariants.{Nothing, Left, Closed}
+use Rattle.store_runs.proofs.AskedFacts.{once_connected, once_refused}
 use Rattle.store_runs.proofs.DoneFacts.{is_device, never_done, never_short, some_same, told_once}
 use Rattle.store_runs.proofs.EndFacts.{left_of}
 use Rattle.store_runs.proofs.OpensFacts.{known_of_found, known_of_left}
@@ -86,17 +88,6 @@ over_files_so rows from ended found left finds ends old new old_errors new_error
       (λ fault not. inr (record { found = found; finds = finds; left = left; used = not; ends = ends })) run.outcome old new run.output;
   told = run.told;
   status_is = run.status_is;
-}
-
--- no connection to the files could be made
-pub not_connected : {D : Type 0} {g : disk.Ghosts D} (rows : List CallerRow) (from : Image) (ended : Ended D g) (output : Option (List ℕ)) (fault : StoreFault) (any : AnyFault) (old new : Option (List ℕ)) (status : ℕ)
-    → IsRefused false from fault ended → any ≡ of_store fault → IsTold (Some any) old new → status ≡ run_status (Some any)
-    → IsCallersRun (files_set rows from ended) output output old new status
-not_connected rows from ended output fault any old new status refused is told status_is = record {
-  outcome = Some any;
-  output = inr ((fault, is, inr (inl refused)), Keeps-refl output);
-  told = told;
-  status_is = status_is;
 }
 
 -- ---- what a stop leaves
@@ -322,30 +313,39 @@ module _ {D : Type 0} {g : disk.Ghosts D} (from : Image) (rows : List CallerRow)
 
 -- ---- by the names of the files
 
-module _ {D : Type 0} {g : disk.Ghosts D} (files : List ℕ → KnownFile) (stores : List ℕ → Image → Type 0) (from : Image) (ended : Ended D g) (name callers : List ℕ)
-    (named : stores name from) (rows : List CallerRow) (rows_are : HasRows (files callers) rows) (outputs : Outputs) (status : ℕ) where
-  as_run : IsCallersRun (files_set rows from ended) outputs.output outputs.written outputs.errors outputs.told status → IsCallers files stores from name callers outputs status ended
-  as_run run = inl (record {
-    named = named;
-    rows = rows;
-    rows_are = rows_are;
-    set = run;
-    kept = kept_callers from rows ended run.outcome outputs.output outputs.written run.output;
-  })
-
-  pub set_over_files : (found left : Held (FileStore D g)) → HasFound from found → IsEndOf left ended
+module _ {D : Type 0} {g : disk.Ghosts D} (files : List ℕ → KnownFile) (asked asked_after : Asked) (from : Image) (ended : Ended D g) (name callers : List ℕ)
+    (rows : List CallerRow) (rows_are : HasRows (files callers) rows) (outputs : Outputs) (status : ℕ) where
+  -- a connection was made, and ended
+  pub set_over_files : (found left : Held (FileStore D g)) → HasFound from found → IsEndOf left ended → AsksFor asked asked_after name false from Connected
       → IsCallersRun (connection_set over_files rows found left) outputs.output outputs.written outputs.errors outputs.told status
-      → IsCallers files stores from name callers outputs status ended
-  set_over_files found left finds ends run = as_run (over_files_so rows from ended found left finds ends outputs.output outputs.written outputs.errors outputs.told status run)
+      → IsCallers files asked asked_after from name callers outputs status ended
+  set_over_files found left finds ends asks over =
+      let run = over_files_so rows from ended found left finds ends outputs.output outputs.written outputs.errors outputs.told status over in inl (record {
+        rows = rows;
+        rows_are = rows_are;
+        set = run;
+        kept = kept_callers from rows ended run.outcome outputs.output outputs.written run.output;
+        asks = once_connected asked asked_after name false from (λ fault. run.outcome ≡ Some (of_store fault)) ended left ends asks;
+      })
 
+  -- no connection could be made
   pub not_set_over : (fault : StoreFault) (any : AnyFault) → IsRefused false from fault ended → any ≡ of_store fault → outputs.written ≡ outputs.output
-      → IsTold (Some any) outputs.errors outputs.told → status ≡ run_status (Some any) → IsCallers files stores from name callers outputs status ended
-  not_set_over fault any refused is silent told status_is =
-      as_run (subst (λ written. IsCallersRun (files_set rows from ended) outputs.output written outputs.errors outputs.told status) (sym silent)
-      (not_connected rows from ended outputs.output fault any outputs.errors outputs.told status refused is told status_is))
+      → IsTold (Some any) outputs.errors outputs.told → status ≡ run_status (Some any) → AsksFor asked asked_after name false from (refused_with fault ended)
+      → IsCallers files asked asked_after from name callers outputs status ended
+  not_set_over fault any refused is silent told status_is asks =
+      let set : IsCallersOutput (files_set rows from ended) (Some any) outputs.output outputs.written =
+      subst (λ written. IsCallersOutput (files_set rows from ended) (Some any) outputs.output written) (sym silent) (inr ((fault, is, inr (inl refused)), Keeps-refl outputs.output)) in
+      inl (record {
+        rows = rows;
+        rows_are = rows_are;
+        set = record { outcome = Some any; output = set; told = told; status_is = status_is };
+        kept = kept_callers from rows ended (Some any) outputs.output outputs.written set;
+        asks = once_refused asked asked_after name false from (λ (other : StoreFault). Some any ≡ Some (of_store other)) ended fault refused.left (ap Some is) asks;
+      })
 
-pub same_callers_run : {D : Type 0} {g : disk.Ghosts D} (files : List ℕ → KnownFile) (stores : List ℕ → Image → Type 0) (from : Image) (ended : Ended D g)
+pub same_callers_run : {D : Type 0} {g : disk.Ghosts D} (files : List ℕ → KnownFile) (asked asked_after : Asked) (from : Image) (ended : Ended D g)
     → (name name_slice callers callers_slice : List ℕ) (outputs : Outputs) (status : ℕ) → name_slice ≡ name → callers_slice ≡ callers
-    → IsCallers files stores from name_slice callers_slice outputs status ended → IsCallers files stores from name callers outputs status ended
-same_callers_run files stores from ended name name_slice callers callers_slice outputs status same same_callers run =
-    subst (λ (it : List ℕ). IsCallers files stores from it callers outputs status ended) same (subst (λ (it : List ℕ). IsCallers files stores from name_slice it outputs status ended) same_callers run)
+    → IsCallers files asked asked_after from name_slice callers_slice outputs status ended → IsCallers files asked asked_after from name callers outputs status ended
+same_callers_run files asked asked_after from ended name name_slice callers callers_slice outputs status same same_callers run =
+    subst (λ (it : List ℕ). IsCallers files asked asked_after from it callers outputs status ended) same
+    (subst (λ (it : List ℕ). IsCallers files asked asked_after from name_slice it outputs status ended) same_callers run)

@@ -47,6 +47,7 @@ use Rattle.sql_tables.specs.Reading.{OnlyReads}
 use Rattle.sql_tables.specs.Stored.{tables_of}
 use Rattle.sql_texts.specs.Found.{shown}
 use Rattle.sql_texts.specs.Schema.{bureau}
+use Rattle.store_runs.specs.Asked.{Asked, AsksFor, Connected, refused_with}
 use Rattle.store_runs.specs.Checking.{IsCheck, IsCheckOutput, IsCheckRun, IsCheckTold, IsSeenWhole, IsSeenWrong, IsTextOf, IsToldAs, IsToldOfRead, IsToldWhole, IsUntold, IsWrong, check_fault_in, check_status, in_no_table}
 use Rattle.store_runs.specs.Desk.{of_store}
 use Rattle.store_runs.specs.Ended.{HasEnded, HasFound, IsEndOf, IsRefused}
@@ -55,6 +56,7 @@ use Rattle.store_runs.specs.declared.checking.CheckFault.{CheckFault}
 use Rattle.store_runs.specs.declared.ended.Ended.{Ended}
 use Rattle.store_runs.specs.declared.ended.Ended.TheVariants.{Nothing, Left, Closed}
 use Rattle.transfer.specs.Transfer.{AppendsFront}
+use Rattle.store_runs.proofs.AskedFacts.{once_connected, once_refused}
 use Rattle.store_runs.proofs.DoneFacts.{no_store_fault, told_once}
 use Rattle.store_runs.proofs.EndFacts.{left_of}
 use Rattle.store_runs.proofs.LeftFacts.{found_nothing}
@@ -273,13 +275,12 @@ faults_refused from (Left it) refused told is why well _ before holds fault also
     subst IsOfRead (same_fault refused fault (sym is ∙ some_told told _ also)) (known_of_left from it refused why well)
 faults_refused from (Closed last) refused told is why well _ before holds fault also = absurd why.left
 
-module _ (stores : List ℕ → Image → Type 0) (from : Image) {D : Type 0} {g : Ghosts D} (ended : Ended D g) (name : List ℕ) (named : stores name from) (outputs : Outputs) (status : ℕ) where
+module _ (asked asked_after : Asked) (from : Image) {D : Type 0} {g : Ghosts D} (ended : Ended D g) (name : List ℕ) (outputs : Outputs) (status : ℕ) where
   -- a connection was made, its store was looked through, and it was ended
   pub looked_through : (found left : Held (FileStore D g)) → HasFound from found → IsEndOf left ended → IsAtRest (file_state found) → OnlyReads (file_state found) (file_state left)
       → IsCheckRun (λ outcome. IsCheckOutput outcome (file_state found) (file_state left) outputs.output outputs.written) outputs.errors outputs.told status
-      → IsCheck stores from name outputs status ended
-  looked_through found left finds ends rests reads run = record {
-    named = named;
+      → AsksFor asked asked_after name false from Connected → IsCheck asked asked_after from name outputs status ended
+  looked_through found left finds ends rests reads run asks = record {
     checked = record {
       outcome = run.outcome;
       output = inr (record { found = found; finds = finds; left = left; used = (rests, run.output, reads); ends = ends });
@@ -288,14 +289,16 @@ module _ (stores : List ℕ → Image → Type 0) (from : Image) {D : Type 0} {g
     };
     faults = faults_read from found left ended finds reads ends run.outcome outputs.output outputs.written run.output;
     kept = kept_read from found left ended finds rests reads ends;
+    asks = once_connected asked asked_after name false from (λ (fault : StoreFault). run.outcome ≡ Some (in_no_table (of_store fault))) ended left ends asks;
   }
 
   -- no connection could be made
   pub not_connected : (refused : StoreFault) (told : CheckFault) → told ≡ in_no_table (of_store refused) → IsRefused false from refused ended → Keeps outputs.output outputs.written
-      → IsCheckTold (Some told) outputs.errors outputs.told → status ≡ check_status (Some told) → IsCheck stores from name outputs status ended
-  not_connected refused told is why keeps said status_is = record {
-    named = named;
+      → IsCheckTold (Some told) outputs.errors outputs.told → status ≡ check_status (Some told) → AsksFor asked asked_after name false from (refused_with refused ended)
+      → IsCheck asked asked_after from name outputs status ended
+  not_connected refused told is why keeps said status_is asks = record {
     checked = record { outcome = Some told; output = inl (refused, ap Some is, why, keeps); told = said; status_is = status_is };
     faults = faults_refused from ended refused told is why;
     kept = kept_found from ended why.left;
+    asks = once_refused asked asked_after name false from (λ (fault : StoreFault). Some told ≡ Some (in_no_table (of_store fault))) ended refused why.left (ap Some is) asks;
   }

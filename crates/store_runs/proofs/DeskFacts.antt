@@ -23,12 +23,14 @@ use Rattle.sql_writes.specs.Making.{AreFit}
 use Rattle.bureau_store.specs.Callers.{callers_of}
 use Rattle.bureau_store.specs.declared.caller.CallerRow.{CallerRow}
 use Rattle.bureau_store.specs.declared.fault.StoreFault.{StoreFault}
+use Rattle.store_runs.specs.Asked.{Asked, AsksFor, Connected, refused_with}
 use Rattle.store_runs.specs.Desk.{HasOpened, InitSurvives, IsInitLeft, IsInitRefused, IsInitRun, IsOpenRefused, of_store}
 use Rattle.store_runs.specs.Ended.{HasFound, IsEndOf, IsRefused}
 use Rattle.run_parts.specs.Outputs.{IsTold, run_status, IsToldAlone, Outputs}
 use Rattle.store_runs.specs.NamedStore.{IsInit}
 use Rattle.run_parts.specs.Files.{KnownFile, IsContent}
 use Rattle.store_runs.specs.declared.ended.Ended.{Ended}
+use Rattle.store_runs.proofs.AskedFacts.{once_connected, once_refused}
 use Rattle.store_runs.proofs.StayFacts.{kept_found}
 use Rattle.store_runs.proofs.KeptFacts.{kept_made}
 
@@ -104,14 +106,13 @@ open_refused Has fault any old new status has is told status_is =
 
 -- ---- over files
 
-module _ (files : List ℕ → KnownFile) (stores : List ℕ → Image → Type 0) (from : Image) {D : Type 0} {g : disk.Ghosts D} (ended : Ended D g) where
+module _ (files : List ℕ → KnownFile) (asked asked_after : Asked) (from : Image) {D : Type 0} {g : disk.Ghosts D} (ended : Ended D g) where
   -- a connection was made, a store was made in its database or not, and it was ended
-  pub made_over_files : (name callers source : List ℕ) (outputs : Outputs) (status : ℕ) (found left : Held (FileStore D g)) → stores name from → IsContent (files callers) source
+  pub made_over_files : (name callers source : List ℕ) (outputs : Outputs) (status : ℕ) (found left : Held (FileStore D g)) → AsksFor asked asked_after name true from Connected → IsContent (files callers) source
       → HasFound from found → IsEndOf left ended → IsAtRest (file_state found) → InitSurvives source (file_state found) (file_state left)
       → IsInitRun (λ outcome. IsInitLeft outcome source (file_state found) (file_state left)) source outputs.output outputs.written outputs.errors outputs.told status
-      → IsInit files stores from name callers outputs status ended
-  made_over_files name callers source outputs status found left named is finds ends rested stopped run = inl (record {
-    named = named;
+      → IsInit files asked asked_after from name callers outputs status ended
+  made_over_files name callers source outputs status found left asks is finds ends rested stopped run = inl (record {
     source = source;
     callers_are = is;
     made = record {
@@ -122,21 +123,24 @@ module _ (files : List ℕ → KnownFile) (stores : List ℕ → Image → Type 
       status_is = run.status_is;
     };
     kept = kept_made from source run.outcome ended (record { found = found; finds = finds; left = left; used = (rested, run.left, stopped); ends = ends });
+    asks = once_connected asked asked_after name true from (λ fault. run.outcome ≡ Some (of_store fault)) ended left ends asks;
   })
 
   -- no connection could be made
-  pub not_connected : (name callers : List ℕ) (outputs : Outputs) (status : ℕ) (fault : StoreFault) (any : AnyFault) → stores name from → IsRefused true from fault ended → any ≡ of_store fault
-      → Keeps outputs.output outputs.written → IsTold (Some any) outputs.errors outputs.told → status ≡ run_status (Some any) → IsInit files stores from name callers outputs status ended
-  not_connected name callers outputs status fault any named refused is keeps told status_is = inr (inl (record {
-    named = named;
+  pub not_connected : (name callers : List ℕ) (outputs : Outputs) (status : ℕ) (fault : StoreFault) (any : AnyFault) → AsksFor asked asked_after name true from (refused_with fault ended)
+      → IsRefused true from fault ended → any ≡ of_store fault → Keeps outputs.output outputs.written → IsTold (Some any) outputs.errors outputs.told → status ≡ run_status (Some any)
+      → IsInit files asked asked_after from name callers outputs status ended
+  not_connected name callers outputs status fault any asks refused is keeps told status_is = inr (inl (record {
     fault = fault;
     refused = refused;
     kept = kept_found from ended refused.left;
     told = subst (λ (any : AnyFault). IsToldAlone any outputs status) is (keeps, told, status_is);
+    asks = once_refused asked asked_after name true from (λ told. told ≡ fault) ended fault refused.left refl asks;
   }))
 
   -- the same of names that are the same
   pub same_init : (name name_slice callers callers_slice : List ℕ) (outputs : Outputs) (status : ℕ) → name_slice ≡ name → callers_slice ≡ callers
-      → IsInit files stores from name_slice callers_slice outputs status ended → IsInit files stores from name callers outputs status ended
+      → IsInit files asked asked_after from name_slice callers_slice outputs status ended → IsInit files asked asked_after from name callers outputs status ended
   same_init name name_slice callers callers_slice outputs status same same_callers init =
-      subst (λ (it : List ℕ). IsInit files stores from it callers outputs status ended) same (subst (λ (it : List ℕ). IsInit files stores from name_slice it outputs status ended) same_callers init)
+      subst (λ (it : List ℕ). IsInit files asked asked_after from it callers outputs status ended) same
+      (subst (λ (it : List ℕ). IsInit files asked asked_after from name_slice it outputs status ended) same_callers init)

@@ -1,3 +1,4 @@
+pub mod AskedFacts
 pub mod CallersFacts
 pub mod CheckFacts
 pub mod DeskFacts

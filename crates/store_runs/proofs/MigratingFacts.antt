@@ -1,6 +1,6 @@
 -- What `migrate` leaves of a database, and what it tells.
-use Rattle.std.proofs.Common.{◌≡◌, ℕ, List, Option, Some, Ok, Err, Result, IfErr, ap, false, inl, inr}
-use Rattle.std.proofs.KnownBytes.{Keeps-refl}
+use Rattle.std.proofs.Common.{◌≡◌, ℕ, List, Some, Ok, Err, Result, IfErr, ap, false, inl, inr}
+use Rattle.std.specs.Io.KnownBytes.{Keeps}
 use Rattle.faults.specs.declared.any.AnyFault.{AnyFault}
 use Rattle.sqlite_disk.specs.declared.Disk as disk
 use Rattle.sqlite_store.specs.declared.store.FileStore.{FileStore}
@@ -12,13 +12,17 @@ use Rattle.bureau_sql.specs.Migrated.{AreMigrated, LeavesUntouched}
 use Rattle.bureau_sql.specs.Opening.{IsNotEarlier}
 use Rattle.bureau_sql.specs.SqlView.{IsAtRest}
 use Rattle.bureau_store.specs.declared.fault.StoreFault.{StoreFault}
+use Rattle.store_runs.specs.Asked.{Asked, AsksFor, Connected, refused_with}
 use Rattle.store_runs.specs.Desk.{of_store}
 use Rattle.store_runs.specs.Ended.{HasFound, IsEndOf, IsRefused}
-use Rattle.run_parts.specs.Outputs.{IsTold, fault_in, run_status}
+use Rattle.run_parts.specs.Outputs.{IsTold, Outputs, fault_in, run_status}
 use Rattle.store_runs.specs.Migrating.{HasMigrated, IsMigrateLeft, IsMigrateRun, LeavesMigrated}
 use Rattle.run_parts.specs.ProgramFault.{of_program}
+use Rattle.store_runs.specs.NamedStore.{IsMigrate}
 use Rattle.store_runs.specs.declared.ended.Ended.{Ended}
 use Rattle.run_parts.specs.declared.fault.ProgramFault.TheVariants.{NotWritten}
+use Rattle.store_runs.proofs.AskedFacts.{once_connected, once_refused}
+use Rattle.store_runs.proofs.KeptFacts.{kept_migrated}
 
 -- it is migrated, whether or not the line could be written
 pub migrated : {T : Type 0} (outcome : Result T AnyFault) (before after : State) → HasMigrated before after
@@ -31,27 +35,28 @@ pub not_migrated : (refused : StoreFault) (fault : AnyFault) (before after : Sta
     → LeavesUntouched before after refused → IsMigrateLeft (Some fault) before after
 not_migrated refused fault before after is why kept untouched = inr (refused, is, why, kept, untouched)
 
--- no connection to the files could be made
-pub not_connected : {D : Type 0} {g : disk.Ghosts D} (from : Image) (ended : Ended D g) (output : Option (List ℕ)) (fault : StoreFault) (any : AnyFault) (old new : Option (List ℕ)) (status : ℕ)
-    → IsRefused false from fault ended → any ≡ of_store fault → IsTold (Some any) old new → status ≡ run_status (Some any)
-    → IsMigrateRun (λ outcome. LeavesMigrated from outcome ended) output output old new status
-not_connected from ended output fault any old new status refused is told status_is = record {
-  outcome = Some any;
-  left = inl (fault, ap Some is, refused);
-  output = inr (fault, is, Keeps-refl output);
-  told = told;
-  status_is = status_is;
-}
+-- ---- by the name of the file
 
--- one was made, and ended
-pub over_files : {D : Type 0} {g : disk.Ghosts D} (from : Image) (ended : Ended D g) (found left : Held (FileStore D g)) → HasFound from found → IsEndOf left ended
-    → IsAtRest (file_state found) → Survives (file_state found) (file_state left) (AreMigrated (file_state found)) → (old new old_errors new_errors : Option (List ℕ)) (status : ℕ)
-    → IsMigrateRun (λ outcome. IsMigrateLeft outcome (file_state found) (file_state left)) old new old_errors new_errors status
-    → IsMigrateRun (λ outcome. LeavesMigrated from outcome ended) old new old_errors new_errors status
-over_files from ended found left finds ends rested stopped old new old_errors new_errors status run = record {
-  outcome = run.outcome;
-  left = inr (record { found = found; finds = finds; left = left; used = (rested, run.left, stopped); ends = ends });
-  output = run.output;
-  told = run.told;
-  status_is = run.status_is;
-}
+module _ {D : Type 0} {g : disk.Ghosts D} (asked asked_after : Asked) (from : Image) (name : List ℕ) (outputs : Outputs) (status : ℕ) (ended : Ended D g) where
+  -- no connection to the files could be made
+  pub not_connected : (fault : StoreFault) (any : AnyFault) → IsRefused false from fault ended → any ≡ of_store fault → Keeps outputs.output outputs.written
+      → IsTold (Some any) outputs.errors outputs.told → status ≡ run_status (Some any) → AsksFor asked asked_after name false from (refused_with fault ended)
+      → IsMigrate asked asked_after from name outputs status ended
+  not_connected fault any refused is keeps told status_is asks =
+      let left : LeavesMigrated from (Some any) ended = inl (fault, ap Some is, refused) in record {
+        migrated = record { outcome = Some any; left = left; output = inr (fault, is, keeps); told = told; status_is = status_is };
+        kept = kept_migrated from (Some any) ended left;
+        asks = once_refused asked asked_after name false from (λ (other : StoreFault). Some any ≡ Some (of_store other)) ended fault refused.left (ap Some is) asks;
+      }
+
+  -- one was made, and ended
+  pub over_files : (found left : Held (FileStore D g)) → HasFound from found → IsEndOf left ended → IsAtRest (file_state found)
+      → Survives (file_state found) (file_state left) (AreMigrated (file_state found))
+      → IsMigrateRun (λ outcome. IsMigrateLeft outcome (file_state found) (file_state left)) outputs.output outputs.written outputs.errors outputs.told status
+      → AsksFor asked asked_after name false from Connected → IsMigrate asked asked_after from name outputs status ended
+  over_files found conn finds ends rested stopped run asks =
+      let left : LeavesMigrated from run.outcome ended = inr (record { found = found; finds = finds; left = conn; used = (rested, run.left, stopped); ends = ends }) in record {
+        migrated = record { outcome = run.outcome; left = left; output = run.output; told = run.told; status_is = run.status_is };
+        kept = kept_migrated from run.outcome ended left;
+        asks = once_connected asked asked_after name false from (λ fault. run.outcome ≡ Some (of_store fault)) ended conn ends asks;
+      }

@@ -34,6 +34,7 @@ use Rattle.sqlite.specs.State.{HasCleanDisk, State}
 use Rattle.run_parts.specs.Outputs.{Outputs, line_in}
 use Rattle.run_parts.specs.ProgramFault.{of_program, status_of}
 use Rattle.run_parts.specs.declared.fault.ProgramFault.TheVariants.{NotWritten}
+use Rattle.store_runs.specs.Asked.{Asked, AsksOnce}
 use Rattle.store_runs.specs.Desk.{of_store}
 use Rattle.store_runs.specs.Ended.{IsRefused, IsUsed}
 use Rattle.store_runs.specs.Keeping.{KeepsFound, TellsOnly}
@@ -146,12 +147,12 @@ IsFilesChecked from old new ended outcome =
 
 -- `check STORE`, by the name of its file. Over files that held the bureau's own store, it tells no fault of a store but 41 or 42
 -- (`IsOfRead`), and 44 only with the name of a table. A stop leaves what was there: a database tree by tree, and so a store of
--- either version.
-pub record IsCheck (stores : List ℕ → Image → Type 0) (from : Image) {D : Type 0} {g : disk.Ghosts D} (name : List ℕ) (outputs : Outputs) (status : ℕ) (ended : Ended D g) : Type 0 where
-  pub named : stores name from
+-- either version. It asks for that store alone.
+pub record IsCheck (asked asked_after : Asked) (from : Image) {D : Type 0} {g : disk.Ghosts D} (name : List ℕ) (outputs : Outputs) (status : ℕ) (ended : Ended D g) : Type 0 where
   pub checked : IsCheckRun (IsFilesChecked from outputs.output outputs.written ended) outputs.errors outputs.told status
   pub faults : TellsOnly IsOfRead (λ fault. checked.outcome ≡ Some (in_no_table (of_store fault))) from ended
   pub kept : KeepsFound from ended
+  pub asks : AsksOnce asked asked_after name false from (λ fault. checked.outcome ≡ Some (in_no_table (of_store fault))) ended
 
 -- ---- No part of what is promised: private contracts cite it.
 

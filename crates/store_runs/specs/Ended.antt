@@ -93,6 +93,18 @@ module _ {D : Type 0} {g : Ghosts D} where
   IsNothing (Left it) = ⊥
   IsNothing (Closed last) = ⊥
 
+  -- an open failed, and something is left of them
+  abbrev pub IsLeft : Ended D g → Type 0
+  IsLeft Nothing = ⊥
+  IsLeft (Left it) = Unit {0}
+  IsLeft (Closed last) = ⊥
+
+  -- they were opened as a database, and the connection was ended
+  abbrev pub IsClosed : Ended D g → Type 0
+  IsClosed Nothing = ⊥
+  IsClosed (Left it) = ⊥
+  IsClosed (Closed last) = Unit {0}
+
   -- the log was copied into the file, where files were opened as a database; else nothing was done
   abbrev pub IsCopiedEnd : Ended D g → Ended D g → Type 0
   IsCopiedEnd Nothing after = after ≡ Nothing

@@ -1,3 +1,4 @@
+pub mod Asked
 pub mod Callers
 pub mod Checking
 pub mod Desk

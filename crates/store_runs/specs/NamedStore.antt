@@ -1,6 +1,6 @@
--- What `init`, `migrate` and `callers` do with a store, by the name of its file: what they read, what is left of its files, what both streams
--- get, and the exit status.
-use Rattle.std.specs.Prelude.{◌≡◌, ◌⊎◌, ℕ, List, true}
+-- What `init`, `migrate` and `callers` do with a store, by the name of its file: what they read, which store they ask for, what is left of
+-- its files, what both streams get, and the exit status.
+use Rattle.std.specs.Prelude.{◌≡◌, ◌⊎◌, ℕ, List, false, true, Some}
 use Rattle.faults.specs.declared.any.AnyFault.{AnyFault}
 use Rattle.bureau_store.specs.declared.caller.CallerRow.{CallerRow}
 use Rattle.bureau_store.specs.declared.fault.StoreFault.{StoreFault}
@@ -10,6 +10,7 @@ use Rattle.run_parts.specs.Files.{KnownFile, IsContent}
 use Rattle.run_parts.specs.Outputs.{Outputs, IsToldAlone}
 use Rattle.run_parts.specs.ProgramFault.{of_program}
 use Rattle.run_parts.specs.declared.fault.ProgramFault.TheVariants.{NotRead, Memory}
+use Rattle.store_runs.specs.Asked.{Asked, AsksOnce}
 use Rattle.store_runs.specs.Callers.{IsCallersRun, KeepsCallers, files_set}
 use Rattle.store_runs.specs.Desk.{AreRowsOf, IsCallersFault, IsInitRun, LeavesMade, of_store}
 use Rattle.store_runs.specs.Ended.{IsNothing, IsRefused}
@@ -25,35 +26,35 @@ HasCallerFault callers fault = (source : List ℕ) × IsContent callers source �
 abbrev pub IsNotBegun : KnownFile → AnyFault → Type 0
 IsNotBegun callers fault = (fault ≡ of_program NotRead) ⊎ (fault ≡ of_program Memory) ⊎ HasCallerFault callers fault
 
--- Of the files by their names, of what the two files of a store of a name may hold, and of what they held as the run began.
-module _ (files : List ℕ → KnownFile) (stores : List ℕ → Image → Type 0) (from : Image) {D : Type 0} {g : disk.Ghosts D} where
+-- Of the files by their names, of the stores that were asked for before the run and by its end, and of what those of its own held.
+module _ (files : List ℕ → KnownFile) (asked asked_after : Asked) (from : Image) {D : Type 0} {g : disk.Ghosts D} where
   -- the callers file is read, and a store with its callers is made in the database that a connection finds in the store's files
   pub record IsMade (name callers : List ℕ) (outputs : Outputs) (status : ℕ) (ended : Ended D g) : Type 0 where
-    pub named : stores name from
     pub source : List ℕ
     pub callers_are : IsContent (files callers) source
     pub made : IsInitRun (λ outcome. LeavesMade from source outcome ended) source outputs.output outputs.written outputs.errors outputs.told status
     pub kept : KeepsMade from source made.outcome ended
+    pub asks : AsksOnce asked asked_after name true from (λ fault. made.outcome ≡ Some (of_store fault)) ended
 
   -- no connection to the store's files can be made, which is told
   pub record IsNotMade (name : List ℕ) (outputs : Outputs) (status : ℕ) (ended : Ended D g) : Type 0 where
-    pub named : stores name from
     pub fault : StoreFault
     pub refused : IsRefused true from fault ended
     pub kept : KeepsFound from ended
     pub told : IsToldAlone (of_store fault) outputs status
+    pub asks : AsksOnce asked asked_after name true from (λ told. told ≡ fault) ended
 
-  -- `init STORE CALLERS`. What is wrong with the callers file may be told before the store's files are opened.
+  -- `init STORE CALLERS`. What is wrong with the callers file may be told before the store is asked for.
   abbrev pub IsInit : List ℕ → List ℕ → Outputs → ℕ → Ended D g → Type 0
   IsInit name callers outputs status ended =
       IsMade name callers outputs status ended ⊎ IsNotMade name outputs status ended
-      ⊎ ((fault : AnyFault) × IsNotBegun (files callers) fault × IsToldAlone fault outputs status × IsNothing ended)
+      ⊎ ((fault : AnyFault) × IsNotBegun (files callers) fault × IsToldAlone fault outputs status × IsNothing ended × (asked_after ≡ asked))
 
 -- `migrate STORE`
-pub record IsMigrate (stores : List ℕ → Image → Type 0) (from : Image) {D : Type 0} {g : disk.Ghosts D} (name : List ℕ) (outputs : Outputs) (status : ℕ) (ended : Ended D g) : Type 0 where
-  pub named : stores name from
+pub record IsMigrate (asked asked_after : Asked) (from : Image) {D : Type 0} {g : disk.Ghosts D} (name : List ℕ) (outputs : Outputs) (status : ℕ) (ended : Ended D g) : Type 0 where
   pub migrated : IsMigrateRun (λ outcome. LeavesMigrated from outcome ended) outputs.output outputs.written outputs.errors outputs.told status
   pub kept : KeepsMigrated from migrated.outcome ended
+  pub asks : AsksOnce asked asked_after name false from (λ fault. migrated.outcome ≡ Some (of_store fault)) ended
 
 -- the callers file has these callers
 pub record HasRows (callers : KnownFile) (rows : List CallerRow) : Type 0 where
@@ -61,17 +62,17 @@ pub record HasRows (callers : KnownFile) (rows : List CallerRow) : Type 0 where
   pub content : IsContent callers source
   pub rows_are : AreRowsOf source rows
 
--- `callers STORE CALLERS`. The callers file is read and checked before the store's files are opened.
-module _ (files : List ℕ → KnownFile) (stores : List ℕ → Image → Type 0) (from : Image) {D : Type 0} {g : disk.Ghosts D} where
+-- `callers STORE CALLERS`. The callers file is read and checked before the store is asked for.
+module _ (files : List ℕ → KnownFile) (asked asked_after : Asked) (from : Image) {D : Type 0} {g : disk.Ghosts D} where
   -- the store in the files gets the callers, or there is none
   pub record IsSet (name callers : List ℕ) (outputs : Outputs) (status : ℕ) (ended : Ended D g) : Type 0 where
-    pub named : stores name from
     pub rows : List CallerRow
     pub rows_are : HasRows (files callers) rows
     pub set : IsCallersRun (files_set rows from ended) outputs.output outputs.written outputs.errors outputs.told status
     pub kept : KeepsCallers from rows set.outcome ended
+    pub asks : AsksOnce asked asked_after name false from (λ fault. set.outcome ≡ Some (of_store fault)) ended
 
   abbrev pub IsCallers : List ℕ → List ℕ → Outputs → ℕ → Ended D g → Type 0
   IsCallers name callers outputs status ended =
       IsSet name callers outputs status ended
-      ⊎ ((fault : AnyFault) × IsNotBegun (files callers) fault × IsToldAlone fault outputs status × IsNothing ended)
+      ⊎ ((fault : AnyFault) × IsNotBegun (files callers) fault × IsToldAlone fault outputs status × IsNothing ended × (asked_after ≡ asked))

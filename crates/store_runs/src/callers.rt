@@ -119,9 +119,10 @@ fn push_count(line: &mut Vec<u8>, word: &[u8], number: u64) -> Result<(), Progra
 /// Gives the store in the file `store` the callers that stand in the file `callers`. A file that isn't there is not
 /// made. Returns the exit status, and what is left of the store's files.
 ///
-/// A fault of the callers file is told before the store is opened.
-pub fn callers_file<S: Stores, D: Start, O: Write, E: Write>(
-    surroundings: &S,
+/// A fault of the callers file is told before the store is asked for.
+pub fn callers_file<F: Files, S: Stores, D: Start, O: Write, E: Write>(
+    files: &F,
+    stores: &mut S,
     alloc: Global,
     store: &str,
     callers: &str,
@@ -129,16 +130,16 @@ pub fn callers_file<S: Stores, D: Start, O: Write, E: Write>(
     output: &mut O,
     errors: &mut E,
 ) -> (u8, Ended<FileFrom<D>>)
-    ensures { IsCallers (S.known_file surroundings.now) (S.known_store surroundings.now)
+    ensures { IsCallers (F.known_file files.now) (S.asked stores.old) (S.asked stores.new)
         (image_at D.Start) store.now callers.now
         (outputs_of O.contents E.contents output.old output.new errors.old errors.new)
         result.0 result.1 }
 {
-    let callers = match callers_of_file(surroundings, alloc, callers) {
+    let callers = match callers_of_file(files, alloc, callers) {
         Ok(callers) => callers,
         Err(fault) => return (told(errors, Err(fault)), Ended::Nothing),
     };
-    match surroundings.connect(store, false, start) {
+    match stores.connect(store, false, start) {
         Ok(conn) => {
             let (status, conn) = run_callers(alloc, conn, callers.as_slice(), output, errors);
             (status, end(conn))

@@ -64,18 +64,18 @@ pub fn run_check<S: Alter, W: Write, E: Write>(
 /// The same of the store that a file has. A file that isn't there is not made. Returns the exit status, and what is
 /// left of the files.
 pub fn check_file<S: Stores, D: Start, W: Write, E: Write>(
-    surroundings: &S,
+    stores: &mut S,
     alloc: Global,
     store: &str,
     start: D,
     writer: &mut W,
     errors: &mut E,
 ) -> (u8, Ended<FileFrom<D>>)
-    ensures { IsCheck (S.known_store surroundings.now) (image_at D.Start) store.now
+    ensures { IsCheck (S.asked stores.old) (S.asked stores.new) (image_at D.Start) store.now
         (outputs_of W.contents E.contents writer.old writer.new errors.old errors.new)
         result.0 result.1 }
 {
-    match surroundings.connect(store, false, start) {
+    match stores.connect(store, false, start) {
         Ok(conn) => {
             let mut conn = conn;
             let status = run_check(alloc, &mut conn, writer, errors);

@@ -107,8 +107,9 @@ pub fn of_store(fault: StoreFault) -> AnyFault
 /// and what is left of the store's files.
 ///
 /// A file that isn't there is made. Where it isn't, a fault of the callers file is told before.
-pub fn do_init<S: Stores, D: Start, O: Write, E: Write>(
-    surroundings: &S,
+pub fn do_init<F: Files, S: Stores, D: Start, O: Write, E: Write>(
+    files: &F,
+    stores: &mut S,
     alloc: Global,
     store: &str,
     callers: &str,
@@ -116,16 +117,16 @@ pub fn do_init<S: Stores, D: Start, O: Write, E: Write>(
     output: &mut O,
     errors: &mut E,
 ) -> (u8, Ended<FileFrom<D>>)
-    ensures { IsInit (S.known_file surroundings.now) (S.known_store surroundings.now)
+    ensures { IsInit (F.known_file files.now) (S.asked stores.old) (S.asked stores.new)
         (image_at D.Start) store.now callers.now
         (outputs_of O.contents E.contents output.old output.new errors.old errors.new)
         result.0 result.1 }
 {
-    let callers = match read_callers(surroundings, alloc, store, callers) {
+    let callers = match read_callers(files, alloc, store, callers) {
         Ok(callers) => callers,
         Err(fault) => return (told(errors, Err(fault)), Ended::Nothing),
     };
-    match surroundings.connect(store, true, start) {
+    match stores.connect(store, true, start) {
         Ok(conn) => {
             let mut conn = conn;
             let status = run_init(alloc, &mut conn, callers.as_slice(), output, errors);
@@ -137,18 +138,18 @@ pub fn do_init<S: Stores, D: Start, O: Write, E: Write>(
 
 // What stands in the callers file. Where the file of the store isn't there, a fault of the callers file is found before
 // one is made.
-fn read_callers<S: Stores>(
-    surroundings: &S,
+fn read_callers<F: Files>(
+    files: &F,
     alloc: Global,
     store: &str,
     callers: &str,
 ) -> Result<Vec<u8>, AnyFault>
     ensures callers { IfOk result (λ source.
-        IsContent (S.known_file surroundings.now callers.now) source.items) }
-    ensures fault { IfErr result (IsNotBegun (S.known_file surroundings.now callers.now)) }
+        IsContent (F.known_file files.now callers.now) source.items) }
+    ensures fault { IfErr result (IsNotBegun (F.known_file files.now callers.now)) }
 {
-    let source = read_file(surroundings, alloc, callers, &mut { RETRIES })?;
-    if surroundings.open(store).is_err() {
+    let source = read_file(files, alloc, callers, &mut { RETRIES })?;
+    if files.open(store).is_err() {
         let _rows = callers_in(alloc, source.as_slice())?;
     }
     Ok(source)

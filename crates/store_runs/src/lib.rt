@@ -1,7 +1,7 @@
 //! The runs of the program over a store in a file: a store is made, opened, made one of version 2, gets other
 //! callers, or is looked through, and what its files hold wherever a run ends.
 //!
-//! - [`Stores`]: files, and connections to the databases in them
+//! - [`Stores`]: connections to the databases in files
 //! - [`do_init`], [`migrate_file`], [`callers_file`]: `init`, `migrate` and `callers`, of stores by the names of
 //!   their files
 //! - [`run_init`], [`run_open`], [`run_migrate`], [`run_callers`]: a store is made, opened, made one of version 2,

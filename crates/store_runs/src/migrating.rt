@@ -1,7 +1,8 @@
 //! `migrate`: a store of version 1 in a file becomes one of version 2.
 ghost use Rattle.std.specs.Prelude.{◌≡◌, false};
-ghost use Rattle.run_parts.specs.Outputs.{fault_in};
-ghost use Rattle.store_runs.specs.Migrating.{IsMigrateLeft, IsMigrateOutput, IsMigrateRun, LeavesMigrated};
+ghost use Rattle.run_parts.specs.Outputs.{fault_in, outputs_of};
+ghost use Rattle.store_runs.specs.Migrating.{IsMigrateLeft, IsMigrateOutput, IsMigrateRun};
+ghost use Rattle.store_runs.specs.NamedStore.{IsMigrate};
 ghost use Rattle.bureau_sql.specs.Migrated.{AreMigrated};
 ghost use Rattle.bureau_sql.specs.SqlView.{IsAtRest};
 ghost use Rattle.sqlite.specs.Held.{state};
@@ -64,19 +65,18 @@ fn migrate_and_print<S: Alter, W: Write>(
 /// The same of the store that a file has. A file that isn't there is not made. Returns the exit status, and what is
 /// left of the files.
 pub fn migrate_file<S: Stores, D: Start, W: Write, E: Write>(
-    surroundings: &S,
+    stores: &mut S,
     alloc: Global,
     store: &str,
     start: D,
     writer: &mut W,
     errors: &mut E,
 ) -> (u8, Ended<FileFrom<D>>)
-    ensures run { IsMigrateRun (λ outcome. LeavesMigrated (image_at D.Start) outcome result.1)
-        (W.contents writer.old) (W.contents writer.new)
-        (E.contents errors.old) (E.contents errors.new) result.0 }
-    ensures named { S.known_store surroundings.now store.now (image_at D.Start) }
+    ensures { IsMigrate (S.asked stores.old) (S.asked stores.new) (image_at D.Start) store.now
+        (outputs_of W.contents E.contents writer.old writer.new errors.old errors.new)
+        result.0 result.1 }
 {
-    match surroundings.connect(store, false, start) {
+    match stores.connect(store, false, start) {
         Ok(conn) => {
             let mut conn = conn;
             let status = run_migrate(&mut conn, writer, errors);

@@ -1,5 +1,5 @@
 //! Whole runs, by their words, over files that are interrupted while they are read.
-use super::surroundings::{Around, STORE};
+use super::surroundings::{Around, NoStores, STORE};
 use bureau_program::run;
 use sqlite::Unknown;
 use std::alloc::Global;
@@ -66,6 +66,7 @@ fn assert_ended(alloc: Global, keys: RandomState, row: &Row) -> Result<(), Fail>
     let mut input = b"".as_slice();
     let (ended, _) = run(
         &mut around,
+        &mut NoStores,
         alloc,
         Unknown,
         &mut input,

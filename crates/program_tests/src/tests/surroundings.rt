@@ -1,4 +1,4 @@
-//! What surrounds a run of a test.
+//! What surrounds a run of a test, and stores that can't be opened.
 use super::desk_tests::CALLERS;
 use bureau_program::Surroundings;
 use bureau_store::StoreFault;
@@ -29,8 +29,7 @@ pub(crate) enum PortHas<'a> {
     Passers(u64),
 }
 
-/// Words, files that are interrupted so often, and what each port has. Memory runs out where a store may be made,
-/// and there is none where it may not. A store of another name can't be opened.
+/// Words, files that are interrupted so often, and what each port has.
 #[derive(Drop)]
 pub(crate) struct Around<'a> {
     words: &'static [&'static str],
@@ -142,11 +141,18 @@ impl Files for Around<'_> {
     }
 }
 
-impl Stores for Around<'_> {
-    ghost known_store = { λ _ _ _. Unit {0} };
+/// Memory runs out where a store may be made, and there is none where it may not. A store of another name than
+/// [`STORE`] can't be opened.
+#[derive(Drop)]
+pub(crate) struct NoStores;
+
+impl Stores for NoStores {
+    ghost use Rattle.std.specs.Prelude.{None};
+
+    ghost asked = { λ _. None };
 
     fn connect<D: Start>(
-        &self,
+        &mut self,
         name: &str,
         makes: bool,
         _start: D,

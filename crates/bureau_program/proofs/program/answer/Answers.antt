@@ -6,15 +6,15 @@ use Rattle.bureau_program.specs.Program.{Found, IsAnswered, IsServe, found_in}
 use Rattle.run_parts.specs.Outputs.{Outputs, outputs_of}
 use Rattle.bureau_program.specs.declared.serving.Service.{Service}
 use Rattle.store_runs.specs.Checking.{IsCheck}
+use Rattle.store_runs.specs.NamedStore.{IsMigrate}
 use Rattle.store_runs.proofs.CallersFacts.{same_callers_run}
 use Rattle.store_runs.proofs.DeskFacts.{same_init}
-use Rattle.store_runs.proofs.KeptFacts.{kept_migrated}
 use Rattle.bureau_program.proofs.program.answer.Goals as goal
 
 pub returns-in-Ok-Init : goal.returns-in-Ok-Init
 returns-in-Ok-Init g c =
     let at = c.args.surroundings.now in
-    let of : Found = found_in (g.S.Files.known_file at) (g.S.Stores.known_store at) (g.S.Surroundings.known_port at) (g.S.Rounds.is_over at) (g.S.Rounds.log at) (g.S.Rounds.log at) in
+    let of : Found = found_in (g.S.Files.known_file at) (g.T.Stores.asked c.args.stores.now) (g.T.Stores.asked c.do_init.new.stores) (g.S.Surroundings.known_port at) (g.S.Rounds.is_over at) (g.S.Rounds.log at) (g.S.Rounds.log at) in
     let input = g.I.Read.remaining c.args.input.now in
     let outputs : Outputs =
     outputs_of g.O.Write.contents g.E.Write.contents c.args.output.now c.do_init.new.output c.args.errors.now c.do_init.new.errors in
@@ -22,14 +22,14 @@ returns-in-Ok-Init g c =
     subst (λ line. IsAnswered of (image_at g.D.Start) line input input outputs c.do_init.result.0 c.do_init.result.1) (sym is) (
       Keeps-refl input,
       refl,
-      same_init of.files of.stores (image_at g.D.Start) c.do_init.result.1 (string_bytes c.in-Ok-Init.store) c.as_str-store.result.now (string_bytes c.in-Ok-Init.callers) c.as_str-callers-in-Ok-Init.result.now
+      same_init of.files of.asked of.asked_after (image_at g.D.Start) c.do_init.result.1 (string_bytes c.in-Ok-Init.store) c.as_str-store.result.now (string_bytes c.in-Ok-Init.callers) c.as_str-callers-in-Ok-Init.result.now
           outputs c.do_init.result.0 c.as_str-store.ensures.value c.as_str-callers-in-Ok-Init.ensures.value c.do_init.ensures,
     )
 
 pub returns-in-Ok-Serve : goal.returns-in-Ok-Serve
 returns-in-Ok-Serve g c =
     let at = c.args.surroundings.now in
-    let of : Found = found_in (g.S.Files.known_file at) (g.S.Stores.known_store at) (g.S.Surroundings.known_port at) (g.S.Rounds.is_over c.run_serve.new.surroundings) (g.S.Rounds.log at) (g.S.Rounds.log c.run_serve.new.surroundings) in
+    let of : Found = found_in (g.S.Files.known_file at) (g.T.Stores.asked c.args.stores.now) (g.T.Stores.asked c.run_serve.new.stores) (g.S.Surroundings.known_port at) (g.S.Rounds.is_over c.run_serve.new.surroundings) (g.S.Rounds.log at) (g.S.Rounds.log c.run_serve.new.surroundings) in
     let input = g.I.Read.remaining c.args.input.now in
     let service : Service = record { port = c.in-Ok-Serve.port; cache = c.in-Ok-Serve.cache; connections = c.in-Ok-Serve.connections; most_open = c.in-Ok-Serve.most_open; log = c.in-Ok-Serve.log } in
     let outputs : Outputs =
@@ -43,7 +43,7 @@ returns-in-Ok-Serve g c =
 pub returns-in-Ok-Migrate : goal.returns-in-Ok-Migrate
 returns-in-Ok-Migrate g c =
     let at = c.args.surroundings.now in
-    let of : Found = found_in (g.S.Files.known_file at) (g.S.Stores.known_store at) (g.S.Surroundings.known_port at) (g.S.Rounds.is_over at) (g.S.Rounds.log at) (g.S.Rounds.log at) in
+    let of : Found = found_in (g.S.Files.known_file at) (g.T.Stores.asked c.args.stores.now) (g.T.Stores.asked c.migrate_file.new.stores) (g.S.Surroundings.known_port at) (g.S.Rounds.is_over at) (g.S.Rounds.log at) (g.S.Rounds.log at) in
     let input = g.I.Read.remaining c.args.input.now in
     let outputs : Outputs =
     outputs_of g.O.Write.contents g.E.Write.contents c.args.output.now c.migrate_file.new.writer c.args.errors.now c.migrate_file.new.errors in
@@ -51,17 +51,13 @@ returns-in-Ok-Migrate g c =
     subst (λ line. IsAnswered of (image_at g.D.Start) line input input outputs c.migrate_file.result.0 c.migrate_file.result.1) (sym is) (
       Keeps-refl input,
       refl,
-      record {
-        named = subst (λ (name : List ℕ). g.S.Stores.known_store at name (image_at g.D.Start)) c.as_str-in-Ok-Migrate.ensures.value c.migrate_file.ensures.named;
-        migrated = c.migrate_file.ensures.run;
-        kept = kept_migrated (image_at g.D.Start) c.migrate_file.ensures.run.outcome c.migrate_file.result.1 c.migrate_file.ensures.run.left;
-      },
+      subst (λ (name : List ℕ). IsMigrate of.asked of.asked_after (image_at g.D.Start) name outputs c.migrate_file.result.0 c.migrate_file.result.1) c.as_str-in-Ok-Migrate.ensures.value c.migrate_file.ensures,
     )
 
 pub returns-in-Ok-Check : goal.returns-in-Ok-Check
 returns-in-Ok-Check g c =
     let at = c.args.surroundings.now in
-    let of : Found = found_in (g.S.Files.known_file at) (g.S.Stores.known_store at) (g.S.Surroundings.known_port at) (g.S.Rounds.is_over at) (g.S.Rounds.log at) (g.S.Rounds.log at) in
+    let of : Found = found_in (g.S.Files.known_file at) (g.T.Stores.asked c.args.stores.now) (g.T.Stores.asked c.check_file.new.stores) (g.S.Surroundings.known_port at) (g.S.Rounds.is_over at) (g.S.Rounds.log at) (g.S.Rounds.log at) in
     let input = g.I.Read.remaining c.args.input.now in
     let outputs : Outputs =
     outputs_of g.O.Write.contents g.E.Write.contents c.args.output.now c.check_file.new.writer c.args.errors.now c.check_file.new.errors in
@@ -69,13 +65,13 @@ returns-in-Ok-Check g c =
     subst (λ line. IsAnswered of (image_at g.D.Start) line input input outputs c.check_file.result.0 c.check_file.result.1) (sym is) (
       Keeps-refl input,
       refl,
-      subst (λ (name : List ℕ). IsCheck of.stores (image_at g.D.Start) name outputs c.check_file.result.0 c.check_file.result.1) c.as_str-in-Ok-Check.ensures.value c.check_file.ensures,
+      subst (λ (name : List ℕ). IsCheck of.asked of.asked_after (image_at g.D.Start) name outputs c.check_file.result.0 c.check_file.result.1) c.as_str-in-Ok-Check.ensures.value c.check_file.ensures,
     )
 
 pub returns-in-Ok-Callers : goal.returns-in-Ok-Callers
 returns-in-Ok-Callers g c =
     let at = c.args.surroundings.now in
-    let of : Found = found_in (g.S.Files.known_file at) (g.S.Stores.known_store at) (g.S.Surroundings.known_port at) (g.S.Rounds.is_over at) (g.S.Rounds.log at) (g.S.Rounds.log at) in
+    let of : Found = found_in (g.S.Files.known_file at) (g.T.Stores.asked c.args.stores.now) (g.T.Stores.asked c.callers_file.new.stores) (g.S.Surroundings.known_port at) (g.S.Rounds.is_over at) (g.S.Rounds.log at) (g.S.Rounds.log at) in
     let input = g.I.Read.remaining c.args.input.now in
     let outputs : Outputs =
     outputs_of g.O.Write.contents g.E.Write.contents c.args.output.now c.callers_file.new.output c.args.errors.now c.callers_file.new.errors in
@@ -83,6 +79,6 @@ returns-in-Ok-Callers g c =
     subst (λ line. IsAnswered of (image_at g.D.Start) line input input outputs c.callers_file.result.0 c.callers_file.result.1) (sym is) (
       Keeps-refl input,
       refl,
-      same_callers_run of.files of.stores (image_at g.D.Start) c.callers_file.result.1 (string_bytes c.in-Ok-Callers.store) c.as_str-store-in-Ok-Callers.result.now (string_bytes c.in-Ok-Callers.callers)
+      same_callers_run of.files of.asked of.asked_after (image_at g.D.Start) c.callers_file.result.1 (string_bytes c.in-Ok-Callers.store) c.as_str-store-in-Ok-Callers.result.now (string_bytes c.in-Ok-Callers.callers)
           c.as_str-callers-in-Ok-Callers.result.now outputs c.callers_file.result.0 c.as_str-store-in-Ok-Callers.ensures.value c.as_str-callers-in-Ok-Callers.ensures.value c.callers_file.ensures,
     )

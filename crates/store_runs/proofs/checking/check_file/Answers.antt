@@ -9,14 +9,14 @@ use Rattle.store_runs.proofs.checking.check_file.Goals as goal
 pub returns-in-Ok : goal.returns-in-Ok
 returns-in-Ok g c =
     let run = c.run_check-status in
-    looked_through (g.S.Stores.known_store c.args.surroundings.now) (image_at g.D.Start) c.end.result c.args.store.now c.in-Ok.ensures.named
+    looked_through (g.S.Stores.asked c.args.stores.now) (g.S.Stores.asked c.connect.new.self) (image_at g.D.Start) c.end.result c.args.store.now
     (outputs_of g.W.Write.contents g.E.Write.contents c.args.writer.now run.new.writer c.args.errors.now run.new.errors) run.result c.in-Ok.conn run.new.conn
-    c.in-Ok.ensures.found c.end.ensures run.ensures.rested run.ensures.reads run.ensures.run
+    c.in-Ok.ensures.found c.end.ensures run.ensures.rested run.ensures.reads run.ensures.run c.in-Ok.ensures.asked
 
 pub returns-in-Err : goal.returns-in-Err
 returns-in-Err g c =
     let told = c.told_in in
-    not_connected (g.S.Stores.known_store c.args.surroundings.now) (image_at g.D.Start) c.in-Err.ended c.args.store.now c.in-Err.ensures.named
+    not_connected (g.S.Stores.asked c.args.stores.now) (g.S.Stores.asked c.connect.new.self) (image_at g.D.Start) c.in-Err.ended c.args.store.now
     (outputs_of g.W.Write.contents g.E.Write.contents c.args.writer.now c.args.writer.now c.args.errors.now told.new.errors) told.result
     c.in-Err.fault c.in_no_table.result (c.in_no_table.ensures ∙ ap in_no_table c.of_store.ensures) c.in-Err.ensures.refused (Keeps-refl (g.W.Write.contents c.args.writer.now))
-    told.ensures.told told.ensures.status
+    told.ensures.told told.ensures.status c.in-Err.ensures.asked

@@ -2,7 +2,7 @@ use Rattle.std.proofs.Common.{◌∙◌, Bool, List, ℕ, ap, ap₂, cond}
 use Rattle.sqlite_disk.specs.Events.{Event, replay}
 use Rattle.sqlite_wal.specs.Recovery.{Image}
 use Rattle.store_runs.proofs.EndFacts.{fresh_only, memory_or_device, refused_by, told_why}
-use Rattle.bureau_main.proofs.system.SystemStores.connect.Goals as goal
+use Rattle.bureau_main.proofs.stores.StoreFilesStores.connect.Goals as goal
 
 abbrev image : List ℕ → List ℕ → Image
 image log db = record { log = log; db = db }

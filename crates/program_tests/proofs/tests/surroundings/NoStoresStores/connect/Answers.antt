@@ -4,8 +4,8 @@ use Rattle.sqlite_disk.specs.declared.Disk.{Ghosts}
 use Rattle.sqlite_wal.specs.Recovery.{Image}
 use Rattle.store_runs.specs.Ended.{IsNotConnected, IsRefused}
 use Rattle.store_runs.specs.declared.ended.Ended.TheVariants.{Nothing}
-use Rattle.program_tests.proofs.tests.surroundings.AroundStores.connect.Goals.{in-true-true, in-true-false, in-false-default}
-use Rattle.program_tests.proofs.tests.surroundings.AroundStores.connect.Goals as goal
+use Rattle.program_tests.proofs.tests.surroundings.NoStoresStores.connect.Goals.{in-true-true, in-true-false, in-false-default}
+use Rattle.program_tests.proofs.tests.surroundings.NoStoresStores.connect.Goals as goal
 
 -- no files were opened
 nothing_opened : {D : Type 0} {g : Ghosts D} (makes : Bool) (from : Image) (fault : StoreFault) → IsNotConnected makes fault → IsRefused {D = D} {g = g} makes from fault Nothing
