@@ -184,6 +184,7 @@ def chosen(browser, front, north):
     """SYSMODs that are chosen by boxes, in two reports, and their chains together. bureau-client makes the same job."""
     place = folder()
     browser.open(front.url + "/page/?chosen")
+    enter(browser, NORTH)
     go(browser, "#MVSPROD/errors")
     browser.until("document.querySelector('td.of-box input')")
     click(browser, "td.of-box input")
@@ -655,7 +656,6 @@ def main():
     nothing_there(browser, front, north)
     publisher.run("publish", os.path.join(SITE, "publication.txt"))
     sample(browser, front, north)
-    enter(browser, NORTH)
     chosen(browser, front, north)
     sent_link(browser, front)
     same("lists of SOUTH", south.run("sync", SITE + "/south")[0], 0)

@@ -38,7 +38,7 @@ function categories(hold, member, isFirst) {
 // A hold that is new, or that has changed, has a mark beside its reason.
 const REASON = {
   name: 'reason', title: 'Reason', of: (hold) => hold.reason,
-  cell: (hold, member, isFirst) => (isFirst ? make('span', '', hold.reason, ...(hold.news ? [newsMark(hold)] : [])) : ''),
+  cell: (hold, member, isFirst) => (isFirst ? (hold.news ? make('span', '', hold.reason, newsMark(hold)) : hold.reason) : ''),
 };
 
 function newsMark({ news, since }) {
