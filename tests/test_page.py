@@ -318,6 +318,9 @@ def fixes_by_name(browser, front, publisher):
     report = by_front.run("errsysmods", "MVSPROD")[1]
     same("the client joins it by itself", [line[61:] for line in report.splitlines()[1:-1]], ["FIX", "", "", "order UJ92013", "nothing known"])
     same("as CSV too", [line.split(",")[-1] for line in by_front.run("errsysmods", "--csv", "MVSPROD")[1].splitlines()], ["FIX", "", "", "UJ92013", ""])
+    status, handed, err = by_front.run("report", "--html")
+    wanted = ["order UJ92013", '<a href="%s/page/#MVSPROD/errors/UJ92005">' % front.url, "HOLDDATA up to 2025-08-19 · publication 2", "Plan for the errors"]
+    same("what is handed on leads to the page", (status, err, [each for each in wanted if each not in handed]), (0, "", []))
     same("publish takes it back", publisher.run("publish", write(place + "/q", "".join("++RELEASE(UJ92001) ERROR REASON(AJ7%d).\n" % n for n in (1, 2))))[0], 0)
     os.remove(page + "/symptoms.csv")
     os.remove(page + "/publication.json")

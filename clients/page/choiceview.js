@@ -66,8 +66,8 @@ class TogetherView {
     const text = () => jobOf(plan, titleOf(this.zone, sysmods, this.ways.age()));
     const job = { title: 'SMP/E job', name: this.zone + '-chosen.smpcntl.txt', kind: 'text/plain', text };
     this.element.replaceChildren(
-      this.chips(), make('p', 'verdict', summary(plan)), listOf('left-out', notes.map(curly)), listOf('left-out soft', left),
-      make('ul', 'members', ...boxes), ...(plan.members.length > 0 ? [saveButtons([job], this.ways.say)] : []));
+      this.chips(), make('p', 'verdict', summary(plan)), ...(plan.members.length > 0 ? [saveButtons([job], this.ways.say)] : []),
+      listOf('left-out', notes.map(curly)), listOf('left-out soft', left), make('ul', 'members', ...boxes));
   }
 
   chips() {
