@@ -3,8 +3,9 @@ import { REPORT_OF } from './address.js';
 import { Choice, MOST, ONLY, chosenIn, holdsOf, titleOf, together, wantedOf } from './choice.js';
 import { jobOf } from './job.js';
 import { boxFor, button, make, reasonsOf } from './make.js';
+import { holdName, summaryOf } from './plan.js';
 import { saveButtons } from './save.js';
-import { counted, several } from './words.js';
+import { fewOf, several } from './words.js';
 
 const REPORTS = Object.values(REPORT_OF);
 
@@ -27,20 +28,9 @@ class Bar {
   }
 }
 
-function summary({ members }) {
-  const received = members.filter((member) => member.received).length;
-  const heeded = members.filter((member) => member.system.length + member.user.length > 0).length;
-  if (members.length === 0) return 'Nothing is left to install.';
-  return several(members.length, 'SYSMOD') + ' to install, ' + counted(received) + ' of them received, ' + counted(heeded) + ' with holds to heed.';
-}
-
-function fewOf(texts) {
-  return texts.slice(0, 3).join(', ') + (texts.length > 3 ? ' and ' + (texts.length - 3) + ' more' : '');
-}
-
 function why({ holds, needed_by: needing }) {
-  if (holds.length > 0) return 'for ' + fewOf(holds.map((hold) => hold.sysmod + ' (' + hold.reason + ')'));
-  return needing.length > 0 ? 'needed by ' + fewOf(needing) : 'chosen';
+  if (holds.length > 0) return 'for ' + fewOf(holds.map(holdName), 3);
+  return needing.length > 0 ? 'needed by ' + fewOf(needing, 3) : 'chosen';
 }
 
 const curly = (text) => text.replaceAll("'", '’'); // a job has the other sign
@@ -66,7 +56,7 @@ class TogetherView {
     const text = () => jobOf(plan, titleOf(this.zone, sysmods, this.ways.age()));
     const job = { title: 'SMP/E job', name: this.zone + '-chosen.smpcntl.txt', kind: 'text/plain', text };
     this.element.replaceChildren(
-      this.chips(), make('p', 'verdict', summary(plan)), ...(plan.members.length > 0 ? [saveButtons([job], this.ways.say)] : []),
+      this.chips(), make('p', 'verdict', summaryOf(plan.members, 'Nothing is left to install.')), ...(plan.members.length > 0 ? [saveButtons([job], this.ways.say)] : []),
       listOf('left-out', notes.map(curly)), listOf('left-out soft', left), make('ul', 'members', ...boxes));
   }
 

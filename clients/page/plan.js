@@ -1,5 +1,6 @@
 // A zone's plan, from the desk's JSON, and as rows for a spreadsheet. Nothing here touches the page.
 import { NoReport, json } from './report.js';
+import { counted, several } from './words.js';
 
 const isHold = (hold) => typeof hold?.sysmod === 'string' && typeof hold.reason === 'string';
 const areTexts = (list) => Array.isArray(list) && list.every((text) => typeof text === 'string');
@@ -33,6 +34,16 @@ export function planOf(text, zone, name) {
   const held = plan.held.map((hold) => ({ ...hold, blocked: rowsOfNeeds(hold.resolver, blocked) }));
   return { zone, members: plan.members, unresolved: plan.unresolved, held, blocked: plan.blocked, json: text };
 }
+
+// How much members are, in a sentence, or NONE.
+export function summaryOf(members, none) {
+  if (members.length === 0) return none;
+  const received = members.filter((member) => member.received).length;
+  const heeded = members.filter((member) => member.system.length + member.user.length > 0).length;
+  return several(members.length, 'SYSMOD') + ' to install, ' + counted(received) + ' of them received, ' + counted(heeded) + ' with holds to heed.';
+}
+
+export const holdName = (hold) => hold.sysmod + ' (' + hold.reason + ')';
 
 const named = (holds) => holds.map((hold) => hold.sysmod + ' ' + hold.reason).join(' ');
 

@@ -1,27 +1,18 @@
 // A zone's plan: what to install, in which order, why, and what to heed; and what is left over.
 import { emptyState, make, orderBadge, receivedMark } from './make.js';
-import { counted, several } from './words.js';
+import { counted, fewOf } from './words.js';
 import { Filters } from './filters.js';
-import { planRows } from './plan.js';
+import { holdName, planRows, summaryOf } from './plan.js';
 import { jobOf } from './job.js';
 import { csvOf, saveButtons } from './save.js';
 import { Table } from './table.js';
 
 const NAMES = { errsysmods: 'exception SYSMODs', missingfix: 'missing fixes' };
 
-// `UJ1 (AJ1), UJ2 (AJ2) and 3 more`
-function holdsText(holds) {
-  const named = holds.slice(0, 2).map((hold) => hold.sysmod + ' (' + hold.reason + ')').join(', ');
-  return named + (holds.length > 2 ? ' and ' + (holds.length - 2) + ' more' : '');
-}
-
 function why(member) {
   const parts = [];
-  if (member.holds.length > 0) parts.push('resolves ' + holdsText(member.holds));
-  if (member.needed_by.length > 0) {
-    const more = member.needed_by.length > 3 ? ' and ' + (member.needed_by.length - 3) + ' more' : '';
-    parts.push('needed by ' + member.needed_by.slice(0, 3).join(', ') + more);
-  }
+  if (member.holds.length > 0) parts.push('resolves ' + fewOf(member.holds.map(holdName), 2));
+  if (member.needed_by.length > 0) parts.push('needed by ' + fewOf(member.needed_by, 3));
   return parts.join('; ');
 }
 
@@ -103,14 +94,6 @@ function heldWords(hold) {
   return [...holdWords(hold), ': ', id(hold.resolver), ' needs', ...needs, end];
 }
 
-function summary(plan) {
-  const received = plan.members.filter((member) => member.received).length;
-  const heeded = plan.members.filter((member) => member.system.length + member.user.length > 0).length;
-  if (plan.members.length === 0) return 'Nothing can be installed for this report.';
-  return several(plan.members.length, 'SYSMOD') + ' to install, ' + counted(received) + ' of them received, ' +
-    counted(heeded) + ' with holds to heed.';
-}
-
 // WORDS are those of the filter. WAYS are {boxes, choose(sysmod, isEntered), changed(words), say(text)}.
 export class PlanView {
   constructor(name, zone, plan, snapshot, words, ways) {
@@ -139,7 +122,7 @@ export class PlanView {
     this.table.element.append(this.nothing);
     this.note = make('p', 'soft', 'Job, CSV and JSON have the whole plan. Tick boxes for a job of some of it.');
     const isAny = plan.members.length > 0;
-    const bar = make('div', 'bar', make('p', 'count', summary(plan)), saveButtons(forms, ways.say));
+    const bar = make('div', 'bar', make('p', 'count', summaryOf(plan.members, 'Nothing can be installed for this report.')), saveButtons(forms, ways.say));
     const filters = make('div', 'bar plan-filters', this.filters.element, this.note);
     this.element = make('div', 'report plan', bar,
       leftOver('Held', 'all resolvers can’t be installed now, and why', plan.held.map(heldWords)),

@@ -8,6 +8,9 @@ export const counted = (number) => NUMBERS.format(number);
 // `1 hold`, `2 holds`.
 export const several = (number, word) => counted(number) + ' ' + word + (number === 1 ? '' : 's');
 
+// The first of some texts: `A, B and 3 more`.
+export const fewOf = (texts, most) => texts.slice(0, most).join(', ') + (texts.length > most ? ' and ' + (texts.length - most) + ' more' : '');
+
 // The sums over all zones, day by day, from the day on which each of them has counts. DAYS are of each zone [day, counts] of its days, the
 // earliest first. A zone without counts of a day has those of its last day before.
 export function sumsByDay(days, name) {
