@@ -300,11 +300,14 @@ def across():
     same("with fixes by name", out, (heading + first.replace("GOOD,", "GOOD,,") + second.replace(",,A", ",,order UJ92013,A")).replace("STATUS,", "STATUS,FIX,"))
     same("alerts", [north.run("errsysmods", "--all", "--alert", each)[0] for each in ("HIPER", "PE", "ANY")], [0, 4, 4])
     bench.publish("++HOLD(UJ92004) ERROR REASON(AJ1) CLASS(HIPER).\n")
-    same("HIPER comes first", north.run("errsysmods", "--all", "--csv")[1], heading + "UJ92004,AJ1,HIPER,,,,A B\n" + first + second)
+    third = "UJ92004,AJ1,HIPER,,,,A B\n"
+    same("what can be resolved comes first, and of the rest HIPER", north.run("errsysmods", "--all", "--csv")[1], heading + first + third + second)
+    out = north.run("errsysmods", "--all", "--csv", "--symptoms", symptoms)[1]
+    same("what can be ordered before what nothing is known of", [line.split(",")[1] for line in out.splitlines()[1:]], ["AJ64001", "AJ64003", "AJ1"])
     write(place + "/north/accepted.csv", "ZONE,SYSMOD,REASON,UNTIL,WHY\nA,UJ92004,AJ1,,\n*,UJ92004,AJ64003,,\n")
     shutil.copy(SITE + "/north/received.csv", place + "/north")
     same("accepted", north.run("sync", place + "/north")[0], 0)
-    lines = ["UJ92004,AJ1,HIPER,,,,B,A\n", first.replace("\n", ",\n"), second.replace(",A B", ",,A B")]
+    lines = [first.replace("\n", ",\n"), "UJ92004,AJ1,HIPER,,,,B,A\n", second.replace(",A B", ",,A B")]
     same("zones apart", north.run("errsysmods", "--all", "--csv")[1], heading.replace("ZONES", "ZONES,ACCEPTED") + "".join(lines))
     other = client(bench.desk.url, "south-token")
     same("no zones", other.run("errsysmods", "--all", "--csv"), (0, heading, ""))

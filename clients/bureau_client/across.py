@@ -24,6 +24,13 @@ def table(columns, widths, rows, csv):
     run.out("\n".join([*lines, f"ROWS {len(rows)}\n"]))
 
 
+def urgency(name, status, fix, is_accepted):
+    """Where a hold stands in a list. What can be done something about comes first, since a resolver is GOOD or the fix is known by name. Then
+    comes what is held, then what nothing resolves, and then what is accepted: in each of these HIPER, then PE. The page has the same order."""
+    place = 3 if is_accepted else 0 if status == "GOOD" or not status and fix else 1 if status else 2
+    return place, CLASSES.get(name, 2), RANKS.get(status, 2)
+
+
 # --- Exception SYSMODs --------------------------------------------------------------------------------------------------
 
 
@@ -41,16 +48,17 @@ def holds_of_all(desk):
 
 
 def errsysmods_of_all(desk, csv=False, alert=(), symptoms=None):
-    """One list over all zones: what is urgent comes first."""
+    """One list over all zones."""
     found = holds_of_all(desk)
     known = symptoms_of(desk, symptoms) if found or symptoms else None
 
-    def urgency(hold):
-        return CLASSES.get(found[hold][0]["CLASS"], 2), RANKS.get(found[hold][0]["STATUS"], 2), hold
+    def place(hold):
+        row, zones, _ = found[hold]
+        return urgency(row["CLASS"], row["STATUS"], known and known.fix(*hold), not zones), hold
 
     is_apart = any(apart for _, _, apart in found.values())
     rows = []
-    for hold in sorted(found, key=urgency):
+    for hold in sorted(found, key=place):
         row, zones, apart = found[hold]
         fix = [known.fix(*hold) if row["STATUS"] else known.order(*hold)] if known else []
         rows.append([*(row[name] for name in WIDTHS), *fix, " ".join(zones), *([" ".join(apart)] if is_apart else [])])

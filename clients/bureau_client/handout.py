@@ -7,12 +7,11 @@ from http.client import HTTPException
 
 from . import ages, jobs, reports, run
 from .accepted import Accepted
+from .across import RANKS, urgency
 from .desk import escaped, in_form
 from .run import NoAnswer, Stop, csv_line, say
 from .symptoms import symptoms_of
 
-CLASSES = {"HIPER": 0, "PE": 1}
-RANKS = {"GOOD": 0, "HELD": 1, "": 2}  # of a status, the best first
 COLUMNS = ("REPORT", "ZONE", "SYSMOD", "REASON", "CLASS", "CATEGORY", "FMID", "DATE", "RESOLVER", "STATUS", "RECEIVED", "FIX", "UNTIL", "WHY")
 PLAN = ("REPORT", "ZONE", "STEP", "SYSMOD", "RECEIVED", "FOR", "NEEDED BY", "SYSTEM HOLDS", "USER HOLDS")
 NAMES = {"errsysmods": "error", "missingfix": "fix"}
@@ -33,11 +32,8 @@ class Hold:
         self.fix = known.fix(*key) if known and kind == "errsysmods" else ""
         self.has_symptoms = bool(known) and kind == "errsysmods"
 
-    def urgency(self):
-        """What can be done something about comes first, then what is held, then what nothing resolves, and then what is accepted: in each
-        of these HIPER, then PE. The page has the same order."""
-        place = 0 if self.status == "GOOD" or not self.status and self.fix else 1 if self.status else 2
-        return self.is_accepted, place, CLASSES.get(self.name, 2), RANKS.get(self.status, 2)
+    def place(self):
+        return urgency(self.name, self.status, self.fix, self.is_accepted)
 
 
 class Zone:
@@ -49,7 +45,7 @@ class Zone:
         self.zone, self.is_accepting = zone, accepted.is_known
         self.counts = reports.counts_of(zone, sysmods, *rows.values(), accepted, known)
         self.holds = {
-            kind: sorted((Hold(kind, key, found, known, accepted) for key, found in reports.holds_of(kind, rows[kind]).items()), key=Hold.urgency)
+            kind: sorted((Hold(kind, key, found, known, accepted) for key, found in reports.holds_of(kind, rows[kind]).items()), key=Hold.place)
             for kind in rows
         }
         self.plans = {kind: plan_of(desk, zone, kind) for kind in rows}
