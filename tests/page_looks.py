@@ -114,6 +114,13 @@ def looks(browser):
         colours.append(browser.run("['color', 'backgroundColor'].map(name => getComputedStyle(document.body)[name])"))
         picture(browser, "errors-" + scheme)
     check("dark is dark", colours[0] != colours[1] and colours[1][1] == "rgb(15, 20, 27)", colours)
+    browser.call("Emulation.setEmulatedMedia", features=[{"name": "forced-colors", "value": "active"}])
+    click(browser, ".chip.is-pe")
+    for part in (".tab", ".chips:has(.is-pe) .chip"):
+        backs = browser.run("[...document.querySelectorAll('%s')].map(each => getComputedStyle(each).backgroundColor)" % part)
+        same("where the machine sets all colours, what is chosen has its own: " + part, sorted(backs.count(each) for each in set(backs))[0], 1)
+    picture(browser, "errors-forced")
+    click(browser, ".chip.is-pe")
     browser.call("Emulation.setEmulatedMedia", features=[])
     top = "s.querySelector('thead th').getBoundingClientRect().top - s.getBoundingClientRect().top"
     heights = "(s => { s.scrollTop = 5000; return [%s, s.scrollTop]; })(document.querySelector('.scroll'))" % top
