@@ -1,6 +1,7 @@
 pub mod ChainFacts
 mod ErrorFacts
 mod Examples
+mod KeyedFacts
 mod MissingFacts
 mod OrderFacts
 pub mod ResolverFacts

@@ -1,48 +1,25 @@
 -- What resolves a hold, one SYSMOD at a time.
-use Rattle.std.proofs.Common.{◌≡◌, ◌∙◌, ℕ, zero, suc, ◌+◌, ◌<◌, ◌≤◌, true, List, [], ◌∷◌, ◌++◌, Option, Some, None, filter_map, get_or, length, map, take, OnOk, Result, refl, sym, subst, ap, arith}
+use Rattle.std.proofs.Common.{◌≡◌, ◌∙◌, ℕ, zero, suc, ◌+◌, ◌<◌, true, List, [], ◌∷◌, ◌++◌, Option, Some, filter_map, get_or, length, map, take, refl, sym, subst, ap, arith}
 use Rattle.std.specs.BTreeSet.{insert_key}
-use Rattle.std.specs.List.{AllByRecursion, cons_option, flat_map, fold, slice_get}
-use Rattle.std.specs.Option.{IfSome}
-use Rattle.std.specs.declared.cmp.Ordering.{Ordering}
+use Rattle.std.specs.List.{Contains, cons_option, flat_map, slice_get}
 use Rattle.std.proofs.lemmas.Grind.{flat_map-append}
 use Rattle.std.proofs.lemmas.List.{append-nil, map-append, take_more}
+use Rattle.std.proofs.lemmas.List.Elements.{Contains-get_or}
 use Rattle.std.proofs.lemmas.List.Sums.{fold-append}
-use Rattle.std.proofs.lemmas.List.Elements.{filter_map-append}
 use Rattle.std.proofs.lemmas.List.Folds.{list_any-append}
 use Rattle.std.proofs.lemmas.Bool.{or_right}
+use Rattle.lemmas.proofs.ListFacts.{filter_map_push}
 use Rattle.catalogue.specs.Ids.{id_cmp, in_order, put_among, same_id}
+use Rattle.catalogue.proofs.IdFacts.{in_order_any}
 use Rattle.supersede.specs.Reach.{has}
-use Rattle.catalogue.proofs.IdFacts.{in_order_any, itself}
-use Rattle.reports.specs.Resolvers.{each_or_none, found_by}
-use Rattle.reports.proofs.ErrorFacts.{has_more, map_map}
+use Rattle.supersede.proofs.ReachFacts.{has_from}
+use Rattle.reports.specs.Resolvers.{AreAmong}
 
 -- what stands at an index of a list stands, mapped, at that index of the mapped list
 pub get_mapped : {X Y : Type 0} → (f : X → Y) (xs : List X) (k : ℕ) (x : X) → slice_get xs k ≡ Some x → slice_get (map f xs) k ≡ Some (f x)
 get_mapped f [] k x at = absurd (cc at)
 get_mapped f (y ∷ ys) zero x at = let is : y ≡ x = cc at in ap (λ z. Some (f z)) is
 get_mapped f (y ∷ ys) (suc k) x at = get_mapped f ys k x at
-
--- each of several resolvers is what stands in the rows
-each_is : {Found : Type 0} → (found : Option (List ℕ) → Found) (resolvers : List (List ℕ)) → 1 ≤ length resolvers
-    → map (λ resolver. found (Some resolver)) resolvers ≡ map found (each_or_none resolvers)
-each_is found [] some = absurd (omega (arith, some))
-each_is found (first ∷ more) some = sym (map_map found Some (first ∷ more))
-
--- several resolvers were put
-pub each_put : {Found Done Fault : Type 0} → (result : Result Done Fault) (old new : List Found) (found : Option (List ℕ) → Found) (ids put : List (List ℕ)) (resolvers : Option (List (List ℕ)))
-    → resolvers ≡ Some ids → put ≡ ids → 1 ≤ length ids → OnOk result (new ≡ old ++ map (λ resolver. found (Some resolver)) put) → OnOk result (new ≡ old ++ found_by found resolvers)
-each_put result old new found ids put resolvers is are some now =
-    subst (λ last. OnOk result (new ≡ old ++ last)) (ap (map (λ resolver. found (Some resolver))) are ∙ each_is found ids some ∙ ap (found_by found) (sym is)) now
-
--- one more key is put among others, in order
-pub keys_more : {X K : Type 0} → (cmp : K → K → Ordering) (key : X → K) (xs : List X) (i : ℕ) (x : X) (old new : List K) → i < length xs → x ≡ get_or xs i x
-    → old ≡ fold (insert_key cmp) [] (map key (take i xs)) → new ≡ insert_key cmp old (key x) → new ≡ fold (insert_key cmp) [] (map key (take (i + 1) xs))
-keys_more cmp key xs i x old new below at was now =
-    now
-    ∙ ap (λ keys. insert_key cmp keys (key x)) was
-    ∙ sym (fold-append (insert_key cmp) [] (map key (take i xs)) (key x ∷ []))
-    ∙ ap (fold (insert_key cmp) []) (sym (map-append key (take i xs) (x ∷ [])))
-    ∙ ap (λ ys. fold (insert_key cmp) [] (map key ys)) (sym (take_more xs i x below ∙ ap (λ z. take i xs ++ z ∷ []) (sym at)))
 
 -- one more element is taken to several
 pub flat_map_more : {X Y : Type 0} → (f : X → List Y) (xs : List X) (i : ℕ) (x : X) (old new : List Y) → i < length xs → x ≡ get_or xs i x → old ≡ flat_map f (take i xs) → new ≡ old ++ f x
@@ -76,42 +53,30 @@ pub named_asked : {X : Type 0} → (names : X → List (List ℕ)) (xs : List X)
 named_asked names xs i x asked id below at are h =
     ap (λ ids. has ids id) are ∙ in_order_any (same_id id) (flat_map names xs) ∙ names_has names xs i x id below (ap (λ one. has (names one) id) (sym at) ∙ h)
 
--- the resolver of one more, if it has one, is put among others, in order
-pub resolvers_more : {X : Type 0} → (resolver : X → Option (List ℕ)) (xs : List X) (i : ℕ) (x : X) (old new : List (List ℕ)) → i < length xs → x ≡ get_or xs i x
-    → old ≡ in_order (filter_map resolver (take i xs)) → new ≡ put_among old (filter_map resolver (x ∷ [])) → new ≡ in_order (filter_map resolver (take (i + 1) xs))
-resolvers_more resolver xs i x old new below at was now =
+-- one more is made of several, if anything is made of it
+pub filter_map_more : {X Y : Type 0} → (f : X → Option Y) (xs : List X) (i : ℕ) (x : X) (old new : List Y) → i < length xs → x ≡ get_or xs i x → old ≡ filter_map f (take i xs)
+    → new ≡ old ++ cons_option (f x) [] → new ≡ filter_map f (take (i + 1) xs)
+filter_map_more f xs i x old new below at was now =
     now
-    ∙ ap (λ ids. put_among ids (filter_map resolver (x ∷ []))) was
-    ∙ sym (fold-append (insert_key id_cmp) [] (filter_map resolver (take i xs)) (filter_map resolver (x ∷ [])))
-    ∙ ap in_order (sym (filter_map-append resolver (take i xs) (x ∷ [])))
-    ∙ ap (λ ys. in_order (filter_map resolver ys)) (sym (take_more xs i x below ∙ ap (λ z. take i xs ++ z ∷ []) (sym at)))
+    ∙ ap (λ front. front ++ cons_option (f x) []) was
+    ∙ filter_map_push f (take i xs) x
+    ∙ ap (filter_map f) (sym (take_more xs i x below ∙ ap (λ z. take i xs ++ z ∷ []) (sym at)))
 
--- ---- what was asked
+-- one more is told
+pub map_more : {X Y : Type 0} → (f : X → Y) (xs : List X) (i : ℕ) (x : X) (y : Y) (old new : List Y) → i < length xs → x ≡ get_or xs i x → old ≡ map f (take i xs) → y ≡ f x
+    → new ≡ old ++ y ∷ [] → new ≡ map f (take (i + 1) xs)
+map_more f xs i x y old new below at was is now =
+    now
+    ∙ ap (λ front. front ++ y ∷ []) was
+    ∙ ap (λ last. map f (take i xs) ++ last ∷ []) is
+    ∙ sym (map-append f (take i xs) (x ∷ []))
+    ∙ ap (map f) (sym (take_more xs i x below ∙ ap (λ z. take i xs ++ z ∷ []) (sym at)))
 
--- each resolver of what was found was asked for
-abbrev pub AllAsked : {Found : Type 0} → (Found → Option (List ℕ)) → List (List ℕ) → List Found → Type 0
-AllAsked resolver asked founds = AllByRecursion (λ found. IfSome (resolver found) (λ id. has asked id ≡ true)) founds
-
-module _ {Found : Type 0} (resolver : Found → Option (List ℕ)) (asked : List (List ℕ)) where
-  pub asked_front : (founds : List Found) (found : Found) → AllAsked resolver asked (founds ++ found ∷ []) → AllAsked resolver asked founds
-  asked_front [] found all = tt
-  asked_front (x ∷ xs) found all = (all.0, asked_front xs found all.1)
-
-  pub asked_last : (founds : List Found) (found : Found) → AllAsked resolver asked (founds ++ found ∷ []) → IfSome (resolver found) (λ id. has asked id ≡ true)
-  asked_last [] found all = all.0
-  asked_last (x ∷ xs) found all = asked_last xs found all.1
-
-  some_first : (o : Option (List ℕ)) (ids : List (List ℕ)) → ((id : List ℕ) → has (cons_option o ids) id ≡ true → has asked id ≡ true) → IfSome o (λ id. has asked id ≡ true)
-  some_first None ids stands = tt
-  some_first (Some r) ids stands = stands r (rw (itself r) refl)
-
-  all_asked : (founds : List Found) → ((id : List ℕ) → has (filter_map resolver founds) id ≡ true → has asked id ≡ true) → AllAsked resolver asked founds
-  all_asked [] stands = tt
-  all_asked (x ∷ xs) stands =
-      (some_first (resolver x) (filter_map resolver xs) stands, all_asked xs (λ id h. stands id (has_more (resolver x) (filter_map resolver xs) id h)))
-
-  pub all_in_order : (founds : List Found) → asked ≡ in_order (filter_map resolver founds) → AllAsked resolver asked founds
-  all_in_order founds are = all_asked founds (λ id h. ap (λ ids. has ids id) are ∙ in_order_any (same_id id) (filter_map resolver founds) ∙ h)
+-- one of those that are among others is
+pub among_at : (ids others : List (List ℕ)) (i : ℕ) (id : List ℕ) → i < length ids → id ≡ get_or ids i id → AreAmong ids others → has others id ≡ true
+among_at ids others i id below at among =
+    let P : List ℕ → Type 0 = λ x. Contains ids x in
+    among id (has_from ids id (subst P (sym at) (Contains-get_or ids i id below)))
 
 -- what stands at an index of a mapped list is what stands there, mapped
 pub get_unmapped : {X Y : Type 0} → (f : X → Y) (xs : List X) (k : ℕ) (y : Y) → slice_get (map f xs) k ≡ Some y → (x : X) × (slice_get xs k ≡ Some x) × (f x ≡ y)

@@ -1,60 +1,107 @@
--- No part of what is promised: private contracts cite it. How the rows of the reports are found.
-use Rattle.std.specs.Prelude.{ℕ, Bool, List, [], ◌∷◌, Option, map}
-use Rattle.std.specs.BTreeSet.{insert_key}
-use Rattle.std.specs.List.{fold}
+-- No part of what is promised: private contracts cite it. How the holds and the lines of the reports are found.
+use Rattle.std.specs.Prelude.{ℕ, List, [], ◌∷◌, ◌++◌, Option, Some, None, filter_map, map, option_map, if◌then◌else◌}
+use Rattle.std.specs.Borrow.{Bor}
+use Rattle.std.specs.BTreeMap.{insert_entry}
+use Rattle.std.specs.Cmp.Lexicographic.{slice_cmp}
+use Rattle.std.specs.List.{cons_option, flat_map, fold}
 use Rattle.std.specs.Option.{option_cmp}
-use Rattle.std.specs.Ordering.{ordering_then}
+use Rattle.std.specs.Ordering.{nat_cmp, ordering_then}
 use Rattle.std.specs.declared.cmp.Ordering.{Ordering}
 use Rattle.holddata.specs.declared.hold.Hold.{Hold}
 use Rattle.zone_lists.specs.declared.zones.ZoneRow.{ZoneRow}
 use Rattle.catalogue.specs.Content.{Content}
-use Rattle.catalogue.specs.Ids.{id_cmp}
+use Rattle.catalogue.specs.Ids.{id_cmp, in_order}
 use Rattle.verdicts.specs.declared.verdict.Status.{Status}
-use Rattle.reports.specs.Resolvers.{all_found, row_by, unless_there}
-use Rattle.reports.specs.declared.errors.ErrorFound.{ErrorFound}
+use Rattle.reports.specs.Holds.{HoldLists, held_by}
+use Rattle.reports.specs.Lines.{GroupParts, group_of, missing_groups}
+use Rattle.reports.specs.MissingRows.{Missing, is_resolver_there, resolvers_by}
+use Rattle.reports.specs.Resolvers.{unless_there}
+use Rattle.reports.specs.declared.asking.By.{By}
+use Rattle.reports.specs.declared.asking.By.TheVariants.{Reason, ReasonOrResolver}
 use Rattle.reports.specs.declared.errors.ErrorHeld.{ErrorHeld}
-use Rattle.reports.specs.declared.rows.ErrRow.{ErrRow}
+use Rattle.reports.specs.declared.missing.MissingHeld.{MissingHeld}
 
--- ---- exception SYSMODs
+-- ---- what is asked, and what resolves a hold
 
--- what the report shows of a hold
+-- what is asked for: its reason, and its resolver where it has one
+abbrev pub named_by : By → Hold → List (List ℕ)
+named_by Reason hold = hold.key.reason ∷ []
+named_by ReasonOrResolver hold = hold.key.reason ∷ cons_option hold.resolver []
+
+-- what is known of the candidates for a reason, and of the SYSMODs by a resolver, unless one is there
+abbrev pub both_of : Option (List (List ℕ)) → Option (List (List ℕ)) → Option (List (List ℕ))
+both_of None by_resolver = None
+both_of (Some by_reason) None = None
+both_of (Some by_reason) (Some by_resolver) = Some (in_order (by_reason ++ by_resolver))
+
+abbrev pub unless_resolver_there : Content → List ZoneRow → Option (List ℕ) → Option (List (List ℕ))
+unless_resolver_there content rows resolver =
+    if is_resolver_there content rows resolver then None else Some (resolvers_by content rows resolver)
+
+-- what resolves it, unless it is resolved already
+abbrev pub resolved_by : By → Content → List ZoneRow → Hold → Option (List (List ℕ))
+resolved_by Reason content rows hold = unless_there content rows hold.key.reason
+resolved_by ReasonOrResolver content rows hold =
+    both_of (unless_there content rows hold.key.reason) (unless_resolver_there content rows hold.resolver)
+
+-- ---- holds with what resolves each
+
+-- A hold with what resolves it, before it is known what is said of that.
+pub record FoundLists : Type 0 where
+  pub hold : Hold
+  pub ids : List (List ℕ)
+
+abbrev pub found_with : Hold → List (List ℕ) → FoundLists
+found_with hold ids = record { hold = hold; ids = ids }
+
+-- holds that are lent
+abbrev pub lent : List (Bor Hold) → List Hold
+lent holds = map (λ hold. hold.now) holds
+
+abbrev pub all_named : By → List (Bor Hold) → List (List ℕ)
+all_named by holds = flat_map (λ hold. named_by by hold.now) holds
+
+abbrev pub all_found : (Hold → Option (List (List ℕ))) → List (Bor Hold) → List FoundLists
+all_found resolved holds = filter_map (λ hold. option_map (found_with hold.now) (resolved hold.now)) holds
+
+abbrev pub told : (List ℕ → Status) → List (List ℕ) → FoundLists → HoldLists
+told status received found = held_by status received found.hold found.ids
+
+-- ---- what the lines are ordered by
+
 abbrev pub error_held : Hold → ErrorHeld
 error_held hold = record { fmid = hold.fmid; sysmod = hold.key.sysmod; reason = hold.key.reason; class = hold.class }
 
-abbrev pub held_cmp : ErrorHeld → ErrorHeld → Ordering
-held_cmp a b =
+abbrev pub error_cmp : ErrorHeld → ErrorHeld → Ordering
+error_cmp a b =
     ordering_then (option_cmp id_cmp a.fmid b.fmid)
     (ordering_then (id_cmp a.sysmod b.sysmod) (ordering_then (id_cmp a.reason b.reason) (option_cmp id_cmp a.class b.class)))
 
-abbrev pub held_in_order : List Hold → List ErrorHeld
-held_in_order holds = fold (insert_key held_cmp) [] (map error_held holds)
+-- groups, each put under what it is ordered by
+abbrev pub put_errors : List (ErrorHeld × GroupParts) → List GroupParts → List (ErrorHeld × GroupParts)
+put_errors entries groups = fold (λ old group. insert_entry error_cmp old (error_held group.hold) group) entries groups
 
--- what is asked for: its reason
-abbrev pub error_named : ErrorHeld → List (List ℕ)
-error_named held = held.reason ∷ []
+abbrev pub error_entries : List (ErrorHeld × GroupParts) → List HoldLists → List (ErrorHeld × GroupParts)
+error_entries entries helds = put_errors entries (map (group_of []) helds)
 
--- what resolves it, unless its reason is there
-abbrev pub error_resolved : Content → List ZoneRow → ErrorHeld → Option (List (List ℕ))
-error_resolved content rows held = unless_there content rows held.reason
-
--- what is found for a hold, by what resolves it
-abbrev pub error_found : ErrorHeld → Option (List ℕ) → ErrorFound
-error_found held resolver = record { held = held; resolver = resolver }
-
-abbrev pub errors_found : Content → List ZoneRow → List ErrorHeld → List ErrorFound
-errors_found content rows helds = all_found error_found (error_resolved content rows) helds
-
--- the row of what was found, by what is said of its resolver and whether that was received
-abbrev pub error_row : ErrorFound → Option Status → Option Bool → ErrRow
-error_row found status received = record {
-  fmid = found.held.fmid;
-  sysmod = found.held.sysmod;
-  reason = found.held.reason;
-  resolver = found.resolver;
-  status = status;
-  received = received;
-  class = found.held.class;
+abbrev pub missing_held : Missing → MissingHeld
+missing_held missing = record {
+  category = missing.category;
+  sysmod = missing.hold.key.sysmod;
+  reason = missing.hold.key.reason;
+  resolver = missing.hold.resolver;
 }
 
-abbrev pub error_told : (List ℕ → Status) → List (List ℕ) → ErrorFound → ErrRow
-error_told = row_by (λ (found : ErrorFound). found.resolver) error_row
+abbrev pub missing_key : GroupParts → MissingHeld
+missing_key group = missing_held (record { category = group.category; hold = group.hold })
+
+abbrev pub held_cmp : MissingHeld → MissingHeld → Ordering
+held_cmp a b =
+    ordering_then (slice_cmp nat_cmp a.category b.category)
+    (ordering_then (id_cmp a.sysmod b.sysmod) (ordering_then (id_cmp a.reason b.reason) (option_cmp id_cmp a.resolver b.resolver)))
+
+abbrev pub put_groups : List (MissingHeld × GroupParts) → List GroupParts → List (MissingHeld × GroupParts)
+put_groups entries groups = fold (λ old group. insert_entry held_cmp old (missing_key group) group) entries groups
+
+abbrev pub missing_entries : List (List ℕ) → List (MissingHeld × GroupParts) → List HoldLists → List (MissingHeld × GroupParts)
+missing_entries patterns entries helds = put_groups entries (flat_map (missing_groups patterns) helds)

@@ -1,7 +1,8 @@
 pub mod ChainText
 pub mod ErrRows
 pub mod Found
-pub mod MissingFound
+pub mod Holds
+pub mod Lines
 pub mod MissingRows
 pub mod ReportText
 pub mod Resolvers

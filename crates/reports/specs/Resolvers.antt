@@ -1,7 +1,7 @@
 -- What a report says of the SYSMODs that resolve a hold.
 use Rattle.std.specs.Prelude.{◌≡◌, ℕ, Bool, true, List, [], ◌∷◌, Option, Some, None, filter, map, option_map, if◌then◌else◌}
 use Rattle.std.specs.Global.{Vec}
-use Rattle.std.specs.List.{AllByRecursion, flat_map, list_any}
+use Rattle.std.specs.List.{AllByRecursion, list_any}
 use Rattle.mcs_reader.specs.declared.id.Id.{Id}
 use Rattle.zone_lists.specs.declared.zones.ZoneRow.{ZoneRow}
 use Rattle.catalogue.specs.Content.{Content, ids_of}
@@ -27,7 +27,7 @@ candidates_for content rows id =
     filter (λ giver. is_candidate content rows giver) (filter (λ giver. gives content giver id) (ids_of content))
 
 -- what the rows of a hold name: each of its resolvers, or, in one row, that there is none
-abbrev pub each_or_none : List (List ℕ) → List (Option (List ℕ))
+abbrev pub each_or_none : {A : Type 0} → List A → List (Option A)
 each_or_none [] = None ∷ []
 each_or_none (first ∷ more) = map Some (first ∷ more)
 
@@ -42,19 +42,6 @@ AreAmong ids others = (id : List ℕ) → has ids id ≡ true → has others id 
 -- what was answered for the ids that were asked for
 abbrev pub AreAnswers : Content → List ZoneRow → List (List ℕ) → List (Option (Vec Id)) → Type 0
 AreAnswers content rows asked answers = map (option_map (λ ids. ids.items)) answers ≡ map (candidates_unless_there content rows) asked
-
--- what is found for a hold, with each of its resolvers or with none; nothing where it is resolved already
-abbrev pub found_by : {Found : Type 0} → (Option (List ℕ) → Found) → Option (List (List ℕ)) → List Found
-found_by found None = []
-found_by found (Some resolvers) = map found (each_or_none resolvers)
-
--- what is found for all that is held, by what resolves each
-abbrev pub all_found : {Held Found : Type 0} → (Held → Option (List ℕ) → Found) → (Held → Option (List (List ℕ))) → List Held → List Found
-all_found found resolved helds = flat_map (λ held. found_by (found held) (resolved held)) helds
-
--- the row of what is found, by what is said of its resolver and whether that was received
-abbrev pub row_by : {Found Row : Type 0} → (Found → Option (List ℕ)) → (Found → Option Status → Option Bool → Row) → (List ℕ → Status) → List (List ℕ) → Found → Row
-row_by resolver row status received found = row found (option_map status (resolver found)) (option_map (is_received received) (resolver found))
 
 -- each row stands before those after it
 abbrev pub StandInOrder : {Row : Type 0} → (Row → Row → Type 0) → List Row → Type 0

@@ -1,37 +1,35 @@
-//! The rows of the exception SYSMOD report.
-ghost use Rattle.std.specs.Prelude.{◌≡◌, IfOk};
+//! The exception SYSMOD report: its holds, its lines and its rows.
+ghost use Rattle.std.specs.Prelude.{◌≡◌, [], map, IfOk, OnOk};
+ghost use Rattle.std.specs.BTreeMap.{insert_entry};
 ghost use Rattle.catalogue.specs.Ids.{Ascend};
 ghost use Rattle.catalogue.specs.View.{MayAsk, Tells};
 ghost use Rattle.catalogue.specs.declared.fault.SourceFault.TheVariants.{Device};
 ghost use Rattle.reports.specs.ErrRows.{ErrRowsAscend, err_rows_of};
-ghost use Rattle.reports.specs.Found.{error_found, error_named, error_resolved, error_row, held_in_order};
+ghost use Rattle.reports.specs.Found.{error_cmp, error_entries, error_held, lent};
+ghost use Rattle.reports.specs.Holds.{err_holds_of};
+ghost use Rattle.reports.specs.Lines.{ErrRowsAreLines, err_lines_of, err_row_of, group_of};
 
-use crate::among::answer_among;
-use crate::resolvers::{Answer, Reported, Resolved, copied, rows_of};
-use crate::{ErrRow, Status};
+use crate::ErrRow;
+use crate::asking::By;
+use crate::holds::HoldResolvers;
+use crate::lines::{Group, Line, lines_in};
+use crate::resolvers::holds_by;
 use catalogue::{Published, SourceFault};
 use faults::NoMemory;
 use holddata::Hold;
 use mcs_reader::Id;
 use std::alloc::Global;
-use std::collections::BTreeSet;
+use std::collections::BTreeMap;
 use supersede::Zone;
 use verdicts::Judge;
 
-// What the report shows of a hold, in its order.
+// What the report orders a hold by.
 #[derive(Clone, Copy, PartialEq, Eq, PartialOrd, Ord)]
 struct ErrorHeld {
     fmid: Option<Id>,
     sysmod: Id,
     reason: Id,
     class: Option<Id>,
-}
-
-// A hold whose reason isn't there, with a SYSMOD that resolves it, or none where there is none.
-#[derive(Clone, Copy)]
-struct ErrorFound {
-    held: ErrorHeld,
-    resolver: Option<Id>,
 }
 
 /// The rows of the exception SYSMOD report on a zone, from the ERROR holds on the SYSMODs that are installed
@@ -63,70 +61,127 @@ pub fn err_rows<P: Published, J: Judge<P>>(
     // The rows stand in the report's order.
     ensures order { ErrRowsAscend }
 {
-    let held = in_report_order(alloc, holds)?;
-    rows_of(alloc, source, judge, zone, received, &held)
+    let held = err_holds(alloc, source, judge, zone, received, holds)?;
+    let lines = err_lines(alloc, &held)?;
+    Ok(rows_of(alloc, &lines)?)
 }
 
-// What the report shows of the holds, in its order.
-fn in_report_order(alloc: Global, holds: &[Hold]) -> Result<Vec<ErrorHeld>, NoMemory>
-    ensures { IfOk result (λ held. held.items ≡ held_in_order holds.now) }
+/// The holds of the report that nothing resolves yet, each with the candidates that give its reason, in their order.
+///
+/// # Errors
+///
+/// Those of [`err_rows`].
+pub fn err_holds<'h, P: Published, J: Judge<P>>(
+    alloc: Global,
+    source: &mut P,
+    judge: &mut J,
+    zone: &Zone,
+    received: &[Id],
+    holds: &'h [Hold],
+) -> Result<Vec<HoldResolvers<'h>>, SourceFault>
+    requires { Ascend received.now }
+    ensures asks { MayAsk P.content_view Device source.old source.new result }
+    ensures holds { IfOk result (λ helds. Tells P.content_view source.old source.new
+        (λ content. J.is_right judge.old content
+        → helds.items ≡ err_holds_of content zone.now received.now holds.now)) }
+    ensures right { Tells P.content_view source.old source.new
+        (λ content. J.is_right judge.old content → J.is_right judge.new content) }
 {
-    let mut held = BTreeSet::new(alloc);
+    let all = lent(alloc, holds)?;
+    holds_by(alloc, source, judge, zone, received, By::Reason, &all)
+}
+
+fn lent(alloc: Global, holds: &[Hold]) -> Result<Vec<&Hold>, NoMemory>
+    ensures { IfOk result (λ all. lent all.items ≡ holds.now) }
+{
+    let mut all = Vec::with_capacity(alloc, holds.len())?;
     for hold in holds {
-        held.insert(ErrorHeld {
-            fmid: hold.fmid,
-            sysmod: hold.key.sysmod,
-            reason: hold.key.reason,
-            class: hold.class,
-        })?;
+        all.push(hold)?;
     }
-    held.into_iter().collect(alloc)
+    Ok(all)
 }
 
-impl Reported<ErrorFound> for ErrorHeld {
-    ghost named_by = { error_named };
+/// The lines of the report, in its order: those of the FMID of a hold, an absent one first, then of SYSMOD, reason and
+/// resolver. Of two holds that agree in all of these and in their class the later counts.
+///
+/// # Errors
+///
+/// `NoMemory` where memory ran out.
+pub fn err_lines<'h>(alloc: Global, helds: &[HoldResolvers<'h>]) -> Result<Vec<Line<'h>>, NoMemory>
+    ensures lines { IfOk result (λ lines. lines.items ≡ err_lines_of helds.now) }
 
-    ghost resolved_by = { error_resolved };
+    // The rows of the report are its lines.
+    ensures rows { ErrRowsAreLines }
+{
+    let groups = in_report_order(alloc, helds)?;
+    lines_in(alloc, &groups)
+}
 
-    ghost found_with = { error_found };
-
-    fn put_named(&self, ids: &mut BTreeSet<Id>) -> Result<(), NoMemory> {
-        ids.insert(self.reason)?;
-        Ok(())
+fn in_report_order<'r, 'h>(
+    alloc: Global,
+    helds: &'r [HoldResolvers<'h>],
+) -> Result<Vec<Group<'r, 'h>>, NoMemory>
+    ensures { IfOk result (λ groups. groups.items ≡ map (λ entry. entry.1) (error_entries [] helds.now)) }
+{
+    let mut groups = BTreeMap::new(alloc);
+    for held in helds {
+        put_held(&mut groups, held)?;
     }
+    listed(alloc, groups)
+}
 
-    fn answer(&self, _alloc: Global, asked: &[Id], answers: &[Answer]) -> Result<Answer, NoMemory> {
-        let none = None;
-        copied(answer_among(asked, answers, &none, &self.reason))
-    }
+fn put_held<'r, 'h>(
+    groups: &mut BTreeMap<ErrorHeld, Group<'r, 'h>>,
+    held: &'r HoldResolvers<'h>,
+) -> Result<(), NoMemory>
+    ensures { OnOk result (groups.new.entries
+        ≡ insert_entry error_cmp groups.old.entries (error_held held.now.hold) (group_of [] held.now)) }
+{
+    groups.insert(error_held(held.hold()), Group::new(b"", held))?;
+    Ok(())
+}
 
-    fn found(&self, _alloc: Global, resolver: Option<Id>) -> Result<ErrorFound, NoMemory> {
-        Ok(ErrorFound {
-            held: *self,
-            resolver,
-        })
+fn listed<'r, 'h>(
+    alloc: Global,
+    groups: BTreeMap<ErrorHeld, Group<'r, 'h>>,
+) -> Result<Vec<Group<'r, 'h>>, NoMemory>
+    ensures { IfOk result (λ list. list.items ≡ map (λ entry. entry.1) groups.entry.entries) }
+{
+    groups.into_values().collect(alloc)
+}
+
+fn error_held(hold: &Hold) -> ErrorHeld
+    ensures { result ≡ error_held hold.now }
+{
+    ErrorHeld {
+        fmid: hold.fmid,
+        sysmod: hold.key.sysmod,
+        reason: hold.key.reason,
+        class: hold.class,
     }
 }
 
-impl Resolved<ErrRow> for ErrorFound {
-    ghost resolver_of = { λ found. found.resolver };
-
-    ghost row_of = { error_row };
-
-    fn resolver(&self) -> Option<Id> {
-        self.resolver
+fn rows_of(alloc: Global, lines: &[Line]) -> Result<Vec<ErrRow>, NoMemory>
+    ensures { IfOk result (λ rows. rows.items ≡ map err_row_of lines.now) }
+{
+    let mut rows = Vec::with_capacity(alloc, lines.len())?;
+    for line in lines {
+        rows.push(row_of(line))?;
     }
+    Ok(rows)
+}
 
-    fn into_row(self, status: Option<Status>, received: Option<bool>) -> ErrRow {
-        let held = self.held;
-        ErrRow {
-            fmid: held.fmid,
-            sysmod: held.sysmod,
-            reason: held.reason,
-            resolver: self.resolver,
-            status,
-            received,
-            class: held.class,
-        }
+fn row_of(line: &Line) -> ErrRow
+    ensures { result ≡ err_row_of line.now }
+{
+    let hold = line.hold();
+    ErrRow {
+        fmid: hold.fmid,
+        sysmod: hold.key.sysmod,
+        reason: hold.key.reason,
+        resolver: line.resolver(),
+        status: line.status(),
+        received: line.received(),
+        class: hold.class,
     }
 }

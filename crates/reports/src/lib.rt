@@ -1,6 +1,9 @@
 //! Reports: exception SYSMODs and missing fixes, as rows and in print.
 //!
 //! - [`err_rows`], [`missing_rows`]: the rows of the reports over what is published and a zone
+//! - [`err_holds`], [`missing_holds`]: the holds of the reports, each with what resolves it, from which rows and plans are
+//!   made: [`HoldResolvers`], [`Resolver`]
+//! - [`err_lines`], [`missing_lines`]: the [`Line`]s of these in the order of the reports, each with its hold
 //! - [`ErrRow`], [`MissingRow`]: a row of each report; [`MissingCategory`]: a fix category of its row
 //! - [`Status`]: what is said of a resolver: which verdict it has
 //! - [`err_text`], [`missing_text`]: the reports in print
@@ -25,9 +28,12 @@
 #![tactic(auto)]
 
 mod among;
+mod asking;
 mod chain;
 mod errors;
+mod holds;
 mod json;
+mod lines;
 mod missing;
 mod resolvers;
 mod rows;
@@ -35,9 +41,11 @@ mod text;
 
 pub use among::{answer_among, is_among, list_among, put_all};
 pub use chain::plan_json;
-pub use errors::err_rows;
+pub use errors::{err_holds, err_lines, err_rows};
+pub use holds::{HoldResolvers, Resolver};
 pub use json::{compact, text_values};
-pub use missing::missing_rows;
+pub use lines::Line;
+pub use missing::{missing_holds, missing_lines, missing_rows};
 pub use rows::{ErrRow, MissingCategory, MissingRow};
 pub use text::{err_text, missing_text, titled};
 pub use verdicts::Status;

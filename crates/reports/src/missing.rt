@@ -1,31 +1,32 @@
-//! The rows of the missing fix report.
-ghost use Rattle.std.specs.Prelude.{◌≡◌, ◌++◌, ◌∷◌, [], true, List, Some, option_map, IfOk, IfSome, OnOk};
+//! The missing fix report: its holds, its lines and its rows.
+ghost use Rattle.std.specs.Prelude.{◌≡◌, [], filter, map, IfOk, OnOk};
+ghost use Rattle.std.specs.BTreeMap.{insert_entry};
 ghost use Rattle.std.specs.List.{list_any};
 ghost use Rattle.zone_lists.specs.Pattern.{does_match};
-ghost use Rattle.zone_lists.specs.declared.zones.ZoneRow.{ZoneRow};
-ghost use Rattle.catalogue.specs.Content.{Content};
-ghost use Rattle.catalogue.specs.Ids.{Ascend, in_order};
+ghost use Rattle.catalogue.specs.Ids.{Ascend};
 ghost use Rattle.catalogue.specs.View.{MayAsk, Tells};
 ghost use Rattle.catalogue.specs.declared.fault.SourceFault.TheVariants.{Device};
-ghost use Rattle.supersede.specs.Reach.{has};
-ghost use Rattle.reports.specs.MissingRows.{MissingRowsAscend, categories_asked, missing_rows_of};
-ghost use Rattle.reports.specs.Resolvers.{AreAnswers};
-ghost use Rattle.reports.specs.MissingFound.{both_of, held_in_order, missing_held, missing_resolved, named_by, put_held, row_found, row_told, unless_resolver_there};
+ghost use Rattle.reports.specs.Found.{held_cmp, lent, missing_entries, missing_held, put_groups};
+ghost use Rattle.reports.specs.Holds.{is_asked, missing_holds_of};
+ghost use Rattle.reports.specs.Lines.{MissingRowsAreLines, group_of, missing_groups, missing_lines_of, missing_row_of};
+ghost use Rattle.reports.specs.MissingRows.{MissingRowsAscend, missing_rows_of};
 
-use crate::among::{answer_among, put_all};
-use crate::resolvers::{Answer, Reported, Resolved, put_any, rows_of};
-use crate::{MissingCategory, MissingRow, Status};
+use crate::asking::By;
+use crate::holds::HoldResolvers;
+use crate::lines::{Group, Line, lines_in};
+use crate::resolvers::holds_by;
+use crate::{MissingCategory, MissingRow};
 use catalogue::{Published, SourceFault};
 use faults::NoMemory;
 use holddata::Hold;
 use mcs_reader::Id;
 use std::alloc::Global;
-use std::collections::BTreeSet;
+use std::collections::BTreeMap;
 use supersede::Zone;
 use verdicts::Judge;
 use zone_lists::Pattern;
 
-// What the report shows of a category of a hold, in its order.
+// What the report orders a category of a hold by.
 #[derive(PartialEq, Eq, PartialOrd, Ord, Drop)]
 struct MissingHeld {
     category: MissingCategory,
@@ -65,50 +66,155 @@ pub fn missing_rows<P: Published, J: Judge<P>>(
     // The rows stand in the report's order.
     ensures order { MissingRowsAscend }
 {
-    let held = in_report_order(alloc, patterns, holds)?;
-    rows_of(alloc, source, judge, zone, received, &held)
+    let held = missing_holds(alloc, source, judge, zone, received, patterns, holds)?;
+    let lines = missing_lines(alloc, patterns, &held)?;
+    Ok(rows_of(alloc, &lines)?)
 }
 
-// What the report shows of the categories that patterns match, in its order.
-fn in_report_order(
+/// The holds of the report that nothing resolves yet and of which a pattern matches a category, each with what resolves
+/// it: its resolver, and each candidate that gives its reason or its resolver. They stand in their order.
+///
+/// # Errors
+///
+/// Those of [`missing_rows`].
+pub fn missing_holds<'h, P: Published, J: Judge<P>>(
+    alloc: Global,
+    source: &mut P,
+    judge: &mut J,
+    zone: &Zone,
+    received: &[Id],
+    patterns: &[Pattern],
+    holds: &'h [Hold],
+) -> Result<Vec<HoldResolvers<'h>>, SourceFault>
+    requires { Ascend received.now }
+    ensures asks { MayAsk P.content_view Device source.old source.new result }
+    ensures holds { IfOk result (λ helds. Tells P.content_view source.old source.new
+        (λ content. J.is_right judge.old content
+        → helds.items ≡ missing_holds_of content zone.now received.now patterns.now holds.now)) }
+    ensures right { Tells P.content_view source.old source.new
+        (λ content. J.is_right judge.old content → J.is_right judge.new content) }
+{
+    let asked = asked_for(alloc, patterns, holds)?;
+    let by = By::ReasonOrResolver;
+    holds_by(alloc, source, judge, zone, received, by, &asked)
+}
+
+// The holds of which a pattern matches a category.
+fn asked_for<'h>(
     alloc: Global,
     patterns: &[Pattern],
-    holds: &[Hold],
-) -> Result<Vec<MissingHeld>, NoMemory>
-    ensures { IfOk result (λ held. held.items ≡ held_in_order patterns.now holds.now) }
+    holds: &'h [Hold],
+) -> Result<Vec<&'h Hold>, NoMemory>
+    ensures { IfOk result (λ asked. lent asked.items ≡ filter (is_asked patterns.now) holds.now) }
 {
-    let mut held = BTreeSet::new(alloc);
+    let mut asked = Vec::new(alloc);
     for hold in holds {
-        put_asked(alloc, &mut held, patterns, hold)?;
-    }
-    held.into_iter().collect(alloc)
-}
-
-// Puts the categories of a hold that patterns match among others, in order.
-fn put_asked(
-    alloc: Global,
-    held: &mut BTreeSet<MissingHeld>,
-    patterns: &[Pattern],
-    hold: &Hold,
-) -> Result<(), NoMemory>
-    ensures { OnOk result (held.new.keys ≡ put_held held.old.keys (categories_asked patterns.now hold.now)) }
-{
-    let categories = hold.categories.to_list()?;
-    for category in &categories {
-        if is_asked(patterns, category) {
-            held.insert(held_of(alloc, category, hold)?)?;
+        if is_asked(patterns, hold)? {
+            asked.push(hold)?;
         }
     }
-    Ok(())
+    Ok(asked)
 }
 
-fn is_asked(patterns: &[Pattern], category: &[u8]) -> bool
+fn is_asked(patterns: &[Pattern], hold: &Hold) -> Result<bool, NoMemory>
+    ensures { IfOk result (λ asked. asked ≡ is_asked patterns.now hold.now) }
+{
+    let categories = hold.categories.to_list()?;
+    Ok(any_matched(patterns, &categories))
+}
+
+fn any_matched(patterns: &[Pattern], categories: &[&[u8]]) -> bool
+    ensures { result ≡ list_any (λ category. list_any (λ pattern. does_match pattern category.now) patterns.now) categories.now }
+{
+    categories
+        .iter()
+        .any(|category| is_matched(patterns, category))
+}
+
+fn is_matched(patterns: &[Pattern], category: &[u8]) -> bool
     ensures { result ≡ list_any (λ pattern. does_match pattern category.now) patterns.now }
 {
     patterns.iter().any(|pattern| pattern.matches(category))
 }
 
-fn held_of(alloc: Global, category: &[u8], hold: &Hold) -> Result<MissingHeld, NoMemory>
+/// The lines of the report, in its order: those of each category that a pattern matches, then of held SYSMOD, reason and
+/// resolver. Of two holds that agree in the SYSMOD, the reason and the resolver of the hold the later counts.
+///
+/// # Errors
+///
+/// `NoMemory` where memory ran out.
+pub fn missing_lines<'h>(
+    alloc: Global,
+    patterns: &[Pattern],
+    helds: &[HoldResolvers<'h>],
+) -> Result<Vec<Line<'h>>, NoMemory>
+    ensures lines { IfOk result (λ lines. lines.items ≡ missing_lines_of patterns.now helds.now) }
+
+    // The rows of the report are its lines.
+    ensures rows { MissingRowsAreLines }
+{
+    let groups = in_report_order(alloc, patterns, helds)?;
+    lines_in(alloc, &groups)
+}
+
+fn in_report_order<'r, 'h>(
+    alloc: Global,
+    patterns: &[Pattern],
+    helds: &'r [HoldResolvers<'h>],
+) -> Result<Vec<Group<'r, 'h>>, NoMemory>
+    ensures { IfOk result (λ groups. groups.items
+        ≡ map (λ entry. entry.1) (missing_entries patterns.now [] helds.now)) }
+{
+    let mut groups = BTreeMap::new(alloc);
+    for held in helds {
+        put_asked(alloc, &mut groups, patterns, held)?;
+    }
+    listed(alloc, groups)
+}
+
+fn listed<'r, 'h>(
+    alloc: Global,
+    groups: BTreeMap<MissingHeld, Group<'r, 'h>>,
+) -> Result<Vec<Group<'r, 'h>>, NoMemory>
+    ensures { IfOk result (λ list. list.items ≡ map (λ entry. entry.1) groups.entry.entries) }
+{
+    groups.into_values().collect(alloc)
+}
+
+// Puts the categories of a hold that patterns match among others, in order.
+fn put_asked<'r, 'h>(
+    alloc: Global,
+    groups: &mut BTreeMap<MissingHeld, Group<'r, 'h>>,
+    patterns: &[Pattern],
+    held: &'r HoldResolvers<'h>,
+) -> Result<(), NoMemory>
+    ensures { OnOk result
+        (groups.new.entries ≡ put_groups groups.old.entries (missing_groups patterns.now held.now)) }
+{
+    let categories = held.hold().categories.to_list()?;
+    for category in &categories {
+        if is_matched(patterns, category) {
+            put_category(alloc, groups, *category, held)?;
+        }
+    }
+    Ok(())
+}
+
+fn put_category<'r, 'h>(
+    alloc: Global,
+    groups: &mut BTreeMap<MissingHeld, Group<'r, 'h>>,
+    category: &'h [u8],
+    held: &'r HoldResolvers<'h>,
+) -> Result<(), NoMemory>
+    ensures { OnOk result (groups.new.entries ≡ insert_entry held_cmp groups.old.entries
+        (missing_held (record { category = category.now; hold = held.now.hold })) (group_of category.now held.now)) }
+{
+    let key = missing_held(alloc, category, held.hold())?;
+    groups.insert(key, Group::new(category, held))?;
+    Ok(())
+}
+
+fn missing_held(alloc: Global, category: &[u8], hold: &Hold) -> Result<MissingHeld, NoMemory>
     ensures { IfOk result
         (λ held. held ≡ missing_held (record { category = category.now; hold = hold.now })) }
 {
@@ -120,106 +226,26 @@ fn held_of(alloc: Global, category: &[u8], hold: &Hold) -> Result<MissingHeld, N
     })
 }
 
-// The resolver of a hold and the candidates that give it, unless it is there; none where a hold has none.
-fn unless_resolver_there(
-    alloc: Global,
-    asked: &[Id],
-    answers: &[Answer],
-    resolver: &Option<Id>,
-) -> Result<Answer, NoMemory>
-    requires { Ascend asked.now }
-    ensures { IfOk result (λ found. (content : Content) (rows : List ZoneRow)
-        → AreAnswers content rows asked.now answers.now
-        → IfSome resolver.now (λ resolver. has asked.now resolver ≡ true)
-        → option_map (λ ids. ids.items) found ≡ unless_resolver_there content rows resolver.now) }
+fn rows_of(alloc: Global, lines: &[Line]) -> Result<Vec<MissingRow>, NoMemory>
+    ensures { IfOk result (λ rows. rows.items ≡ map missing_row_of lines.now) }
 {
-    let Some(resolver) = resolver else {
-        return Ok(Some(Vec::new(alloc)));
-    };
-    let other = None;
-    with_itself(answer_among(asked, answers, &other, resolver), resolver)
+    let mut rows = Vec::with_capacity(alloc, lines.len())?;
+    for line in lines {
+        rows.push(row_of(alloc, line)?)?;
+    }
+    Ok(rows)
 }
 
-// The candidates that give a resolver, and the resolver.
-fn with_itself(found: &Answer, resolver: &Id) -> Result<Answer, NoMemory>
-    ensures { IfOk result (λ all. option_map (λ ids. ids.items) all
-        ≡ option_map (λ ids. ids.items ++ resolver.now ∷ []) found.now) }
+fn row_of(alloc: Global, line: &Line) -> Result<MissingRow, NoMemory>
+    ensures { IfOk result (λ row. row ≡ missing_row_of line.now) }
 {
-    match found {
-        Some(ids) => {
-            let mut all = ids.clone()?;
-            all.push(*resolver)?;
-            Ok(Some(all))
-        }
-        None => Ok(None),
-    }
-}
-
-// What resolves a hold by its reason and by its resolver, ascending, each once, unless one of them is there.
-fn both_of(alloc: Global, by_reason: &Answer, by_resolver: &Answer) -> Result<Answer, NoMemory>
-    ensures { IfOk result (λ all. option_map (λ ids. ids.items) all
-        ≡ both_of (option_map (λ ids. ids.items) by_reason.now)
-        (option_map (λ ids. ids.items) by_resolver.now)) }
-{
-    match (by_reason, by_resolver) {
-        (Some(by_reason), Some(by_resolver)) => Ok(Some(union(alloc, by_reason, by_resolver)?)),
-        _ => Ok(None),
-    }
-}
-
-fn union(alloc: Global, ids: &[Id], more: &[Id]) -> Result<Vec<Id>, NoMemory>
-    ensures { IfOk result (λ all. all.items ≡ in_order (ids.now ++ more.now)) }
-{
-    let mut all = BTreeSet::new(alloc);
-    put_all(&mut all, ids)?;
-    put_all(&mut all, more)?;
-    all.into_iter().collect(alloc)
-}
-
-impl Reported<MissingRow> for MissingHeld {
-    ghost named_by = { named_by };
-
-    ghost resolved_by = { missing_resolved };
-
-    ghost found_with = { row_found };
-
-    fn put_named(&self, ids: &mut BTreeSet<Id>) -> Result<(), NoMemory> {
-        ids.insert(self.reason)?;
-        put_any(ids, self.resolver)
-    }
-
-    fn answer(&self, alloc: Global, asked: &[Id], answers: &[Answer]) -> Result<Answer, NoMemory> {
-        let none = None;
-        let by_reason = answer_among(asked, answers, &none, &self.reason);
-        let by_resolver = unless_resolver_there(alloc, asked, answers, &self.resolver)?;
-        both_of(alloc, by_reason, &by_resolver)
-    }
-
-    fn found(&self, alloc: Global, resolver: Option<Id>) -> Result<MissingRow, NoMemory> {
-        Ok(MissingRow {
-            category: MissingCategory::copy_of(alloc, self.category.as_bytes())?,
-            sysmod: self.sysmod,
-            reason: self.reason,
-            resolver,
-            status: None,
-            received: None,
-        })
-    }
-}
-
-impl Resolved<MissingRow> for MissingRow {
-    ghost resolver_of = { λ row. row.resolver };
-
-    ghost row_of = { row_told };
-
-    fn resolver(&self) -> Option<Id> {
-        self.resolver
-    }
-
-    fn into_row(self, status: Option<Status>, received: Option<bool>) -> MissingRow {
-        let mut row = self;
-        row.status = status;
-        row.received = received;
-        row
-    }
+    let hold = line.hold();
+    Ok(MissingRow {
+        category: MissingCategory::copy_of(alloc, line.category())?,
+        sysmod: hold.key.sysmod,
+        reason: hold.key.reason,
+        resolver: line.resolver(),
+        status: line.status(),
+        received: line.received(),
+    })
 }

@@ -1,18 +1,25 @@
-use Rattle.std.proofs.Common.{◌∙◌}
-use Rattle.lemmas.proofs.ResultFacts.{ok_so}
+use Rattle.std.proofs.Common.{◌∙◌, ap, map, sym}
 use Rattle.catalogue.proofs.SourceFacts.{told_so}
-use Rattle.reports.proofs.MissingFacts.{rows_are}
+use Rattle.reports.specs.Lines.{missing_lines_of, missing_row_of}
+use Rattle.reports.proofs.MissingFacts.{missing_rows_are_lines}
 use Rattle.reports.proofs.OrderFacts.{missing_rows_ascend}
 use Rattle.reports.proofs.missing.missing_rows.Goals as goal
 
 pub returns-clause-rows : goal.returns-clause-rows
 returns-clause-rows g c =
-    ok_so c.rows_of.result c.rows_of.ensures.rows (λ rows told. told_so told (λ content told_rows right.
-    rows_are content c.args.zone.now c.args.received.now c.args.patterns.now c.args.holds.now c.deref.result.now rows.items
-    (c.deref.ensures.value ∙ c.in_ok-held.ensures) (told_rows right)))
+    told_so c.in_ok-held.ensures.holds (λ content are right.
+    c.in_ok-rows_of.ensures
+    ∙ ap (map missing_row_of) (c.deref-2.ensures.value ∙ c.in_ok-lines.ensures.lines ∙ ap (missing_lines_of c.args.patterns.now) (c.deref.ensures.value ∙ are right))
+    ∙ sym (missing_rows_are_lines content c.args.zone.now c.args.received.now c.args.patterns.now c.args.holds.now))
 
 pub returns-clause-order : goal.returns-clause-order
 returns-clause-order g c = missing_rows_ascend
 
 pub returns-in_err-held-clause-order : goal.returns-in_err-held-clause-order
 returns-in_err-held-clause-order g c = missing_rows_ascend
+
+pub returns-in_err-lines-clause-order : goal.returns-in_err-lines-clause-order
+returns-in_err-lines-clause-order g c = missing_rows_ascend
+
+pub returns-in_err-rows_of-clause-order : goal.returns-in_err-rows_of-clause-order
+returns-in_err-rows_of-clause-order g c = missing_rows_ascend

@@ -1,7 +1,10 @@
+use Rattle.std.specs.Borrow.{Bor}
+use Rattle.holddata.specs.declared.hold.Hold.{Hold}
+use Rattle.reports.specs.Found.{named_by}
 use Rattle.reports.proofs.ResolverFacts.{named_more}
 use Rattle.reports.proofs.resolvers.asked_in.Goals as goal
 
-pub loop-one-preserved : goal.loop-one-preserved
-loop-one-preserved g c =
-    named_more g.H.Reported.named_by c.args.held.now c.loop-one.one-index c.one-item.result c.loop-one.ids.keys c.put_named.new.ids.keys c.loop-one-test.true c.one-item.is
-    c.loop-one.invariant c.in_ok-put_named.ensures
+pub loop-hold-preserved : goal.loop-hold-preserved
+loop-hold-preserved c =
+    named_more (λ (hold : Bor Hold). named_by c.args.by hold.now) c.args.holds.now c.loop-hold.hold-index c.hold-item.result c.loop-hold.ids.keys c.put_named.new.ids.keys c.loop-hold-test.true c.hold-item.is
+    c.loop-hold.invariant c.in_ok-put_named.ensures
