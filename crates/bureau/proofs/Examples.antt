@@ -104,7 +104,7 @@ pub zones_listed_as_json : outcome alpha (list_zones Json) ≡ answered (as_json
 zones_listed_as_json = refl
 
 -- reports where nothing is published
-pub nothing_held_as_json : outcome alpha (report_on ErrSysmods (Rows Json) (codes "TGT1   ")) ≡ answered (as_json (err_json_of nothing (codes "TGT1   ") [] []))
+pub nothing_held_as_json : outcome alpha (report_on ErrSysmods (Rows Json) (codes "TGT1   ")) ≡ answered (as_json (err_json_of nothing (codes "TGT1   ") []))
 nothing_held_as_json = refl
 
 pub nothing_missing_as_json : outcome alpha (report_on MissingFix (Rows Json) (codes "TGT1   ")) ≡ answered (as_json (missing_json_of nothing (codes "TGT1   ") [] []))

@@ -10,7 +10,6 @@ pub mod ShownFacts
 pub mod TextFacts
 pub mod ChangeFacts
 pub mod QuestionFacts
-pub mod RowsFacts
 pub mod CommitFacts
 pub mod AnswerFacts
 pub mod RepeatFacts

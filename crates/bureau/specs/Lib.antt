@@ -15,7 +15,6 @@ pub mod Parts
 pub mod Reading
 pub mod Repeat
 pub mod Replies
-pub mod RowsFound
 pub mod Runs
 pub mod Texts
 pub mod View

@@ -13,6 +13,7 @@ use Rattle.catalogue.specs.declared.change.Change.TheVariants.{Whole, OfHold}
 use Rattle.verdicts.specs.Verdicts.{verdict_of}
 use Rattle.reports.specs.ChainText.{chain_text_of}
 use Rattle.reports.specs.ErrRows.{err_rows_of}
+use Rattle.reports.specs.Holds.{err_holds_of, missing_holds_of}
 use Rattle.reports.specs.MissingRows.{missing_rows_of}
 use Rattle.reports.specs.ReportText.{err_text_of, missing_text_of}
 use Rattle.report_json.specs.Json.{err_json_of, missing_json_of, published_json_of, zones_json_of}
@@ -90,7 +91,7 @@ abbrev pub err_report_from : Content → List ℕ → List ZoneRow → List (Lis
 err_report_from content zone rows received holds = err_text_of zone (err_rows_of content rows received holds)
 
 abbrev pub err_json_from : Content → List ℕ → List ZoneRow → List (List ℕ) → List Hold → List ℕ
-err_json_from content zone rows received holds = err_json_of content zone holds (err_rows_of content rows received holds)
+err_json_from content zone rows received holds = err_json_of content zone (err_holds_of content rows received holds)
 
 -- the missing fix report in print, and as JSON
 abbrev pub missing_report_from : Content → List ℕ → List ZoneRow → List (List ℕ) → List (List ℕ) → List Hold → List ℕ
@@ -99,7 +100,7 @@ missing_report_from content zone rows received patterns holds =
 
 abbrev pub missing_json_from : Content → List ℕ → List ZoneRow → List (List ℕ) → List (List ℕ) → List Hold → List ℕ
 missing_json_from content zone rows received patterns holds =
-    missing_json_of content zone holds (missing_rows_of content rows received patterns holds)
+    missing_json_of content zone patterns (missing_holds_of content rows received patterns holds)
 
 -- what is wanted of a report
 abbrev pub text_from : Report → Wanted → Content → List ℕ → List ZoneRow → List (List ℕ) → List (List ℕ) → List Hold → List ℕ

@@ -1,13 +1,11 @@
 //! What holds of every run.
 ghost use Rattle.std.specs.Prelude.{◌≡◌, ℕ, true, false, List};
-ghost use Rattle.catalogue.specs.Content.{Content, IsInOrder};
 ghost use Rattle.bureau.specs.Alone.{AreAnsweredAlike, IsAlone, opening_of};
 ghost use Rattle.bureau.specs.Course.{IsAloneWhereItStays, IsCourse, IsInBoth, Stage, opening_of_newcomer};
 ghost use Rattle.bureau.specs.Joint.{CallBy, IsRun};
 ghost use Rattle.bureau.specs.Repeat.{ActsOnce, StaysStale};
-ghost use Rattle.bureau.specs.RowsFound.{RowsHaveHolds};
 ghost use Rattle.bureau_store.specs.SetCallers.{has_name, with_callers};
-ghost use Rattle.bureau_store.specs.Tables.{AreInOrder, Tables, ZoneTable};
+ghost use Rattle.bureau_store.specs.Tables.{AreInOrder, Tables};
 ghost use Rattle.bureau_store.specs.declared.caller.Caller.{Caller};
 ghost use Rattle.bureau_store.specs.declared.caller.Caller.TheVariants.{Client, Publisher};
 ghost use Rattle.bureau_store.specs.declared.caller.CallerRow.{CallerRow};
@@ -50,14 +48,4 @@ pub fn repeats()
         IsRun opening calls closing → ActsOnce opening calls closing }
     ensures stale { (opening closing : Tables) (calls : List CallBy) →
         IsRun opening calls closing → StaysStale opening calls closing }
-{}
-
-/// Rows have holds, a law of both reports on every zone, where what is published is in order.
-///
-/// Each row of the exception SYSMOD report has its hold among those that the report begins with, and the hold has the
-/// row's function and class. Each row of the missing fix report has its hold too, and the row's category is one of it.
-/// So a report as JSON says of each row when it was held, unless the hold has no date that a calendar has.
-pub fn rows_have_holds()
-    ensures { (content : Content) (table : ZoneTable) (received : List (List ℕ)) →
-        IsInOrder content → RowsHaveHolds content table received }
 {}

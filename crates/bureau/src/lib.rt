@@ -4,7 +4,6 @@
 //! - [`Call`]: what a caller asks
 //! - [`isolation`]: each caller's answers are those of a bureau that no other client uses
 //! - [`repeats`]: a change acts once, however often it is sent
-//! - [`rows_have_holds`]: each row of a report has its hold
 //! - [`Reply`]: an answer: its status and its [`Body`]
 //!
 //! `specs/` says what the bureau is: begin with its `Outcome`, what comes of a call over what one
@@ -45,6 +44,6 @@ mod texts;
 
 pub use bureau::Bureau;
 pub use call::Call;
-pub use law::{isolation, repeats, rows_have_holds};
+pub use law::{isolation, repeats};
 use mcs_reader::NoMemory;
 pub use reply::{Body, Reply};

@@ -1,5 +1,4 @@
 //! The texts that are made from what is published, for a zone: reports, plans and verdicts.
-ghost use Rattle.holddata.specs.HoldBook.{IsInKeyOrder};
 ghost use Rattle.catalogue.specs.Ids.{Ascend};
 ghost use Rattle.bureau.specs.Reading.{TellsText};
 ghost use Rattle.bureau.specs.Texts.{chain_text_from, err_json_from, err_report_from, missing_json_from, missing_report_from, text_from};
@@ -10,7 +9,9 @@ use mcs_reader::Id;
 use plan_reports::plan_answer;
 use questions::{Form, Report, Wanted};
 use report_json::{err_json, missing_json};
-use reports::{err_rows, err_text, missing_rows, missing_text, plan_json};
+use reports::{
+    err_holds, err_rows, err_text, missing_holds, missing_rows, missing_text, plan_json,
+};
 use std::alloc::Global;
 use supersede::Zone;
 use verdicts::Judge;
@@ -29,8 +30,7 @@ pub(crate) fn report_text<P: Published, J: Judge<P>>(
     patterns: &[Pattern],
     holds: &[Hold],
 ) -> Result<Vec<u8>, SourceFault>
-    requires received { Ascend received.now }
-    requires holds { IsInKeyOrder holds.now }
+    requires { Ascend received.now }
     ensures { TellsText P.content_view J.is_right source.old source.new judge.old judge.new result
         (λ content. text_from report wanted content
         zone.now installed.now received.now patterns.now holds.now) }
@@ -64,7 +64,7 @@ fn err_report<P: Published, J: Judge<P>>(
     received: &[Id],
     holds: &[Hold],
 ) -> Result<Vec<u8>, SourceFault>
-    requires received { Ascend received.now }
+    requires { Ascend received.now }
     ensures { TellsText P.content_view J.is_right source.old source.new judge.old judge.new result
         (λ content. err_report_from content zone.now installed.now received.now holds.now) }
 {
@@ -82,13 +82,12 @@ fn err_report_json<P: Published, J: Judge<P>>(
     received: &[Id],
     holds: &[Hold],
 ) -> Result<Vec<u8>, SourceFault>
-    requires received { Ascend received.now }
-    requires holds { IsInKeyOrder holds.now }
+    requires { Ascend received.now }
     ensures { TellsText P.content_view J.is_right source.old source.new judge.old judge.new result
         (λ content. err_json_from content zone.now installed.now received.now holds.now) }
 {
-    let rows = err_rows(alloc, source, judge, installed, received, holds)?;
-    err_json(alloc, source, zone, holds, &rows)
+    let helds = err_holds(alloc, source, judge, installed, received, holds)?;
+    err_json(alloc, source, zone, &helds)
 }
 
 // The report on what is missing.
@@ -102,7 +101,7 @@ fn missing_report<P: Published, J: Judge<P>>(
     patterns: &[Pattern],
     holds: &[Hold],
 ) -> Result<Vec<u8>, SourceFault>
-    requires received { Ascend received.now }
+    requires { Ascend received.now }
     ensures { TellsText P.content_view J.is_right source.old source.new judge.old judge.new result
         (λ content. missing_report_from content zone.now installed.now received.now patterns.now holds.now) }
 {
@@ -121,13 +120,12 @@ fn missing_report_json<P: Published, J: Judge<P>>(
     patterns: &[Pattern],
     holds: &[Hold],
 ) -> Result<Vec<u8>, SourceFault>
-    requires received { Ascend received.now }
-    requires holds { IsInKeyOrder holds.now }
+    requires { Ascend received.now }
     ensures { TellsText P.content_view J.is_right source.old source.new judge.old judge.new result
         (λ content. missing_json_from content zone.now installed.now received.now patterns.now holds.now) }
 {
-    let rows = missing_rows(alloc, source, judge, installed, received, patterns, holds)?;
-    missing_json(alloc, source, zone, holds, &rows)
+    let helds = missing_holds(alloc, source, judge, installed, received, patterns, holds)?;
+    missing_json(alloc, source, zone, patterns, &helds)
 }
 
 /// The verdict on a SYSMOD.

@@ -4,7 +4,7 @@ use Rattle.std.specs.Prelude.{not}
 use Rattle.std.specs.List.{Contains, filter, list_any}
 use Rattle.lemmas.proofs.ListFacts.{flat_inside, get_any}
 use Rattle.lemmas.proofs.TestFacts.{same_test}
-use Rattle.report_holds.specs.declared.holds.HoldOn.{HoldOn}
+use Rattle.zone_plans.specs.declared.holds.HoldOn.{HoldOn}
 use Rattle.zone_lists.specs.declared.zones.ZoneRow.{ZoneRow}
 use Rattle.catalogue.specs.Content.{Content}
 use Rattle.catalogue.specs.Ids.{in_order, same_id}

@@ -2,7 +2,7 @@
 use Rattle.std.proofs.Common.{◌≡◌, ℕ, List, false, Option, Some, None, refl}
 use Rattle.serde_json.specs.Written.{has_float}
 use Rattle.reports.proofs.ChainFacts.{items_plain, texts_plain}
-use Rattle.report_holds.specs.declared.holds.HoldOn.{HoldOn}
+use Rattle.zone_plans.specs.declared.holds.HoldOn.{HoldOn}
 use Rattle.blocked_needs.specs.declared.blocked.BlockedNeed.{BlockedNeed}
 use Rattle.zone_plans.specs.Plans.{PlanLists}
 use Rattle.zone_plans.specs.declared.holds.ChosenResolver.{ChosenResolver}

@@ -2,7 +2,7 @@
 use Rattle.std.proofs.Common.{◌≡◌, ◌∙◌, ℕ, List, ap}
 use Rattle.zone_lists.specs.declared.zones.ZoneRow.{ZoneRow}
 use Rattle.catalogue.specs.Content.{Content}
-use Rattle.report_holds.specs.Holds.{HoldLists}
+use Rattle.reports.specs.Holds.{HoldLists}
 use Rattle.zone_plans.specs.Plans.{IsZonePlan, PlanLists, plan_of}
 use Rattle.questions.specs.declared.report.Report.{Report}
 use Rattle.plan_reports.specs.Replies.{told_as}

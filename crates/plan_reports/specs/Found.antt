@@ -10,7 +10,7 @@ use Rattle.supersede.specs.Reach.{has}
 use Rattle.requisites.specs.Nodes.{row}
 use Rattle.verdicts.specs.Candidates.{candidates_unless_there}
 use Rattle.verdicts.specs.Indices.{id_at, RowsAre}
-use Rattle.report_holds.specs.declared.holds.HoldOn.{HoldOn}
+use Rattle.zone_plans.specs.declared.holds.HoldOn.{HoldOn}
 use Rattle.zone_plans.specs.Findings.{AreFoundOf, known_givers}
 use Rattle.zone_plans.specs.Plans.{PlanLists}
 use Rattle.zone_plans.specs.Readings.{reading_of}

@@ -7,7 +7,7 @@ use Rattle.catalogue.specs.Ids.{in_order, same_id}
 use Rattle.supersede.specs.Giving.{fmids_of, gives}
 use Rattle.supersede.specs.Reach.{has}
 use Rattle.reports.specs.ChainText.{reasons_in}
-use Rattle.report_holds.specs.declared.holds.HoldOn.{HoldOn}
+use Rattle.zone_plans.specs.declared.holds.HoldOn.{HoldOn}
 use Rattle.zone_plans.specs.Members.{joined, needs_id}
 use Rattle.zone_plans.specs.Plans.{PlanLists}
 use Rattle.zone_plans.specs.declared.holds.ChosenResolver.{ChosenResolver}

@@ -7,10 +7,7 @@ use Rattle.questions.specs.declared.report.Report.{Report}
 use Rattle.questions.specs.declared.report.Report.TheVariants.{ErrSysmods, MissingFix}
 use Rattle.questions.specs.declared.wanted.Form.{Form}
 use Rattle.questions.specs.declared.wanted.Form.TheVariants.{Text, Json}
-use Rattle.reports.specs.ErrRows.{err_rows_of}
-use Rattle.reports.specs.MissingRows.{missing_rows_of}
-use Rattle.report_holds.specs.Holds.{HoldLists}
-use Rattle.report_holds.specs.Rows.{err_holds_of, missing_holds_of}
+use Rattle.reports.specs.Holds.{HoldLists, err_holds_of, missing_holds_of}
 use Rattle.zone_plans.specs.Plans.{PlanLists, plan_of}
 use Rattle.plan_reports.specs.Members.{MemberLists, plan_members_of}
 use Rattle.plan_reports.specs.Json.{plan_json_of}
@@ -27,8 +24,8 @@ told_as form content rows received report name plan = written_as form report nam
 
 -- the holds that a report tells of: ERROR holds on what is installed; or FIXCAT holds on it, of the categories that a pattern matches
 abbrev pub holds_of : Report → Content → List ZoneRow → List (List ℕ) → List (List ℕ) → List Hold → List HoldLists
-holds_of ErrSysmods content rows received patterns holds = err_holds_of (err_rows_of content rows received holds)
-holds_of MissingFix content rows received patterns holds = missing_holds_of (missing_rows_of content rows received patterns holds)
+holds_of ErrSysmods content rows received patterns holds = err_holds_of content rows received holds
+holds_of MissingFix content rows received patterns holds = missing_holds_of content rows received patterns holds
 
 -- the plan for a report on a zone, in a form
 abbrev pub plan_answer_of : Report → Form → Content → List ZoneRow → List (List ℕ) → List (List ℕ) → List Hold → List ℕ → List ℕ

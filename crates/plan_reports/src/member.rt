@@ -1,9 +1,9 @@
 //! A member of a plan, with what is said of it.
 
 use mcs_reader::Id;
-use report_holds::HoldOn;
 use std::alloc::Global;
 use std::marker::Model;
+use zone_plans::HoldOn;
 
 /// A member of a plan. A contract sees what each part holds.
 #[derive(Debug, Drop)]

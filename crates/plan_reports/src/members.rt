@@ -3,7 +3,7 @@ ghost use Rattle.std.specs.Prelude.{◌≡◌, List, IfOk};
 ghost use Rattle.zone_lists.specs.declared.zones.ZoneRow.{ZoneRow};
 ghost use Rattle.catalogue.specs.Content.{Content};
 ghost use Rattle.catalogue.specs.Ids.{Ascend};
-ghost use Rattle.report_holds.specs.Holds.{HoldLists};
+ghost use Rattle.reports.specs.Holds.{HoldLists};
 ghost use Rattle.zone_plans.specs.Plans.{IsZonePlan};
 ghost use Rattle.plan_reports.specs.Members.{plan_members_of};
 

@@ -15,11 +15,10 @@ use crate::finding::Found;
 use crate::member::Member;
 use faults::NoMemory;
 use mcs_reader::Id;
-use report_holds::HoldOn;
 use reports::is_among;
 use std::alloc::Global;
 use verdicts::index_of;
-use zone_plans::{ChosenResolver, Reading, ZonePlan};
+use zone_plans::{ChosenResolver, HoldOn, Reading, ZonePlan};
 
 /// The members of a plan, in the order of its steps, the steps numbered from 1.
 pub(crate) fn told_members(

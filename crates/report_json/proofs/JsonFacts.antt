@@ -1,20 +1,16 @@
 -- Values and the data that they stand for.
-use Rattle.std.proofs.Common.{◌≡◌, ℕ, Bool, List, false, Option, Some, None, map, refl}
+use Rattle.std.proofs.Common.{◌≡◌, ℕ, Bool, List, false, Option, Some, None, map, option_map, refl}
 use Rattle.serde_json.specs.View.{items_of}
 use Rattle.serde_json.specs.Written.{has_float, items_have_float}
-use Rattle.holddata.specs.HoldBook.{hold_under}
-use Rattle.holddata.specs.declared.hold.Hold.{Hold}
 use Rattle.catalogue.specs.Content.{Content, record_of}
 use Rattle.catalogue.specs.declared.sysmod.Sysmod.{Sysmod}
 use Rattle.verdicts.specs.declared.verdict.Status.{Status}
-use Rattle.reports.specs.declared.rows.ErrRow.{ErrRow}
-use Rattle.reports.specs.declared.rows.MissingRow.{MissingRow}
+use Rattle.reports.specs.Holds.{HoldLists}
+use Rattle.reports.specs.Lines.{LineParts, err_lines_of, missing_lines_of}
 use Rattle.reports.proofs.ChainFacts.{items_plain, texts_plain}
 pub use Rattle.reports.proofs.ChainFacts.{value_more}
-use Rattle.report_holds.specs.Holds.{HoldLists}
-use Rattle.report_holds.specs.Rows.{missing_holds_of}
 use Rattle.report_json.specs.Dates.{date_data, day_data}
-use Rattle.report_json.specs.Json.{categories_of, category_data, class_of, dated_of, err_data, err_data_with, err_key, err_report_data, err_sysmods_in, fix_key, fmid_of, fmids_data, hold_data, hold_data_with, id_data, missing_data, missing_data_with, missing_report_data, missing_sysmods_in, received_data, status_data, sysmod_data, sysmod_data_with, zone_data, zones_data}
+use Rattle.report_json.specs.Json.{category_data, err_data, err_report_data, fmids_data, hold_data, id_data, missing_data, missing_report_data, received_data, status_data, sysmod_data, sysmod_data_with, sysmods_in, zone_data, zones_data}
 
 -- ---- no number is a float
 
@@ -45,16 +41,29 @@ fmids_plain : (sysmod : Option Sysmod) → has_float (fmids_data sysmod) ≡ fal
 fmids_plain None = refl
 fmids_plain (Some sysmod) = texts_plain sysmod.fmids
 
-err_plain : (hold : Option Hold) (row : ErrRow) → has_float (err_data_with hold row) ≡ false
-err_plain hold row =
-    rw (id_plain row.class, date_plain (dated_of hold), id_plain row.fmid, received_plain row.received, id_plain row.resolver, status_plain row.status) refl
+err_plain : (line : LineParts) → has_float (err_data line) ≡ false
+err_plain line =
+    rw (
+      id_plain line.hold.class,
+      date_plain line.hold.dated,
+      id_plain line.hold.fmid,
+      received_plain (option_map (λ one. one.received) line.resolver),
+      id_plain (option_map (λ one. one.id) line.resolver),
+      status_plain (option_map (λ one. one.status) line.resolver),
+    ) refl
 
-missing_plain : (hold : Option Hold) (row : MissingRow) → has_float (missing_data_with hold row) ≡ false
-missing_plain hold row =
-    rw (id_plain (class_of hold), date_plain (dated_of hold), received_plain row.received, id_plain row.resolver, status_plain row.status) refl
+missing_plain : (line : LineParts) → has_float (missing_data line) ≡ false
+missing_plain line =
+    rw (
+      id_plain line.hold.class,
+      date_plain line.hold.dated,
+      received_plain (option_map (λ one. one.received) line.resolver),
+      id_plain (option_map (λ one. one.id) line.resolver),
+      status_plain (option_map (λ one. one.status) line.resolver),
+    ) refl
 
-hold_plain : (hold : Option Hold) (named : HoldLists) → has_float (hold_data_with hold named) ≡ false
-hold_plain hold named = rw (items_plain category_data category_plain (categories_of hold), id_plain (fmid_of hold)) refl
+hold_plain : (held : HoldLists) → has_float (hold_data held.hold) ≡ false
+hold_plain held = rw (items_plain category_data category_plain held.hold.categories, id_plain held.hold.fmid) refl
 
 sysmod_plain : (id : List ℕ) (sysmod : Option Sysmod) → has_float (sysmod_data_with id sysmod) ≡ false
 sysmod_plain id sysmod = rw (fmids_plain sysmod) refl
@@ -62,18 +71,17 @@ sysmod_plain id sysmod = rw (fmids_plain sysmod) refl
 sysmods_plain : (content : Content) (ids : List (List ℕ)) → items_have_float (items_of (map (sysmod_data content) ids)) ≡ false
 sysmods_plain content ids = items_plain (sysmod_data content) (λ id. sysmod_plain id (record_of content id)) ids
 
-pub err_report_plain : (zone : List ℕ) (holds : List Hold) (content : Content) (rows : List ErrRow)
-    → has_float (err_report_data zone (map (err_data holds) rows) (map (sysmod_data content) (err_sysmods_in rows))) ≡ false
-err_report_plain zone holds content rows =
-    rw (items_plain (err_data holds) (λ row. err_plain (hold_under holds (err_key row)) row) rows, sysmods_plain content (err_sysmods_in rows)) refl
+pub err_report_plain : (zone : List ℕ) (content : Content) (helds : List HoldLists)
+    → has_float (err_report_data zone (map err_data (err_lines_of helds)) (map (sysmod_data content) (sysmods_in helds))) ≡ false
+err_report_plain zone content helds = rw (items_plain err_data err_plain (err_lines_of helds), sysmods_plain content (sysmods_in helds)) refl
 
-pub missing_report_plain : (zone : List ℕ) (holds : List Hold) (content : Content) (rows : List MissingRow)
-    → has_float (missing_report_data zone (map (hold_data holds) (missing_holds_of rows)) (map (missing_data holds) rows) (map (sysmod_data content) (missing_sysmods_in rows))) ≡ false
-missing_report_plain zone holds content rows =
+pub missing_report_plain : (zone : List ℕ) (content : Content) (patterns : List (List ℕ)) (helds : List HoldLists)
+    → has_float (missing_report_data zone (map (λ held. hold_data held.hold) helds) (map missing_data (missing_lines_of patterns helds)) (map (sysmod_data content) (sysmods_in helds))) ≡ false
+missing_report_plain zone content patterns helds =
     rw (
-      items_plain (hold_data holds) (λ named. hold_plain (hold_under holds (fix_key named.sysmod named.reason)) named) (missing_holds_of rows),
-      items_plain (missing_data holds) (λ row. missing_plain (hold_under holds (fix_key row.sysmod row.reason)) row) rows,
-      sysmods_plain content (missing_sysmods_in rows),
+      items_plain (λ (held : HoldLists). hold_data held.hold) hold_plain helds,
+      items_plain missing_data missing_plain (missing_lines_of patterns helds),
+      sysmods_plain content (sysmods_in helds),
     ) refl
 
 zone_plain : (zone : List ℕ × ℕ) → has_float (zone_data zone) ≡ false

@@ -1,24 +1,19 @@
 -- Reports, the list of zones and the counts of what is published as JSON: the compact text of objects whose keys ascend.
-use Rattle.std.specs.Prelude.{ℕ, Bool, List, [], Option, Some, None, codes, map}
+use Rattle.std.specs.Prelude.{ℕ, Bool, List, Option, Some, None, codes, map, option_map}
 use Rattle.std.specs.Str.Lossy.{utf8_lossy}
 use Rattle.serde_json.specs.Data.{Data, array, boolean, member, no_members, null, number, object, string, unsigned}
 use Rattle.serde_json.specs.View.{items_of}
 use Rattle.serde_json.specs.Written.{compact_text}
 use Rattle.mcs_reader.specs.Id.{text_of}
-use Rattle.holddata.specs.HoldBook.{hold_under}
 use Rattle.holddata.specs.declared.hold.Hold.{Hold}
-use Rattle.holddata.specs.declared.key.HoldKey.{HoldKey}
-use Rattle.holddata.specs.declared.key.Kind.TheVariants.{ErrorHold, FixcatHold}
 use Rattle.catalogue.specs.Content.{Content, record_of}
 use Rattle.catalogue.specs.Ids.{in_order}
 use Rattle.catalogue.specs.declared.sysmod.Sysmod.{Sysmod}
 use Rattle.verdicts.specs.declared.verdict.Status.{Status}
 use Rattle.reports.specs.ChainText.{texts}
+use Rattle.reports.specs.Holds.{HoldLists}
+use Rattle.reports.specs.Lines.{LineParts, err_lines_of, missing_lines_of}
 use Rattle.reports.specs.ReportText.{status_field}
-use Rattle.reports.specs.declared.rows.ErrRow.{ErrRow}
-use Rattle.reports.specs.declared.rows.MissingRow.{MissingRow}
-use Rattle.report_holds.specs.Holds.{HoldLists}
-use Rattle.report_holds.specs.Rows.{missing_holds_of}
 use Rattle.report_json.specs.Dates.{date_data}
 
 -- ---- fields
@@ -47,76 +42,51 @@ abbrev pub fmids_data : Option Sysmod → Data
 fmids_data None = null
 fmids_data (Some sysmod) = array (texts sysmod.fmids)
 
--- what is said of a hold, if there is one
-abbrev pub class_of : Option Hold → Option (List ℕ)
-class_of None = None
-class_of (Some hold) = hold.class
-
-abbrev pub fmid_of : Option Hold → Option (List ℕ)
-fmid_of None = None
-fmid_of (Some hold) = hold.fmid
-
-abbrev pub dated_of : Option Hold → Option ℕ
-dated_of None = None
-dated_of (Some hold) = hold.dated
-
-abbrev pub categories_of : Option Hold → List (List ℕ)
-categories_of None = []
-categories_of (Some hold) = hold.categories
-
 -- ---- the exception SYSMOD report
 
--- the key of the hold of which a row speaks
-abbrev pub err_key : ErrRow → HoldKey
-err_key row = record { sysmod = row.sysmod; kind = ErrorHold; reason = row.reason }
+-- a row, by its hold and what is said of its resolver: the columns of the text, and the date of the hold
+abbrev pub err_data_with : Hold → Option (List ℕ) → Option Status → Option Bool → Data
+err_data_with hold resolver status received =
+    object (member (codes "class") (id_data hold.class)
+    (member (codes "date") (date_data hold.dated)
+    (member (codes "fmid") (id_data hold.fmid)
+    (member (codes "reason") (string (text_of hold.key.reason))
+    (member (codes "received") (received_data received)
+    (member (codes "resolver") (id_data resolver)
+    (member (codes "status") (status_data status)
+    (member (codes "sysmod") (string (text_of hold.key.sysmod)) no_members))))))))
 
--- a row, by its hold: the columns of the text, and the date of the hold
-abbrev pub err_data_with : Option Hold → ErrRow → Data
-err_data_with hold row =
-    object (member (codes "class") (id_data row.class)
-    (member (codes "date") (date_data (dated_of hold))
-    (member (codes "fmid") (id_data row.fmid)
-    (member (codes "reason") (string (text_of row.reason))
-    (member (codes "received") (received_data row.received)
-    (member (codes "resolver") (id_data row.resolver)
-    (member (codes "status") (status_data row.status)
-    (member (codes "sysmod") (string (text_of row.sysmod)) no_members))))))))
-
--- a row, by the holds that the report begins with
-abbrev pub err_data : List Hold → ErrRow → Data
-err_data holds row = err_data_with (hold_under holds (err_key row)) row
+abbrev pub err_data : LineParts → Data
+err_data line =
+    err_data_with line.hold (option_map (λ one. one.id) line.resolver) (option_map (λ one. one.status) line.resolver)
+    (option_map (λ one. one.received) line.resolver)
 
 -- ---- the missing fix report
 
--- the key of the FIXCAT hold on a SYSMOD for a reason
-abbrev pub fix_key : List ℕ → List ℕ → HoldKey
-fix_key sysmod reason = record { sysmod = sysmod; kind = FixcatHold; reason = reason }
+-- a row, by its category, its hold and what is said of its resolver: the columns of the text, and the class and the date of the hold
+abbrev pub missing_data_with : List ℕ → Hold → Option (List ℕ) → Option Status → Option Bool → Data
+missing_data_with category hold resolver status received =
+    object (member (codes "category") (category_data category)
+    (member (codes "class") (id_data hold.class)
+    (member (codes "date") (date_data hold.dated)
+    (member (codes "reason") (string (text_of hold.key.reason))
+    (member (codes "received") (received_data received)
+    (member (codes "resolver") (id_data resolver)
+    (member (codes "status") (status_data status)
+    (member (codes "sysmod") (string (text_of hold.key.sysmod)) no_members))))))))
 
--- a row, by its hold: the columns of the text, and the class and the date of the hold
-abbrev pub missing_data_with : Option Hold → MissingRow → Data
-missing_data_with hold row =
-    object (member (codes "category") (category_data row.category)
-    (member (codes "class") (id_data (class_of hold))
-    (member (codes "date") (date_data (dated_of hold))
-    (member (codes "reason") (string (text_of row.reason))
-    (member (codes "received") (received_data row.received)
-    (member (codes "resolver") (id_data row.resolver)
-    (member (codes "status") (status_data row.status)
-    (member (codes "sysmod") (string (text_of row.sysmod)) no_members))))))))
+abbrev pub missing_data : LineParts → Data
+missing_data line =
+    missing_data_with line.category line.hold (option_map (λ one. one.id) line.resolver) (option_map (λ one. one.status) line.resolver)
+    (option_map (λ one. one.received) line.resolver)
 
-abbrev pub missing_data : List Hold → MissingRow → Data
-missing_data holds row = missing_data_with (hold_under holds (fix_key row.sysmod row.reason)) row
-
--- a hold that rows name: all its categories, whether a pattern matches them or not, and its operand FMID
-abbrev pub hold_data_with : Option Hold → HoldLists → Data
-hold_data_with hold named =
-    object (member (codes "categories") (array (items_of (map category_data (categories_of hold))))
-    (member (codes "fmid") (id_data (fmid_of hold))
-    (member (codes "reason") (string (text_of named.reason))
-    (member (codes "sysmod") (string (text_of named.sysmod)) no_members))))
-
-abbrev pub hold_data : List Hold → HoldLists → Data
-hold_data holds named = hold_data_with (hold_under holds (fix_key named.sysmod named.reason)) named
+-- a hold: all its categories, whether a pattern matches them or not, and its operand FMID
+abbrev pub hold_data : Hold → Data
+hold_data hold =
+    object (member (codes "categories") (array (items_of (map category_data hold.categories)))
+    (member (codes "fmid") (id_data hold.fmid)
+    (member (codes "reason") (string (text_of hold.key.reason))
+    (member (codes "sysmod") (string (text_of hold.key.sysmod)) no_members))))
 
 -- ---- the held SYSMODs
 
@@ -127,12 +97,9 @@ sysmod_data_with id sysmod = object (member (codes "fmids") (fmids_data sysmod) 
 abbrev pub sysmod_data : Content → List ℕ → Data
 sysmod_data content id = sysmod_data_with id (record_of content id)
 
--- the SYSMODs of rows, each once, in ascending order
-abbrev pub err_sysmods_in : List ErrRow → List (List ℕ)
-err_sysmods_in rows = in_order (map (λ row. row.sysmod) rows)
-
-abbrev pub missing_sysmods_in : List MissingRow → List (List ℕ)
-missing_sysmods_in rows = in_order (map (λ row. row.sysmod) rows)
+-- the SYSMODs of holds, each once, in ascending order
+abbrev pub sysmods_in : List HoldLists → List (List ℕ)
+sysmods_in helds = in_order (map (λ held. held.hold.key.sysmod) helds)
 
 -- ---- whole texts
 
@@ -144,12 +111,12 @@ err_report_data zone rows sysmods =
     (member (codes "sysmods") (array (items_of sysmods))
     (member (codes "zone") (string (text_of zone)) no_members))))
 
--- by the rows of the report and the holds that it begins with
-abbrev pub err_json_of : Content → List ℕ → List Hold → List ErrRow → List ℕ
-err_json_of content zone holds rows =
-    compact_text (err_report_data zone (map (err_data holds) rows) (map (sysmod_data content) (err_sysmods_in rows)))
+-- by its holds
+abbrev pub err_json_of : Content → List ℕ → List HoldLists → List ℕ
+err_json_of content zone helds =
+    compact_text (err_report_data zone (map err_data (err_lines_of helds)) (map (sysmod_data content) (sysmods_in helds)))
 
--- the missing fix report on a zone: its rows, and the holds and the held SYSMODs that they name, each once
+-- the missing fix report on a zone: its rows, its holds in their order, and the held SYSMODs, each once
 abbrev pub missing_report_data : List ℕ → List Data → List Data → List Data → Data
 missing_report_data zone holds rows sysmods =
     object (member (codes "holds") (array (items_of holds))
@@ -158,12 +125,12 @@ missing_report_data zone holds rows sysmods =
     (member (codes "sysmods") (array (items_of sysmods))
     (member (codes "zone") (string (text_of zone)) no_members)))))
 
-abbrev pub missing_json_of : Content → List ℕ → List Hold → List MissingRow → List ℕ
-missing_json_of content zone holds rows =
+abbrev pub missing_json_of : Content → List ℕ → List (List ℕ) → List HoldLists → List ℕ
+missing_json_of content zone patterns helds =
     compact_text (missing_report_data zone
-    (map (hold_data holds) (missing_holds_of rows))
-    (map (missing_data holds) rows)
-    (map (sysmod_data content) (missing_sysmods_in rows)))
+    (map (λ held. hold_data held.hold) helds)
+    (map missing_data (missing_lines_of patterns helds))
+    (map (sysmod_data content) (sysmods_in helds)))
 
 -- a zone, and how many SYSMODs its list has
 abbrev pub zone_data : List ℕ × ℕ → Data

@@ -1,6 +1,5 @@
 //! The fields of rows.
 ghost use Rattle.std.specs.Prelude.{◌≡◌, IfOk, map};
-ghost use Rattle.std.specs.Option.{option_copied};
 ghost use Rattle.mcs_reader.specs.Bytes.{bytes_of_each};
 ghost use Rattle.serde_json.specs.View.{items_of, items_view, view};
 ghost use Rattle.reports.specs.ChainText.{texts};
@@ -8,7 +7,7 @@ ghost use Rattle.report_json.specs.Json as Spec;
 
 use catalogue::Sysmod;
 use faults::NoMemory;
-use holddata::{Date, Hold};
+use holddata::Hold;
 use mcs_reader::Id;
 use serde_json::Value;
 use std::alloc::Global;
@@ -54,14 +53,11 @@ pub(crate) fn category_value(alloc: Global, category: &[u8]) -> Result<Value, No
 }
 
 /// All categories of a hold.
-pub(crate) fn categories_values(alloc: Global, hold: Option<&Hold>) -> Result<Vec<Value>, NoMemory>
+pub(crate) fn categories_values(alloc: Global, hold: &Hold) -> Result<Vec<Value>, NoMemory>
     ensures { IfOk result (λ values. items_view values.items
-        ≡ items_of (map Spec.category_data (Spec.categories_of (option_copied hold.entry)))) }
+        ≡ items_of (map Spec.category_data hold.now.categories)) }
 {
-    match hold {
-        Some(hold) => category_values(alloc, &hold.categories.to_list()?),
-        None => Ok(Vec::new(alloc)),
-    }
+    category_values(alloc, &hold.categories.to_list()?)
 }
 
 fn category_values(alloc: Global, categories: &[&[u8]]) -> Result<Vec<Value>, NoMemory>
@@ -93,34 +89,4 @@ fn text_values(alloc: Global, ids: &[Id]) -> Result<Vec<Value>, NoMemory>
         values.push(Value::try_from_str(alloc, id.text())?)?;
     }
     Ok(values)
-}
-
-/// The class of a hold.
-pub(crate) fn class_of(hold: Option<&Hold>) -> Option<Id>
-    ensures { result ≡ Spec.class_of (option_copied hold.entry) }
-{
-    match hold {
-        Some(hold) => hold.class,
-        None => None,
-    }
-}
-
-/// The function that a hold names.
-pub(crate) fn fmid_of(hold: Option<&Hold>) -> Option<Id>
-    ensures { result ≡ Spec.fmid_of (option_copied hold.entry) }
-{
-    match hold {
-        Some(hold) => hold.fmid,
-        None => None,
-    }
-}
-
-/// When a hold was put.
-pub(crate) fn dated_of(hold: Option<&Hold>) -> Option<Date>
-    ensures { result ≡ Spec.dated_of (option_copied hold.entry) }
-{
-    match hold {
-        Some(hold) => hold.dated,
-        None => None,
-    }
 }

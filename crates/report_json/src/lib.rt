@@ -16,7 +16,6 @@ mod dates;
 mod fields;
 mod lists;
 mod rows;
-mod search;
 mod sysmods;
 mod texts;
 

@@ -1,4 +1,4 @@
-//! The held SYSMODs that rows name, each once, with their functions.
+//! The held SYSMODs of a report, each once, with their functions.
 ghost use Rattle.std.specs.Prelude.{◌≡◌, IfOk, map};
 ghost use Rattle.serde_json.specs.View.{view};
 ghost use Rattle.catalogue.specs.View.{MayAsk, Tells};
@@ -9,29 +9,18 @@ use crate::fields::fmids_value;
 use catalogue::{Published, SourceFault, Sysmod};
 use faults::NoMemory;
 use mcs_reader::Id;
-use reports::{ErrRow, MissingRow};
+use reports::HoldResolvers;
 use serde_json::{Value, json};
 use std::alloc::Global;
 use std::collections::BTreeSet;
 
-/// The SYSMODs of rows, each once, in ascending order.
-pub(crate) fn err_sysmods(alloc: Global, rows: &[ErrRow]) -> Result<Vec<Id>, NoMemory>
-    ensures { IfOk result (λ ids. ids.items ≡ Spec.err_sysmods_in rows.now) }
+/// The SYSMODs of holds, each once, in ascending order.
+pub(crate) fn sysmods_in(alloc: Global, helds: &[HoldResolvers]) -> Result<Vec<Id>, NoMemory>
+    ensures { IfOk result (λ ids. ids.items ≡ Spec.sysmods_in helds.now) }
 {
     let mut found = BTreeSet::new(alloc);
-    for row in rows {
-        found.insert(row.sysmod)?;
-    }
-    listed(alloc, found)
-}
-
-/// As [`err_sysmods`], of the other report.
-pub(crate) fn missing_sysmods(alloc: Global, rows: &[MissingRow]) -> Result<Vec<Id>, NoMemory>
-    ensures { IfOk result (λ ids. ids.items ≡ Spec.missing_sysmods_in rows.now) }
-{
-    let mut found = BTreeSet::new(alloc);
-    for row in rows {
-        found.insert(row.sysmod)?;
+    for held in helds {
+        found.insert(held.hold().key.sysmod)?;
     }
     listed(alloc, found)
 }

@@ -1,29 +1,25 @@
 //! The two reports as JSON.
 ghost use Rattle.std.specs.Prelude.{◌≡◌, IfOk, map};
 ghost use Rattle.serde_json.specs.View.{view};
-ghost use Rattle.holddata.specs.HoldBook.{IsInKeyOrder};
 ghost use Rattle.catalogue.specs.View.{MayAsk, Tells};
 ghost use Rattle.catalogue.specs.declared.fault.SourceFault.TheVariants.{Device};
-ghost use Rattle.report_holds.specs.Rows.{missing_holds_of};
 ghost use Rattle.report_json.specs.Dates.{DaysAreFound};
-ghost use Rattle.report_json.specs.Found.{ErrRowsHaveHolds, MissingRowsHaveHolds};
 ghost use Rattle.report_json.specs.Json as Spec;
 
 use crate::lists::compact;
 use crate::rows::{err_value, hold_value, missing_value};
-use crate::sysmods::{err_sysmods, missing_sysmods, sysmod_values};
+use crate::sysmods::{sysmod_values, sysmods_in};
 use catalogue::{Published, SourceFault};
 use faults::NoMemory;
-use holddata::Hold;
 use mcs_reader::Id;
-use report_holds::{HoldResolvers, missing_holds};
-use reports::{ErrRow, MissingRow};
+use reports::{HoldResolvers, Line, err_lines, missing_lines};
 use serde_json::{Value, json};
 use std::alloc::Global;
+use zone_lists::Pattern;
 
 /// The exception SYSMOD report on a zone as compact JSON: an object with `report`, which is `errsysmods`,
-/// `rows`, `sysmods` and `zone`. Keys ascend in each object, and no line end stands after it. The holds are
-/// those that the report begins with, in the order of their keys.
+/// `rows`, `sysmods` and `zone`. Keys ascend in each object, and no line end stands after it. The rows are the lines
+/// of the holds in the report's order.
 ///
 /// A row has the columns of the text, `class`, `fmid`, `reason`, `received`, `resolver`, `status` and
 /// `sysmod`, and the `date` of its hold. `received` is true or false. What is absent is null. In the row of
@@ -42,18 +38,16 @@ pub fn err_json<P: Published>(
     alloc: Global,
     source: &mut P,
     zone: &Id,
-    holds: &[Hold],
-    rows: &[ErrRow],
+    helds: &[HoldResolvers],
 ) -> Result<Vec<u8>, SourceFault>
-    requires { IsInKeyOrder holds.now }
     ensures asks { MayAsk P.content_view Device source.old source.new result }
     ensures text { IfOk result (λ text. Tells P.content_view source.old source.new
-        (λ content. text.items ≡ Spec.err_json_of content zone.now holds.now rows.now)) }
-    ensures holds { ErrRowsHaveHolds }
+        (λ content. text.items ≡ Spec.err_json_of content zone.now helds.now)) }
     ensures days { DaysAreFound }
 {
-    let values = err_values(alloc, holds, rows)?;
-    let ids = err_sysmods(alloc, rows)?;
+    let lines = err_lines(alloc, helds)?;
+    let values = err_values(alloc, &lines)?;
+    let ids = sysmods_in(alloc, helds)?;
     let sysmods = sysmod_values(alloc, source, ids.as_slice())?;
     let value = err_report_value(alloc, zone, values, sysmods)?;
     Ok(compact(alloc, &value)?)
@@ -77,13 +71,12 @@ fn err_report_value(
 }
 
 #[tactic(auto, using(crate::proofs::JsonFacts::value_more))]
-fn err_values(alloc: Global, holds: &[Hold], rows: &[ErrRow]) -> Result<Vec<Value>, NoMemory>
-    requires { IsInKeyOrder holds.now }
-    ensures { IfOk result (λ values. map view values.items ≡ map (Spec.err_data holds.now) rows.now) }
+fn err_values(alloc: Global, lines: &[Line]) -> Result<Vec<Value>, NoMemory>
+    ensures { IfOk result (λ values. map view values.items ≡ map Spec.err_data lines.now) }
 {
     let mut values = Vec::new(alloc);
-    for row in rows {
-        values.push(err_value(alloc, holds, row)?)?;
+    for line in lines {
+        values.push(err_value(alloc, line)?)?;
     }
     Ok(values)
 }
@@ -94,9 +87,8 @@ fn err_values(alloc: Global, holds: &[Hold], rows: &[ErrRow]) -> Result<Vec<Valu
 /// A row has `category`, `class` and `date`, which are those of its hold, `reason`, `received`, `resolver`,
 /// `status` and `sysmod`, which is the held one: the column FMID of the text.
 ///
-/// `holds` has each hold of the rows once, by SYSMOD and then by reason: `categories`, which are all of the
-/// hold, whether a pattern matches them or not, `fmid`, which is its operand FMID or null, `reason` and
-/// `sysmod`.
+/// `holds` has each hold once, in their order: `categories`, which are all of the hold, whether a pattern matches them
+/// or not, `fmid`, which is its operand FMID or null, `reason` and `sysmod`.
 ///
 /// # Errors
 ///
@@ -105,19 +97,18 @@ pub fn missing_json<P: Published>(
     alloc: Global,
     source: &mut P,
     zone: &Id,
-    holds: &[Hold],
-    rows: &[MissingRow],
+    patterns: &[Pattern],
+    helds: &[HoldResolvers],
 ) -> Result<Vec<u8>, SourceFault>
-    requires { IsInKeyOrder holds.now }
     ensures asks { MayAsk P.content_view Device source.old source.new result }
     ensures text { IfOk result (λ text. Tells P.content_view source.old source.new
-        (λ content. text.items ≡ Spec.missing_json_of content zone.now holds.now rows.now)) }
-    ensures holds { MissingRowsHaveHolds }
+        (λ content. text.items ≡ Spec.missing_json_of content zone.now patterns.now helds.now)) }
     ensures days { DaysAreFound }
 {
-    let named = named_values(alloc, holds, rows)?;
-    let values = missing_values(alloc, holds, rows)?;
-    let ids = missing_sysmods(alloc, rows)?;
+    let lines = missing_lines(alloc, patterns, helds)?;
+    let named = hold_values(alloc, helds)?;
+    let values = missing_values(alloc, &lines)?;
+    let ids = sysmods_in(alloc, helds)?;
     let sysmods = sysmod_values(alloc, source, ids.as_slice())?;
     let value = missing_report_value(alloc, zone, named, values, sysmods)?;
     Ok(compact(alloc, &value)?)
@@ -143,42 +134,24 @@ fn missing_report_value(
 }
 
 #[tactic(auto, using(crate::proofs::JsonFacts::value_more))]
-fn missing_values(
-    alloc: Global,
-    holds: &[Hold],
-    rows: &[MissingRow],
-) -> Result<Vec<Value>, NoMemory>
-    requires { IsInKeyOrder holds.now }
-    ensures { IfOk result (λ values. map view values.items ≡ map (Spec.missing_data holds.now) rows.now) }
+fn missing_values(alloc: Global, lines: &[Line]) -> Result<Vec<Value>, NoMemory>
+    ensures { IfOk result (λ values. map view values.items ≡ map Spec.missing_data lines.now) }
 {
     let mut values = Vec::new(alloc);
-    for row in rows {
-        values.push(missing_value(alloc, holds, row)?)?;
+    for line in lines {
+        values.push(missing_value(alloc, line)?)?;
     }
     Ok(values)
 }
 
-// The holds that rows name.
-fn named_values(alloc: Global, holds: &[Hold], rows: &[MissingRow]) -> Result<Vec<Value>, NoMemory>
-    requires { IsInKeyOrder holds.now }
+#[tactic(auto, using(crate::proofs::JsonFacts::value_more))]
+fn hold_values(alloc: Global, helds: &[HoldResolvers]) -> Result<Vec<Value>, NoMemory>
     ensures { IfOk result (λ values. map view values.items
-        ≡ map (Spec.hold_data holds.now) (missing_holds_of rows.now)) }
-{
-    let named = missing_holds(alloc, rows)?;
-    hold_values(alloc, holds, named.as_slice())
-}
-
-fn hold_values(
-    alloc: Global,
-    holds: &[Hold],
-    named: &[HoldResolvers],
-) -> Result<Vec<Value>, NoMemory>
-    requires { IsInKeyOrder holds.now }
-    ensures { IfOk result (λ values. map view values.items ≡ map (Spec.hold_data holds.now) named.now) }
+        ≡ map (λ held. Spec.hold_data held.hold) helds.now) }
 {
     let mut values = Vec::new(alloc);
-    for one in named {
-        values.push(hold_value(alloc, holds, one)?)?;
+    for held in helds {
+        values.push(hold_value(alloc, held.hold())?)?;
     }
     Ok(values)
 }

@@ -124,7 +124,8 @@ fn is_asked(patterns: &[Pattern], hold: &Hold) -> Result<bool, NoMemory>
 }
 
 fn any_matched(patterns: &[Pattern], categories: &[&[u8]]) -> bool
-    ensures { result ≡ list_any (λ category. list_any (λ pattern. does_match pattern category.now) patterns.now) categories.now }
+    ensures { result ≡ list_any
+        (λ category. list_any (λ pattern. does_match pattern category.now) patterns.now) categories.now }
 {
     categories
         .iter()

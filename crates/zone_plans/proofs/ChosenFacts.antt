@@ -20,8 +20,8 @@ use Rattle.verdicts.specs.Worlds.{IsVerdict}
 use Rattle.verdicts.specs.declared.verdict.Status.{Status}
 use Rattle.verdicts.specs.declared.verdict.Status.TheVariants.{Good, Held, Lack}
 use Rattle.verdicts.proofs.VerdictFacts.{found_verdict}
-use Rattle.report_holds.specs.Holds.{HoldLists}
-use Rattle.report_holds.specs.declared.holds.Resolver.{Resolver}
+use Rattle.reports.specs.Holds.{HoldLists}
+use Rattle.reports.specs.declared.holds.Resolver.{Resolver}
 use Rattle.zone_plans.specs.Choices.{is_given, of_status, or_all, received_or_all, same_status}
 use Rattle.zone_plans.specs.Findings.{known_givers}
 use Rattle.zone_plans.specs.Graphs.{MayPlace, is_given_by, not_given}

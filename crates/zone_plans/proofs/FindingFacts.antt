@@ -9,8 +9,8 @@ use Rattle.supersede.specs.Reach.{has}
 use Rattle.supersede.proofs.ReachFacts.{has_from}
 use Rattle.verdicts.specs.Candidates.{candidates_unless_there}
 use Rattle.verdicts.specs.United.{united}
-use Rattle.report_holds.specs.Holds.{HoldLists}
-use Rattle.report_holds.specs.declared.holds.HoldOn.{HoldOn}
+use Rattle.reports.specs.Holds.{HoldLists}
+use Rattle.zone_plans.specs.declared.holds.HoldOn.{HoldOn}
 use Rattle.zone_plans.specs.Findings.{AreFindings, AreFoundOf, FindingLists, findings_of, known_givers}
 use Rattle.zone_plans.specs.Members.{joined}
 use Rattle.zone_plans.specs.Plans.{IsZonePlan, PlanLists, chosen_in, if_resolved, placed, resolved_in, resolver_by, resolvers_of}

@@ -7,4 +7,5 @@ pub mod OutdoneFacts
 pub mod PlanFacts
 pub mod PlannedFacts
 pub mod StepFacts
+pub mod ToldFacts
 pub mod ValueFacts

@@ -12,17 +12,17 @@ use Rattle.verdicts.specs.Judge.{status_of}
 use Rattle.verdicts.specs.Verdicts.{verdict_of}
 use Rattle.verdicts.specs.declared.verdict.Status.{Status}
 use Rattle.verdicts.specs.declared.verdict.Status.TheVariants.{Good, Held}
-use Rattle.report_holds.specs.Holds.{AreTold, HoldLists}
+use Rattle.reports.specs.Holds.{HoldLists}
 use Rattle.zone_plans.specs.Choices.{choice, is_given, of_status, on_top, received_or_all, same_status}
 use Rattle.blocked_needs.specs.Blocked.{AreBlockedNeeds, blocked_needs_of}
 use Rattle.blocked_needs.specs.declared.blocked.BlockedNeed.{BlockedNeed}
 use Rattle.verdicts.specs.United.{united}
 use Rattle.zone_plans.specs.Findings.{FindingLists, findings_of}
 use Rattle.zone_plans.specs.Members.{AreZoneSteps, IsGivenBy, joined, zone_steps_of}
-use Rattle.zone_plans.specs.Plans.{IsPlanFor, IsZonePlan, PlanLists, chosen_in, fate_by, held_in, if_held, placed, resolved_in, resolver_by, resolvers_of, unresolved_in}
+use Rattle.zone_plans.specs.Plans.{AreTold, IsPlanFor, IsZonePlan, PlanLists, chosen_in, fate_by, held_in, if_held, placed, resolved_in, resolver_by, resolvers_of, unresolved_in}
 use Rattle.zone_plans.specs.declared.holds.ChosenResolver.{ChosenResolver}
-use Rattle.report_holds.specs.declared.holds.HoldOn.{HoldOn}
-use Rattle.report_holds.specs.declared.holds.Resolver.{Resolver}
+use Rattle.zone_plans.specs.declared.holds.HoldOn.{HoldOn}
+use Rattle.reports.specs.declared.holds.Resolver.{Resolver}
 use Rattle.zone_plans.specs.declared.placing.Placed.{Placed}
 use Rattle.zone_plans.proofs.ChosenFacts.{IsOfKind, kept_or_all, same_is}
 

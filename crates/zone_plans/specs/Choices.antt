@@ -6,8 +6,8 @@ use Rattle.catalogue.specs.Ids.{in_order, same_id}
 use Rattle.supersede.specs.Giving.{gives}
 use Rattle.verdicts.specs.declared.verdict.Status.{Status}
 use Rattle.verdicts.specs.declared.verdict.Status.TheVariants.{Good, Held, Lack}
-use Rattle.report_holds.specs.Holds.{HoldLists}
-use Rattle.report_holds.specs.declared.holds.Resolver.{Resolver}
+use Rattle.reports.specs.Holds.{HoldLists}
+use Rattle.reports.specs.declared.holds.Resolver.{Resolver}
 
 -- whether two verdicts are of one kind
 abbrev pub same_status : Status → Status → Bool

@@ -13,8 +13,8 @@ use Rattle.requisites.specs.Sources.{HasSource}
 use Rattle.verdicts.specs.Indices.{id_at, RowsAre}
 use Rattle.verdicts.specs.Judge.{status_of}
 use Rattle.verdicts.specs.Verdicts.{verdict_of}
-use Rattle.report_holds.specs.Holds.{HoldLists}
-use Rattle.report_holds.specs.declared.holds.Resolver.{Resolver}
+use Rattle.reports.specs.Holds.{HoldLists}
+use Rattle.reports.specs.declared.holds.Resolver.{Resolver}
 use Rattle.zone_plans.specs.Findings.{known_givers}
 use Rattle.zone_plans.specs.Readings.{ReadingLists}
 

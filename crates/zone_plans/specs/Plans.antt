@@ -1,6 +1,7 @@
 -- One plan for the holds of a report on a zone.
 use Rattle.std.specs.Prelude.{◌≡◌, ℕ, List, Option, Some, None, Contains, IfSome, map}
 use Rattle.std.specs.List.{filter_map, flat_map}
+use Rattle.holddata.specs.declared.hold.Hold.{Hold}
 use Rattle.zone_lists.specs.declared.zones.ZoneRow.{ZoneRow}
 use Rattle.catalogue.specs.Content.{Content}
 use Rattle.catalogue.specs.Ids.{in_order}
@@ -10,12 +11,13 @@ use Rattle.verdicts.specs.Verdicts.{verdict_of}
 use Rattle.verdicts.specs.declared.verdict.Status.TheVariants as status
 use Rattle.blocked_needs.specs.Blocked.{AreBlockedNeeds, HasRow, blocked_needs_of}
 use Rattle.blocked_needs.specs.declared.blocked.BlockedNeed.{BlockedNeed}
-use Rattle.report_holds.specs.Holds.{HoldLists}
+use Rattle.reports.specs.Holds.{HoldLists}
+use Rattle.reports.specs.declared.holds.Resolver.{Resolver}
 use Rattle.zone_plans.specs.Choices.{choice}
 use Rattle.zone_plans.specs.Findings.{FindingLists, findings_of}
 use Rattle.zone_plans.specs.Members.{AreZoneSteps, IsGivenBy, joined, zone_steps_of}
 use Rattle.zone_plans.specs.declared.holds.ChosenResolver.{ChosenResolver}
-use Rattle.report_holds.specs.declared.holds.HoldOn.{HoldOn}
+use Rattle.zone_plans.specs.declared.holds.HoldOn.{HoldOn}
 use Rattle.zone_plans.specs.declared.placing.Fate.{Fate}
 use Rattle.zone_plans.specs.declared.placing.Fate.TheVariants.{Resolved, Held, Unresolved}
 use Rattle.zone_plans.specs.declared.placing.Placed.{Placed}
@@ -26,9 +28,13 @@ fate_by (Some id) held = Resolved id
 fate_by None (Some id) = Held id
 fate_by None None = Unresolved
 
+-- a hold by its SYSMOD and its reason
+abbrev pub hold_on : Hold → HoldOn
+hold_on hold = record { sysmod = hold.key.sysmod; reason = hold.key.reason }
+
 abbrev pub placed : Content → HoldLists → Placed
 placed content hold = record {
-  hold = record { sysmod = hold.sysmod; reason = hold.reason };
+  hold = hold_on hold.hold;
   fate = fate_by (choice content status.Good hold) (choice content status.Held hold);
 }
 
@@ -71,6 +77,12 @@ unresolved_in holds = filter_map (λ one. if_unresolved one.hold one.fate) holds
 -- the resolvers of some holds
 abbrev pub resolvers_of : List ChosenResolver → List (List ℕ)
 resolvers_of holds = map (λ one. one.resolver) holds
+
+-- what is said of the resolvers is so: the status of each is that of its verdict
+abbrev pub AreTold : Content → List ZoneRow → List HoldLists → Type 0
+AreTold content rows holds =
+    (hold : HoldLists) (resolver : Resolver) → Contains holds hold → Contains hold.resolvers resolver
+    → resolver.status ≡ status_of (verdict_of content rows resolver.id)
 
 -- ---- plans
 

@@ -10,8 +10,7 @@ ghost use Rattle.zone_plans.specs.Graphs.{AreKnown, MayPlace, is_given_by, lists
 
 use faults::NoMemory;
 use mcs_reader::Id;
-use report_holds::{HoldResolvers, Resolver};
-use reports::{is_among, list_among, put_all};
+use reports::{HoldResolvers, Resolver, is_among, list_among, put_all};
 use std::alloc::Global;
 use std::collections::BTreeSet;
 use verdicts::{Status, listed};

@@ -1,7 +1,15 @@
-//! The resolver that is chosen for a hold.
+//! A hold of a plan, and the resolver that is chosen for it.
 
 use mcs_reader::Id;
-use report_holds::HoldOn;
+
+/// A hold of a report: the held SYSMOD, and the reason.
+#[derive(Clone, Copy, Debug, PartialEq, Eq)]
+pub struct HoldOn {
+    /// The held SYSMOD.
+    pub sysmod: Id,
+    /// The reason of the hold.
+    pub reason: Id,
+}
 
 /// A hold of a report, with the one that is chosen of the SYSMODs that resolve it: the received before the others, then
 /// one that no other of them supersedes, then the greatest id.

@@ -2,7 +2,7 @@
 //! (IBM z/OS SMP/E Reference, `++VER`, operands PRE, REQ and SUP).
 //!
 //! - [`err_plan`], [`missing_plan`]: the plans for the two reports, as a [`ZonePlan`]
-//! - [`zone_plan`]: the plan for some holds, each with what resolves it: [`HoldResolvers`], [`Resolver`]
+//! - [`zone_plan`]: the plan for some holds of a report, each with what resolves it
 //! - [`Steps`]: what is to be installed, step by step
 //! - [`Findings`]: what was found of the SYSMODs that the chosen plans have together; [`Reading`]: what was read of one
 //! - [`HoldOn`]: a hold by its SYSMOD and its reason; [`ChosenResolver`]: a hold with the resolver that is chosen for
@@ -35,9 +35,8 @@ mod report_plans;
 mod steps;
 
 pub use findings::Findings;
-pub use holds::ChosenResolver;
+pub use holds::{ChosenResolver, HoldOn};
 pub use plan::{ZonePlan, zone_plan};
 pub use reading::Reading;
-pub use report_holds::{HoldOn, HoldResolvers, Resolver};
 pub use report_plans::{err_plan, missing_plan};
 pub use steps::Steps;

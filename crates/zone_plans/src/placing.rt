@@ -6,17 +6,18 @@ ghost use Rattle.catalogue.specs.Content.{Content};
 ghost use Rattle.catalogue.specs.Ids.{Ascend, put_among};
 ghost use Rattle.catalogue.specs.View.{MayAsk, Tells};
 ghost use Rattle.catalogue.specs.declared.fault.SourceFault.TheVariants.{Device};
-ghost use Rattle.report_holds.specs.Holds.{AreTold, HoldLists};
+ghost use Rattle.reports.specs.Holds.{HoldLists};
 ghost use Rattle.zone_plans.specs.Graphs.{AreKnown, MayPlace};
 ghost use Rattle.zone_plans.specs.Plans as Plans;
 
 use crate::choice::choice;
 use crate::giving::givers_of_all;
-use crate::holds::ChosenResolver;
+use crate::holds::{ChosenResolver, HoldOn};
 use catalogue::{Published, SourceFault};
 use faults::NoMemory;
+use holddata::Hold;
 use mcs_reader::Id;
-use report_holds::{HoldOn, HoldResolvers, Resolver};
+use reports::{HoldResolvers, Resolver};
 use std::alloc::Global;
 use std::collections::BTreeSet;
 use supersede::Zone;
@@ -50,7 +51,7 @@ pub(crate) fn place_all<P: Published, J: Judge<P>>(
 ) -> Result<Vec<Placed>, SourceFault>
     ensures asks { MayAsk P.content_view Device source.old source.new result }
     ensures placed { IfOk result (λ found. Tells P.content_view source.old source.new
-        (λ content. J.is_right judge.old content → AreTold content zone.now holds.now
+        (λ content. J.is_right judge.old content → Plans.AreTold content zone.now holds.now
         → found.items ≡ map (Plans.placed content) holds.now)) }
     ensures right { Tells P.content_view source.old source.new
         (λ content. J.is_right judge.old content → J.is_right judge.new content) }
@@ -117,13 +118,19 @@ fn put_placed(
     let good = choice(alloc, known, lists, Status::Good, hold)?;
     let held = choice(alloc, known, lists, Status::Held, hold)?;
     found.push(Placed {
-        hold: HoldOn {
-            sysmod: hold.sysmod(),
-            reason: hold.reason(),
-        },
+        hold: hold_on(hold.hold()),
         fate: fate_by(good, held),
     })?;
     Ok(())
+}
+
+fn hold_on(hold: &Hold) -> HoldOn
+    ensures { result ≡ Plans.hold_on hold.now }
+{
+    HoldOn {
+        sysmod: hold.key.sysmod,
+        reason: hold.key.reason,
+    }
 }
 
 fn fate_by(good: Option<Id>, held: Option<Id>) -> Fate

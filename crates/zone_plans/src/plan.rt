@@ -2,16 +2,15 @@
 ghost use Rattle.std.specs.Prelude.{◌≡◌, IfOk};
 ghost use Rattle.catalogue.specs.View.{MayAsk, Tells};
 ghost use Rattle.catalogue.specs.declared.fault.SourceFault.TheVariants.{Device};
-ghost use Rattle.report_holds.specs.Holds.{AreTold};
-ghost use Rattle.zone_plans.specs.Plans.{AreGood, IsPlanFor, IsZonePlan};
+ghost use Rattle.zone_plans.specs.Plans.{AreGood, AreTold, IsPlanFor, IsZonePlan};
 
 use crate::findings::{Findings, find};
-use crate::holds::ChosenResolver;
+use crate::holds::{ChosenResolver, HoldOn};
 use crate::placing::{Placed, PlacedHolds, chosen_in, place_all, placed_holds, resolvers_of};
 use crate::steps::{Steps, zone_steps};
 use blocked_needs::{BlockedNeed, blocked_needs};
 use catalogue::{Published, SourceFault};
-use report_holds::{HoldOn, HoldResolvers};
+use reports::HoldResolvers;
 use std::alloc::Global;
 use std::marker::Model;
 use supersede::Zone;

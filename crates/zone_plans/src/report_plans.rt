@@ -3,17 +3,14 @@ ghost use Rattle.std.specs.Prelude.{IfOk};
 ghost use Rattle.catalogue.specs.Ids.{Ascend};
 ghost use Rattle.catalogue.specs.View.{MayAsk, Tells};
 ghost use Rattle.catalogue.specs.declared.fault.SourceFault.TheVariants.{Device};
-ghost use Rattle.reports.specs.ErrRows.{err_rows_of};
-ghost use Rattle.reports.specs.MissingRows.{missing_rows_of};
+ghost use Rattle.reports.specs.Holds.{err_holds_of, missing_holds_of};
 ghost use Rattle.zone_plans.specs.Plans.{IsZonePlan};
-ghost use Rattle.report_holds.specs.Rows.{err_holds_of, missing_holds_of};
 
 use crate::plan::{ZonePlan, zone_plan};
 use catalogue::{Published, SourceFault};
 use holddata::Hold;
 use mcs_reader::Id;
-use report_holds::{err_holds, missing_holds};
-use reports::{err_rows, missing_rows};
+use reports::{err_holds, missing_holds};
 use std::alloc::Global;
 use supersede::Zone;
 use verdicts::Judge;
@@ -38,12 +35,11 @@ pub fn err_plan<P: Published, J: Judge<P>>(
     ensures plan { IfOk result (λ plan. Tells P.content_view source.old source.new
         (λ content. J.is_right judge.old content
         → IsZonePlan content zone.now
-        (err_holds_of (err_rows_of content zone.now received.now holds.now)) plan)) }
+        (err_holds_of content zone.now received.now holds.now) plan)) }
     ensures right { Tells P.content_view source.old source.new
         (λ content. J.is_right judge.old content → J.is_right judge.new content) }
 {
-    let rows = err_rows(alloc, source, judge, zone, received, holds)?;
-    let held = err_holds(alloc, &rows)?;
+    let held = err_holds(alloc, source, judge, zone, received, holds)?;
     zone_plan(alloc, source, judge, zone, &held)
 }
 
@@ -67,11 +63,10 @@ pub fn missing_plan<P: Published, J: Judge<P>>(
     ensures plan { IfOk result (λ plan. Tells P.content_view source.old source.new
         (λ content. J.is_right judge.old content
         → IsZonePlan content zone.now
-        (missing_holds_of (missing_rows_of content zone.now received.now patterns.now holds.now)) plan)) }
+        (missing_holds_of content zone.now received.now patterns.now holds.now) plan)) }
     ensures right { Tells P.content_view source.old source.new
         (λ content. J.is_right judge.old content → J.is_right judge.new content) }
 {
-    let rows = missing_rows(alloc, source, judge, zone, received, patterns, holds)?;
-    let held = missing_holds(alloc, &rows)?;
+    let held = missing_holds(alloc, source, judge, zone, received, patterns, holds)?;
     zone_plan(alloc, source, judge, zone, &held)
 }

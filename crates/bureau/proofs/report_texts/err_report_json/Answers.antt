@@ -5,5 +5,5 @@ use Rattle.bureau.proofs.report_texts.err_report_json.Goals as goal
 
 pub returns : goal.returns
 returns g c =
-    written_on g.J.Judge.is_right _ _ _ _ _ _ c.err_json.result g.met.P.Published.lawful c.in_ok-rows.ensures.asks c.in_ok-rows.ensures.rows c.in_ok-rows.ensures.right c.err_json.ensures.asks c.err_json.ensures.text (λ text content found is.
-    is ∙ ap (err_json_of content c.args.zone.now c.args.holds.now) (c.deref.ensures.value ∙ found))
+    written_on g.J.Judge.is_right _ _ _ _ _ _ c.err_json.result g.met.P.Published.lawful c.in_ok-helds.ensures.asks c.in_ok-helds.ensures.holds c.in_ok-helds.ensures.right c.err_json.ensures.asks c.err_json.ensures.text (λ text content found is.
+    is ∙ ap (err_json_of content c.args.zone.now) (c.deref.ensures.value ∙ found))

@@ -1,5 +1,5 @@
 use Rattle.std.proofs.Common.{◌≡◌, ◌∙◌, List, [], ℕ, Bool, sym, ap, subst}
-use Rattle.report_holds.specs.declared.holds.HoldOn.{HoldOn}
+use Rattle.zone_plans.specs.declared.holds.HoldOn.{HoldOn}
 use Rattle.supersede.specs.Reach.{has}
 use Rattle.requisites.specs.Nodes.{row}
 use Rattle.verdicts.proofs.IndexFacts.{indexed_inside}

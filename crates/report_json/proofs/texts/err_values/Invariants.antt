@@ -3,5 +3,5 @@ use Rattle.serde_json.specs.View.{view}
 use Rattle.report_json.specs.Json.{err_data}
 use Rattle.report_json.proofs.texts.err_values.Given as goal
 
-abbrev pub invariant-loop-row : goal.invariant-loop-row
-invariant-loop-row l = map view l.values.items ≡ map (err_data l.holds) (take l.row-index l.rows)
+abbrev pub invariant-loop-line : goal.invariant-loop-line
+invariant-loop-line l = map view l.values.items ≡ map err_data (take l.line-index l.lines)

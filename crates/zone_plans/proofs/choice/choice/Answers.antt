@@ -6,7 +6,7 @@ use Rattle.supersede.specs.Reach.{has}
 use Rattle.zone_plans.specs.Choices.{greatest_of, of_status, or_all, received_or_all}
 use Rattle.zone_plans.specs.Findings.{known_givers}
 use Rattle.zone_plans.specs.Graphs.{not_given}
-use Rattle.report_holds.specs.declared.holds.Resolver.{Resolver}
+use Rattle.reports.specs.declared.holds.Resolver.{Resolver}
 use Rattle.zone_plans.proofs.ChosenFacts.{among_of, is_known, top_is}
 use Rattle.zone_plans.proofs.choice.choice.Goals as goal
 

@@ -1,5 +1,5 @@
 use Rattle.std.proofs.Common.{◌≡◌, map, take}
-use Rattle.report_holds.specs.declared.holds.Resolver.{Resolver}
+use Rattle.reports.specs.declared.holds.Resolver.{Resolver}
 use Rattle.zone_plans.proofs.choice.ids_of.Given as goal
 
 abbrev pub invariant-loop-resolver : goal.invariant-loop-resolver

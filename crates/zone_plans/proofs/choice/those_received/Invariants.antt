@@ -1,5 +1,5 @@
 use Rattle.std.proofs.Common.{◌≡◌, filter, take}
-use Rattle.report_holds.specs.declared.holds.Resolver.{Resolver}
+use Rattle.reports.specs.declared.holds.Resolver.{Resolver}
 use Rattle.zone_plans.proofs.choice.those_received.Given as goal
 
 abbrev pub invariant-loop-resolver : goal.invariant-loop-resolver

@@ -5,8 +5,8 @@ use Rattle.catalogue.proofs.IdFacts.{in_order_has}
 use Rattle.catalogue.proofs.SourceFacts.{told_so}
 use Rattle.supersede.specs.Reach.{has}
 use Rattle.supersede.proofs.ReachFacts.{has_from}
-use Rattle.report_holds.specs.Holds.{HoldLists}
-use Rattle.report_holds.specs.declared.holds.Resolver.{Resolver}
+use Rattle.reports.specs.Holds.{HoldLists}
+use Rattle.reports.specs.declared.holds.Resolver.{Resolver}
 use Rattle.zone_plans.specs.Findings.{known_givers}
 use Rattle.zone_plans.specs.Graphs.{lists_of}
 use Rattle.zone_plans.specs.Plans.{resolvers_named}

@@ -2,7 +2,7 @@ use Rattle.std.proofs.Common.{◌≡◌, List, map, take}
 use Rattle.std.specs.List.{Contains}
 use Rattle.zone_lists.specs.declared.zones.ZoneRow.{ZoneRow}
 use Rattle.catalogue.specs.Content.{Content}
-use Rattle.report_holds.specs.Holds.{HoldLists}
+use Rattle.reports.specs.Holds.{HoldLists}
 use Rattle.zone_plans.specs.Graphs.{AreKnown, MayPlace}
 use Rattle.zone_plans.specs.Plans.{placed}
 use Rattle.zone_plans.proofs.placing.placed_by.Given as goal

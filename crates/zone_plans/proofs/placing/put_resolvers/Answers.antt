@@ -1,4 +1,4 @@
-use Rattle.report_holds.specs.declared.holds.Resolver.{Resolver}
+use Rattle.reports.specs.declared.holds.Resolver.{Resolver}
 use Rattle.zone_plans.proofs.ChoiceFacts.{put_ids_more}
 use Rattle.zone_plans.proofs.placing.put_resolvers.Goals as goal
 

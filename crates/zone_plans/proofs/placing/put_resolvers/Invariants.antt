@@ -1,6 +1,6 @@
 use Rattle.std.proofs.Common.{◌≡◌, map, take}
 use Rattle.catalogue.specs.Ids.{put_among}
-use Rattle.report_holds.specs.declared.holds.Resolver.{Resolver}
+use Rattle.reports.specs.declared.holds.Resolver.{Resolver}
 use Rattle.zone_plans.proofs.placing.put_resolvers.Given as goal
 
 abbrev pub invariant-loop-resolver : goal.invariant-loop-resolver

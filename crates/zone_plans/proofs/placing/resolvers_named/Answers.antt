@@ -1,8 +1,8 @@
 use Rattle.std.proofs.Common.{◌∙◌, List, map, ap}
 use Rattle.catalogue.specs.Ids.{put_among}
 use Rattle.reports.proofs.ResolverFacts.{named_more}
-use Rattle.report_holds.specs.Holds.{HoldLists}
-use Rattle.report_holds.specs.declared.holds.Resolver.{Resolver}
+use Rattle.reports.specs.Holds.{HoldLists}
+use Rattle.reports.specs.declared.holds.Resolver.{Resolver}
 use Rattle.zone_plans.proofs.placing.resolvers_named.Goals as goal
 
 pub loop-hold-preserved : goal.loop-hold-preserved

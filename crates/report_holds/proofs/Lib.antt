@@ -1,2 +1,0 @@
-pub mod HoldFacts
-pub mod ToldFacts
