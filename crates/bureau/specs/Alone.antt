@@ -8,7 +8,7 @@ use Rattle.bureau.specs.Outcome.{no_room}
 use Rattle.bureau.specs.Joint.{CallBy}
 use Rattle.bureau.specs.Own.{Asked, Opening, own_answer}
 
--- what the publisher and one caller find in the tables, cut from all others
+-- the part of the tables that the publisher and one caller find, without anything of all others
 abbrev pub opening_of : Caller → Tables → Opening
 opening_of Publisher tables = record {
   content = tables.content;
@@ -36,20 +36,19 @@ is_own viewer call_by = (is_caller call_by.caller Publisher || is_caller call_by
 abbrev pub asked_in : CallBy → Asked
 asked_in call_by = record { caller = call_by.caller; call = call_by.call }
 
--- of the calls before one, those by the publisher or this caller, without those answered 503, the latest first
+-- the calls before one by the publisher or this caller, without those answered 503, the latest first
 abbrev pub own_history : Caller → List CallBy → List Asked
 own_history viewer before = map asked_in (filter (is_own viewer) (reverse before))
 
--- At every point of a run, a call by this caller is answered 503, or as it is where only the caller's own
--- history came.
+-- At every point of a run, a call by this caller is answered 503, or as it is if only the caller's own history came.
 abbrev pub IsAlone : Caller → Opening → List CallBy → Type 0
 IsAlone viewer opening calls =
     (before : List CallBy) (call_by : CallBy) (after : List CallBy) →
     calls ≡ before ++ call_by ∷ after → call_by.caller ≡ viewer →
     (call_by.answer ≡ no_room) ⊎ (call_by.answer ≡ own_answer opening (own_history viewer before) viewer call_by.call)
 
--- Two runs: where a caller asks the same in both, after the same own history, it is answered the same in both,
--- unless one answer is 503.
+-- Two runs: if a caller asks the same in both, after the same own history, it is answered the same in both, unless one
+-- answer is 503.
 abbrev pub AreAnsweredAlike : Caller → List CallBy → List CallBy → Type 0
 AreAnsweredAlike viewer calls others =
     (before : List CallBy) (call_by : CallBy) (after : List CallBy) (before2 : List CallBy) (call_by2 : CallBy) (after2 : List CallBy) →

@@ -1,4 +1,4 @@
--- How the bureau is looked at, and what a call leaves of it, whatever its store and its judge are.
+-- How contracts look at the bureau, and what a call leaves of it, whatever its store and its judge are.
 use Rattle.std.specs.Prelude.{◌≡◌, ◌⊎◌, List, [], ◌∷◌, All, refl}
 use Rattle.std.proofs.Common.{◌∙◌, arith, subst, sym}
 use Rattle.catalogue.specs.Content.{Content}
@@ -16,7 +16,7 @@ use Rattle.bureau.specs.Runs.{IsLawfulRun}
 use Rattle.bureau.specs.declared.call.Call as declared
 use Rattle.bureau.specs.declared.reply.Reply.{Reply}
 
--- The bureau holds the tables of its store, where its judge is right for what is published in them.
+-- The bureau holds the tables of its store, if its judge is right for the published content in them.
 abbrev pub bureau_view : {Store Judge : Type 0} → View Store Tables → (Judge → Content → Type 0) → View (Parts Store Judge) Tables
 bureau_view view is_right = record {
   stands = λ bureau this. view.stands bureau.store this × is_right bureau.judge this.content;
@@ -61,7 +61,7 @@ bureau_lawful view is_right lawful = record {
   one = λ bureau is_open this other first second. lawful.one bureau.store is_open this other first.0 second.0;
 }
 
--- A call is answered: where one of the callers asks, it is a step of the bureau that all callers share.
+-- A call is answered: if one of the callers asks, it is a step of the bureau that all callers share.
 pub record IsAnswered {Desk : Type 0} (view : View Desk Tables) (old new : Desk) (call_by : CallBy) : Type 0 where
   pub goes : Goes view old new
   pub closed : IsOpen view new ⊎ IsToldOfNoTables call_by
@@ -77,7 +77,7 @@ calls_of (asked ∷ calls) (reply ∷ replies) = record { caller = asked.0; call
 abbrev pub AreAmong : List CallerRow → List (Caller × declared.Call) → Type 0
 AreAmong rows calls = All (λ asked. IsAmong rows asked.0) calls
 
--- Calls are answered, one after the other: where each is by one of the callers, they are a lawful run of the bureau.
+-- Calls are answered, one after the other: if each is by one of the callers, they are a lawful run of the bureau.
 abbrev pub AreAnswered : {Desk : Type 0} → View Desk Tables → Desk → Desk → List (Caller × declared.Call) → List Reply → Type 0
 AreAnswered view old new calls replies =
     Tells view old new (λ this. AreAmong this.callers calls → (next : Tables) × IsLawfulRun view old new this (calls_of calls replies) next)

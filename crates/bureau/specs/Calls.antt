@@ -1,4 +1,4 @@
--- A call of the code as the call that it is.
+-- A call of the code as that of the definitions.
 use Rattle.questions.specs.declared.report.Report.TheVariants as report
 use Rattle.bureau.specs.Call as spec
 use Rattle.bureau.specs.declared.call.Call.{Call}

@@ -39,13 +39,13 @@ Stays caller callers [] = Unit {0}
 Stays caller callers (Called call_by ∷ stages) = Stays caller callers stages
 Stays caller callers (Callers rows ∷ stages) = IsInBoth caller callers rows × Stays caller rows stages
 
--- To a caller who stays it is as if nothing had happened to the callers: it is answered as where only its own calls and the
--- publisher's came, who stays too.
+-- For a caller who stays it is as if nothing had happened to the callers: it is answered as if only its own calls and those
+-- of the publisher, who stays too, came.
 abbrev pub IsAloneWhereItStays : Tables → List Stage → Type 0
 IsAloneWhereItStays opening stages = (viewer : Caller) → Stays Publisher opening.callers stages → Stays viewer opening.callers stages
     → IsAlone viewer (opening_of viewer opening) (calls_in stages)
 
--- what the publisher and a client find that has sent nothing
+-- the part of the tables that the publisher and a client find that has sent nothing
 abbrev pub opening_of_newcomer : Tables → Opening
 opening_of_newcomer tables = record {
   content = tables.content;

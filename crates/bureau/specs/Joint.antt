@@ -13,13 +13,13 @@ pub record CallBy : Type 0 where
   pub call : Call
   pub answer : Answer
 
--- the tables after what came of a call
+-- the tables after the outcome of a call
 abbrev pub tables_left : Caller → Outcome → Tables → Tables
 tables_left caller (answered answer) old = old
 tables_left caller (accepted effect text) old = tables_after caller effect (record { number = (old.last caller).number + 1; reply = text }) old
 
--- One step: there is no room, and nothing changes; or the answer and the tables are those that come of the
--- call over the caller's view.
+-- One step: there is no room, and nothing changes; or the answer and the tables are those of the call's outcome over the
+-- caller's view.
 abbrev pub IsStep : Tables → CallBy → Tables → Type 0
 IsStep old call_by new =
     ((call_by.answer ≡ no_room) × (new ≡ old))

@@ -6,11 +6,11 @@ use Rattle.bureau.specs.Joint.{CallBy, IsStep, tables_left}
 use Rattle.bureau.specs.Outcome.{may_ask, no_room, outcome}
 use Rattle.bureau.specs.View.{view_of}
 
--- the tables with what comes of a call
+-- the tables after a call
 abbrev pub tables_with : CallBy → Tables → Tables
 tables_with call_by this = tables_left call_by.caller (outcome (view_of call_by.caller this) call_by.call) this
 
--- It is told that there is no room, or that the caller may not ask this: neither is said from the tables.
+-- The answer is that there is no room, or that the caller may not ask this: neither comes from the tables.
 abbrev pub IsToldOfNoTables : CallBy → Type 0
 IsToldOfNoTables call_by = (call_by.answer ≡ no_room) ⊎ (may_ask call_by.caller call_by.call ≡ false)
 
@@ -25,8 +25,8 @@ module _ {Desk : Type 0} (view : View Desk Tables) where
     pub stands : view.stands new this
     pub leaves : (left : Tables) → view.may_leave new left → view.may_leave old left
 
-  -- A call takes a desk from some tables to others. Where it told anything from the tables, it is open after it. A stop
-  -- may leave what it might have left before, or, of a desk that was open, the tables with what comes of this call.
+  -- A call takes a desk from some tables to others. If it told anything from the tables, the desk is open after it. A stop
+  -- may leave what it might have left before; or, if the desk was open, the tables after this call.
   pub record IsKeptStep (old new : Desk) (this : Tables) (call_by : CallBy) (next : Tables) : Type 0 where
     pub goes : Goes view old new
     pub step : IsStep this call_by next
@@ -47,14 +47,14 @@ abbrev pub TellNothing : List CallBy → Type 0
 TellNothing [] = Unit {0}
 TellNothing (call_by ∷ calls) = IsToldOfNoTables call_by × TellNothing calls
 
--- the tables with the change of one of these calls, which was told that there is no room, and after which nothing is told
--- from the tables
+-- the tables with the change of one of these calls, to which the answer was that there is no room, and after which nothing
+-- is told from the tables
 abbrev pub IsWithOneRefused : Tables → List CallBy → Tables → Type 0
 IsWithOneRefused this [] left = ⊥
 IsWithOneRefused this (call_by ∷ calls) left =
     ((call_by.answer ≡ no_room) × TellNothing calls × (left ≡ tables_with call_by this)) ⊎ IsWithOneRefused this calls left
 
--- What a stop may leave after a run: the tables after it; or, of a desk that is closed, those with the change of a call that
+-- What a stop may leave after a run: the tables after it; or, if the desk is closed, those with the change of a call that
 -- was told 503, after which nothing was told from the tables.
 abbrev pub MayBeLeft : {Desk : Type 0} → View Desk Tables → Desk → List CallBy → Tables → Tables → Type 0
 MayBeLeft view new calls next left = (left ≡ next) ⊎ ((IsOpen view new → ⊥) × IsWithOneRefused next calls left)

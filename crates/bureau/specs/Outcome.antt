@@ -1,4 +1,4 @@
--- What comes of a call, as far as one caller's view decides it.
+-- The outcome of a call, as far as one caller's view decides it.
 use Rattle.std.specs.Prelude.{ℕ, ◌+◌, ◌==◌, ◌&&◌, ◌++◌, Bool, true, false, List, [], Option, Some, None, Result, Ok, Err, codes, decimal, is_some, length, nat_le, nat_lt, if◌then◌else◌}
 use Rattle.questions.specs.Wanted.{form_of}
 use Rattle.questions.specs.declared.wanted.Form.{Form}
@@ -66,7 +66,7 @@ refused line = answered (plain 422 line)
 abbrev pub most_zones : ℕ
 most_zones = 64
 
--- who may ask what
+-- which caller may ask what
 abbrev pub may_ask : Caller → Call → Bool
 may_ask Publisher (publish number body) = true
 may_ask Publisher (counts form) = true
@@ -88,12 +88,12 @@ in_turn last None change = answered bad_number
 in_turn last (Some number) change =
     if nat_lt 0 number && nat_le number greatest_number then by_number number last change else answered bad_number
 
--- what asks for a zone that isn't there finds nothing
+-- a call about a zone that isn't there finds nothing
 abbrev pub of_zone : Option ZoneTable → (ZoneTable → Outcome) → Outcome
 of_zone None answer = answered not_found
 of_zone (Some table) answer = answer table
 
--- a body says something, or is refused for its first fault
+-- a body has a meaning, or is refused for its first fault
 abbrev pub said : {A : Type 0} → Result A (List ℕ) → (A → Outcome) → Outcome
 said (Err line) answer = refused line
 said (Ok what) answer = answer what
@@ -106,8 +106,8 @@ abbrev pub put_of_zone : Zones → List ℕ → List ℕ → Outcome
 put_of_zone zones name body = said (rows_in body) (λ rows.
     if has_room name zones then accepted (zone_put name rows) (zone_put_text name rows) else refused (codes "FAULT 61\n"))
 
--- What comes of a call that the caller may ask. First a change's number counts, then whether the zone is
--- there, then the body.
+-- The outcome of a call that the caller may ask. First a change's number counts, then whether the zone is there, then the
+-- body.
 abbrev pub outcome_allowed : View → Call → Outcome
 outcome_allowed view (publish number body) = in_turn view.last number
     (said (changes_in body) (λ changes. accepted (publication changes) (publication_text changes)))
@@ -131,7 +131,7 @@ outcome_allowed view (counts form) = answered (in_form form (counts_text form vi
 abbrev pub outcome : View → Call → Outcome
 outcome view call = if may_ask view.caller call then outcome_allowed view call else answered forbidden
 
--- what the caller is told
+-- the answer to the caller
 abbrev pub answer_of : Outcome → Answer
 answer_of (answered answer) = answer
 answer_of (accepted effect text) = plain 200 text

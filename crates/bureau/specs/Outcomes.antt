@@ -1,5 +1,5 @@
--- No part of what is promised: private contracts cite it. An outcome of the code as the outcome that it is, and an effect as the
--- effect that it is. `Outcome` says what comes of a call.
+-- No part of what is promised: private contracts cite it. An outcome of the code as that of the definitions, and an effect
+-- so too. `Outcome` defines the outcome of a call.
 use Rattle.std.specs.Prelude.{◌≡◌, ◌≤◌, ◌+◌, ℕ, List, Option, Result, Ok, Err, is_some, length, true}
 use Rattle.std.specs.Cmp.Lexicographic.{slice_cmp}
 use Rattle.std.specs.List.Sorted.{IsStrictlySortedBy}
@@ -28,7 +28,7 @@ use Rattle.bureau.specs.declared.outcome.Effect.TheVariants.{Publication, ZonePu
 use Rattle.bureau.specs.declared.outcome.AcceptedChange.{AcceptedChange}
 use Rattle.bureau.specs.declared.reply.Reply.{Reply}
 
--- what an accepted change does to the tables
+-- the effect of an accepted change on the tables
 abbrev pub effect_as : Effect → store.Effect
 effect_as (Publication changes touched) = publication changes.items
 effect_as (ZonePut client zone rows) = zone_put zone rows.items
@@ -36,7 +36,7 @@ effect_as (ZoneDropped client zone) = zone_dropped zone
 effect_as (ReceivedPut client ids) = received_put ids.items
 effect_as (PatternsPut client zone patterns) = patterns_put zone patterns.items
 
--- whose change has this effect
+-- the caller whose change has this effect
 abbrev pub maker_of : Effect → Caller
 maker_of (Publication changes touched) = Publisher
 maker_of (ZonePut client zone rows) = Client client
@@ -48,7 +48,7 @@ abbrev pub outcome_as : Outcome → spec.Outcome
 outcome_as (Answered reply) = answered (reply_as reply)
 outcome_as (Accepted change) = accepted (effect_as change.effect) change.reply.items
 
--- what is put ascends, and a client is none that has the publisher's name
+-- the lists that are put ascend, and no client has the publisher's name
 abbrev pub IsFitEffect : Effect → Type 0
 IsFitEffect (Publication changes touched) = Unit {0}
 IsFitEffect (ZonePut client zone rows) = IsProper (Client client) × RowsAscend rows.items
@@ -63,11 +63,11 @@ abbrev pub IsFit : Outcome → Type 0
 IsFit (Answered reply) = Unit {0}
 IsFit (Accepted change) = IsFitChange change
 
--- what is asked of the store
+-- the change of the store
 abbrev pub update_of : AcceptedChange → Update
 update_of change = update (maker_of change.effect) (effect_as change.effect) change.number change.reply.items
 
--- what a publication is said to touch is all that it touches
+-- a publication touches no more than it is said to touch
 abbrev pub TouchesNoMore : Effect → Content → Type 0
 TouchesNoMore (Publication changes touched) content = AgreeOutside touched.items content (after content changes.items)
 TouchesNoMore (ZonePut client zone rows) content = Unit {0}
@@ -104,16 +104,16 @@ abbrev pub IsInTurnAt : LastChange → Option ZoneTable → Option ℕ → Resul
 IsInTurnAt last found number (Ok next) = IsInTurn last number (Ok next) × (is_some found ≡ true)
 IsInTurnAt last found number (Err reply) = (change : ZoneTable → spec.Outcome) → in_turn last number (of_zone found change) ≡ answered (reply_as reply)
 
--- a zone as it is counted: its name, and how many SYSMODs its list has
+-- a zone as it is counted: its name, and the number of its rows
 abbrev pub counted_as : List ℕ × ZoneTable → List ℕ × ℕ
 counted_as zone = (zone.0, length zone.1.rows)
 
--- where there is a reply, the outcome is that reply alone
+-- if there is a reply, the outcome is that reply alone
 abbrev pub IsReplyAlone : {E : Type 0} → Result Reply E → Result Outcome E → Type 0
 IsReplyAlone (Ok reply) result = result ≡ Ok (Answered reply)
 IsReplyAlone (Err fault) result = result ≡ Err fault
 
--- the answer to a call: where it isn't made, there is no room
+-- the answer to a call: if it isn't made, there is no room
 abbrev pub answer_in : {E : Type 0} → Result Reply E → Answer
 answer_in (Ok reply) = reply_as reply
 answer_in (Err fault) = no_room

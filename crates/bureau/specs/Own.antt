@@ -1,5 +1,5 @@
--- What a caller is told by a bureau that received only that caller's calls and the publisher's. No tables
--- change here: what stands is what the last accepted call that names it put.
+-- The answers to a caller by a bureau that received only that caller's calls and the publisher's. No tables change here: the
+-- last accepted call that names an entry put it.
 use Rattle.std.specs.Prelude.{◌+◌, ◌++◌, ℕ, List, [], ◌∷◌, Option, Some, None, filter, length, unwrap_or, if◌then◌else◌}
 use Rattle.std.specs.BTreeSet.{insert_key}
 use Rattle.std.specs.List.{filter_map}
@@ -32,7 +32,7 @@ pub record Asked : Type 0 where
   pub caller : Caller
   pub call : Call
 
--- an accepted change: who made it, what it does, and the reply that is kept for it
+-- an accepted change: who made it, its effect, and the reply that is kept for it
 pub record Accepted : Type 0 where
   pub caller : Caller
   pub effect : Effect
@@ -68,13 +68,13 @@ abbrev pub publications : List Accepted → List Change
 publications [] = []
 publications (change ∷ earlier) = publications earlier ++ published_in change.effect
 
--- what a change says of a zone's rows: nothing; or that the zone has these; or, dropped, that it has none
+-- the word of a change on a zone's rows: none; or that the zone has these; or, dropped, that it has none
 abbrev pub says_rows : List ℕ → Effect → Option (Option (List ZoneRow))
 says_rows zone (zone_put name rows) = if bytes_eq zone name then Some (Some rows) else None
 says_rows zone (zone_dropped name) = if bytes_eq zone name then Some None else None
 says_rows zone _ = None
 
--- the same of its patterns, of which a drop leaves none
+-- the same on its patterns, of which a drop leaves none
 abbrev pub says_patterns : List ℕ → Effect → Option (List (List ℕ))
 says_patterns zone (patterns_put name patterns) = if bytes_eq zone name then Some patterns else None
 says_patterns zone (zone_dropped name) = if bytes_eq zone name then Some [] else None
@@ -84,7 +84,7 @@ abbrev pub says_received : Effect → Option (List (List ℕ))
 says_received (received_put ids) = Some ids
 says_received _ = None
 
--- what the last change that says something says, or else what was there at the opening
+-- the word of the last change that has one, or else what was there at the opening
 abbrev pub last_said : {A : Type 0} → (Effect → Option A) → A → List Accepted → A
 last_said says first [] = first
 last_said says first (change ∷ earlier) = unwrap_or (says change.effect) (last_said says first earlier)
@@ -103,7 +103,7 @@ abbrev pub patterns_left : Opening → List Accepted → List ℕ → List (List
 patterns_left opening changes name =
     last_said (says_patterns name) (patterns_of (zone_named name opening.zones)) changes
 
--- the zone of a name, where it has rows
+-- the zone of a name, if it has rows
 abbrev pub zone_left : Opening → List Accepted → List ℕ → Option ZoneTable
 zone_left opening changes name =
     option_map (λ rows. record { rows = rows; patterns = patterns_left opening changes name }) (rows_left opening changes name)
@@ -133,7 +133,7 @@ zones_left opening changes = found (zone_left opening changes) (names_known open
 
 -- ---- the own answer
 
--- what a caller sees after the accepted changes
+-- the tables as a caller sees them after the accepted changes
 abbrev pub own_view : Opening → List Accepted → Caller → View
 own_view opening changes Publisher = record {
   caller = Publisher;
@@ -155,13 +155,13 @@ abbrev pub change_of : Caller → Outcome → List Accepted
 change_of caller (answered answer) = []
 change_of caller (accepted effect text) = record { caller = caller; effect = effect; reply = text } ∷ []
 
--- those calls of a history, the latest first, that are accepted where only these calls came
+-- the calls of a history, the latest first, that are accepted if only these calls came
 abbrev pub accepted_in : Opening → List Asked → List Accepted
 accepted_in opening [] = []
 accepted_in opening (asked ∷ earlier) =
     change_of asked.caller (outcome (own_view opening (accepted_in opening earlier) asked.caller) asked.call)
     ++ accepted_in opening earlier
 
--- what the caller is told after this history
+-- the answer to the caller after this history
 abbrev pub own_answer : Opening → List Asked → Caller → Call → Answer
 own_answer opening history caller call = answer_of (outcome (own_view opening (accepted_in opening history) caller) call)

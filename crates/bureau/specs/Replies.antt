@@ -1,4 +1,4 @@
--- A reply as the answer that it is.
+-- A reply as that of the definitions.
 use Rattle.bureau.specs.Outcome.{Answer}
 use Rattle.bureau.specs.declared.reply.Reply.{Reply}
 

@@ -1,4 +1,4 @@
--- What holds of every run of the bureau.
+-- Laws of every run of the bureau.
 use Rattle.std.specs.Prelude.{◌≡◌, List}
 use Rattle.catalogue.specs.View.{IsOpen, View}
 use Rattle.bureau_store.specs.Tables.{AreInOrder, Tables}

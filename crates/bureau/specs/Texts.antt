@@ -42,14 +42,14 @@ is_release (Whole sysmod) = false
 is_release (OfHold (Put hold)) = false
 is_release (OfHold (Release key)) = true
 
--- what is told of a publication: how many changes of each sort its statements made
+-- the line for a publication: the number of changes of each sort that its statements made
 abbrev pub publication_text : List Change → List ℕ
 publication_text changes =
     codes "ACCEPTED SYSMODS " ++ decimal (count_by is_record changes)
     ++ codes " HOLDS " ++ decimal (count_by is_put changes)
     ++ codes " RELEASES " ++ decimal (count_by is_release changes) ++ codes "\n"
 
--- how much is published, in a form
+-- the counts of what is published, in a form
 abbrev pub counts_told : Form → ℕ → ℕ → List ℕ
 counts_told Text sysmods holds = codes "PUBLISHED SYSMODS " ++ decimal sysmods ++ codes " HOLDS " ++ decimal holds ++ codes "\n"
 counts_told Json sysmods holds = published_json_of sysmods holds
@@ -69,11 +69,11 @@ patterns_text zone patterns = codes "ZONE " ++ text_of zone ++ codes " PATTERNS 
 abbrev pub received_text : List (List ℕ) → List ℕ
 received_text ids = codes "RECEIVED ROWS " ++ decimal (length ids) ++ codes "\n"
 
--- a client's zones, each with how many SYSMODs its list has
+-- a client's zones, each with the number of its rows
 abbrev pub zone_columns : List (ℕ × List ℕ)
 zone_columns = (1, codes "ZONE") ∷ (10, codes "SYSMODS") ∷ []
 
--- what stands in the columns for a zone and how many SYSMODs its list has
+-- the fields of a zone and the number of its rows
 abbrev pub zone_fields : List ℕ × ℕ → List (List ℕ)
 zone_fields zone = text_of zone.0 ∷ decimal zone.1 ∷ []
 
@@ -102,7 +102,7 @@ abbrev pub missing_json_from : Content → List ℕ → List ZoneRow → List (L
 missing_json_from content zone rows received patterns holds =
     missing_json_of content zone patterns (missing_holds_of content rows received patterns holds)
 
--- what is wanted of a report
+-- the text of a report, or of the plan for it
 abbrev pub text_from : Report → Wanted → Content → List ℕ → List ZoneRow → List (List ℕ) → List (List ℕ) → List Hold → List ℕ
 text_from ErrSysmods (Rows Text) content zone rows received patterns holds = err_report_from content zone rows received holds
 text_from ErrSysmods (Rows Json) content zone rows received patterns holds = err_json_from content zone rows received holds
@@ -115,12 +115,12 @@ abbrev pub kind_of : Report → Kind
 kind_of ErrSysmods = ErrorHold
 kind_of MissingFix = FixcatHold
 
--- the patterns of a zone, of a report that has some
+-- the patterns of a zone, if the report has some
 abbrev pub patterns_for : Report → Option ZoneTable → List (List ℕ)
 patterns_for ErrSysmods found = []
 patterns_for MissingFix found = patterns_of found
 
--- what is wanted of a report on a zone
+-- the text of a report on a zone, or of the plan for it
 abbrev pub report_text : Report → Wanted → Content → List ℕ → ZoneTable → List (List ℕ) → List ℕ
 report_text report wanted content zone table received =
     text_from report wanted content zone table.rows received (patterns_for report (Some table)) (held_in content table.rows (kind_of report))

@@ -1,11 +1,11 @@
--- What one caller sees of the tables.
+-- The tables as one caller sees them.
 use Rattle.std.specs.Prelude.{ℕ, List, []}
 use Rattle.catalogue.specs.Content.{Content}
 use Rattle.bureau_store.specs.Tables.{LastChange, Tables, Zones}
 use Rattle.bureau_store.specs.declared.caller.Caller.{Caller}
 use Rattle.bureau_store.specs.declared.caller.Caller.TheVariants.{Publisher, Client}
 
--- what is published, the caller's last change, and of a client its zones and its received list
+-- the published content, the caller's last change, and a client's zones and received list
 pub record View : Type 0 where
   pub caller : Caller
   pub content : Content

@@ -25,7 +25,7 @@ use supersede::Zone;
 use verdicts::Judge;
 use zone_lists::Pattern;
 
-/// How much is published.
+/// Counts what is published.
 pub(crate) fn counts<S: Store>(alloc: Global, store: &mut S, form: Form) -> Result<Reply, NoRoom>
     ensures reads { HasRead S.tables_view store.old store.new result }
     ensures reply { IfOk result (λ reply. Tells S.tables_view store.old store.new
@@ -36,7 +36,7 @@ pub(crate) fn counts<S: Store>(alloc: Global, store: &mut S, form: Form) -> Resu
     Ok(reply_in(form, text))
 }
 
-/// Which zones a client has.
+/// Lists the zones of a client.
 pub(crate) fn list_zones<S: Store>(
     alloc: Global,
     store: &mut S,
@@ -53,7 +53,7 @@ pub(crate) fn list_zones<S: Store>(
     Ok(reply_in(form, text))
 }
 
-/// What is wanted of a report on a zone.
+/// Answers with the report on a zone, or the plan for it.
 pub(crate) fn report_answer<S: Store, J: Judge<S>>(
     alloc: Global,
     store: &mut S,
@@ -85,7 +85,7 @@ pub(crate) fn report_answer<S: Store, J: Judge<S>>(
     Ok(reply_in(wanted.form(), text))
 }
 
-// The patterns of a zone, of a report that has some.
+// The patterns of a zone, if the report has some.
 fn patterns_for<S: Store>(
     alloc: Global,
     store: &mut S,
@@ -105,7 +105,7 @@ fn patterns_for<S: Store>(
     }
 }
 
-/// The verdict on a SYSMOD in a zone.
+/// Answers with the verdict on a SYSMOD in a zone.
 pub(crate) fn chain<S: Store, J: Judge<S>>(
     alloc: Global,
     store: &mut S,

@@ -1,4 +1,4 @@
-//! The bureau that all callers share: a store and a judge, and what each call of it tells.
+//! The bureau that all callers share: a store and a judge, and the answer to each call.
 ghost use Rattle.std.specs.Prelude.{◌≡◌, length, All, IfOk, IfSome, OnErr};
 ghost use Rattle.catalogue.specs.View.{Goes, Tells};
 ghost use Rattle.bureau_store.specs.Caller.{IsProper, caller_with};
@@ -34,8 +34,8 @@ impl<S, J> Model for Bureau<S, J> {
 }
 
 impl<S: Store, J: Judge<S>> Bureau<S, J> {
-    /// The bureau over a store and a judge. What is told of its tables is told where the judge is right for what is
-    /// published there. It takes no memory.
+    /// The bureau over a store and a judge. What a call tells of its tables is promised if the judge is right for the
+    /// published content.
     pub fn new(alloc: Global, store: S, judge: J) -> Self
         ensures { result ≡ record { store = store; judge = judge } }
     {
@@ -60,7 +60,7 @@ impl<S: Store, J: Judge<S>> Bureau<S, J> {
         &self.judge
     }
 
-    /// Gives the store and the judge back.
+    /// Returns the store and the judge.
     pub fn into_parts(self) -> (S, J)
         ensures store { result.0 ≡ self.store }
         ensures judge { result.1 ≡ self.judge }
@@ -68,11 +68,11 @@ impl<S: Store, J: Judge<S>> Bureau<S, J> {
         (self.store, self.judge)
     }
 
-    /// The caller whose token this is, or `None` where no caller has it.
+    /// Finds the caller whose token this is, or `None` if no caller has it.
     ///
     /// # Errors
     ///
-    /// `Memory` where memory ran out, `Device` where the store has failed, now or before. Nothing has changed.
+    /// `Memory` if memory ran out, `Device` if the store has failed, now or before. Nothing has changed.
     pub fn caller_of(&mut self, token: &[u8]) -> Result<Option<Caller>, StoreFault>
         ensures reads { Reads (bureau_view S.tables_view J.is_right) self.old self.new result }
         ensures caller { IfOk result (λ found. Tells (bureau_view S.tables_view J.is_right) self.old self.new
@@ -82,10 +82,10 @@ impl<S: Store, J: Judge<S>> Bureau<S, J> {
         self.store.caller_of(token)
     }
 
-    /// What is answered to a call by a caller: see the definitions of the joint bureau.
+    /// Answers a call by a caller, as the definitions of the joint bureau say.
     ///
-    /// Where there is no room for the call, the answer is 503 and nothing has changed. Where the store's device failed
-    /// in the call, the answer is 503 too, and what the store holds is found when it is opened again. From then on
+    /// If there is no room for the call, the answer is 503 and nothing has changed. If the store's device failed in
+    /// the call, the answer is 503 too. Then what the store holds is found when it is opened again, and from then on
     /// nothing is answered from the tables.
     pub fn answer(&mut self, caller: &Caller, call: &Call<'_>) -> Reply
         requires { IsProper caller.now }
@@ -98,13 +98,12 @@ impl<S: Store, J: Judge<S>> Bureau<S, J> {
         }
     }
 
-    /// What is answered to calls, one after the other. The room for the list of answers is taken before the first
-    /// call.
+    /// Answers calls, one after the other. It makes the room for the list of answers before the first call.
     ///
-    /// `run` says that the calls with their answers are a run of the bureau, and what holds of every such run: it is
-    /// kept, a stop loses nothing that was acknowledged, each caller is answered as by a bureau that received the
-    /// publisher's calls and that caller's alone (see [`isolation`](crate::isolation)), and a change acts once (see
-    /// [`repeats`](crate::repeats)).
+    /// `run` says that the calls with their answers are a run of the bureau, and what is true of every such run. What
+    /// is told as accepted is kept. A stop loses nothing that was acknowledged. Each caller is answered as by a bureau
+    /// that received the publisher's calls and that caller's alone (see [`isolation`](crate::isolation)). A change
+    /// acts once (see [`repeats`](crate::repeats)).
     ///
     /// # Errors
     ///
@@ -126,7 +125,7 @@ impl<S: Store, J: Judge<S>> Bureau<S, J> {
     }
 }
 
-// The answer to a call. A change is made when its answer stands.
+// The answer to a call. A change is made once its answer is.
 fn reply_to<S: Store, J: Judge<S>>(
     alloc: Global,
     store: &mut S,

@@ -4,7 +4,7 @@ use questions::{Form, Wanted};
 
 /// A call: what a caller asks of the bureau.
 ///
-/// A change has a number, or none where a request names none that reads; its body is the bytes that came
+/// A change has a number, or none if a request names none that reads. Its body is the bytes that came
 /// with it.
 #[derive(Clone, Copy, Debug)]
 pub enum Call<'a> {

@@ -1,4 +1,4 @@
-//! What comes of a change: its number counts first, then whether the zone is there, then its body.
+//! The outcomes of changes: the number counts first, then whether the zone is there, then the body.
 ghost use Rattle.std.specs.Prelude.{◌≡◌, ◌≤◌, IfOk};
 ghost use Rattle.catalogue.specs.View.{Tells};
 ghost use Rattle.bureau_store.specs.Caller.{IsProper};
@@ -30,7 +30,7 @@ use zone_lists::{patterns, received_rows, zone_rows};
 /// The most zones of a client.
 const MOST_ZONES: u64 = 64;
 
-/// What comes of a publication.
+/// The outcome of a publication.
 pub(crate) fn publish<S: Store>(
     alloc: Global,
     store: &mut S,
@@ -59,7 +59,7 @@ pub(crate) fn publish<S: Store>(
     }))
 }
 
-/// What comes of a zone that is put.
+/// The outcome of a zone that is put.
 pub(crate) fn put_zone<S: Store>(
     alloc: Global,
     store: &mut S,
@@ -97,7 +97,7 @@ pub(crate) fn put_zone<S: Store>(
     }))
 }
 
-/// What comes of a zone that is dropped.
+/// The outcome of a zone that is dropped.
 pub(crate) fn drop_zone<S: Store>(
     alloc: Global,
     store: &mut S,
@@ -126,7 +126,7 @@ pub(crate) fn drop_zone<S: Store>(
     }))
 }
 
-/// What comes of a list of received SYSMODs that is put.
+/// The outcome of a list of received SYSMODs that is put.
 pub(crate) fn put_received<S: Store>(
     alloc: Global,
     store: &mut S,
@@ -159,7 +159,7 @@ pub(crate) fn put_received<S: Store>(
     }))
 }
 
-/// What comes of patterns that are put to a zone.
+/// The outcome of patterns that are put to a zone.
 pub(crate) fn put_patterns<S: Store>(
     alloc: Global,
     store: &mut S,

@@ -8,8 +8,8 @@ use crate::outcome::{AcceptedChange, Effect};
 use bureau_store::{Store, StoreFault};
 use verdicts::Judge;
 
-/// Makes the change. What the judge keeps of the SYSMODs that a publication touches is forgotten before, so
-/// that the judge is right whether the change is made or not.
+/// Makes the change. Before that the judge forgets what it keeps of the SYSMODs that a publication touches,
+/// so that it is right whether the change is made or not.
 pub(crate) fn commit<S: Store, J: Judge<S>>(
     store: &mut S,
     judge: &mut J,

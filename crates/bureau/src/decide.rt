@@ -1,4 +1,4 @@
-//! What comes of a call. Nothing changes here, and all memory that a change takes is taken here.
+//! The outcomes of calls. Nothing changes here, and all memory that a change takes is taken here.
 ghost use Rattle.std.specs.Prelude.{◌≡◌, ◌⊎◌, IfOk, false};
 ghost use Rattle.catalogue.specs.View.{IsOpen, Tells};
 ghost use Rattle.bureau_store.specs.Caller.{IsProper};
@@ -17,7 +17,7 @@ use questions::Report::{ErrSysmods, MissingFix};
 use std::alloc::Global;
 use verdicts::Judge;
 
-/// What comes of a call by a caller.
+/// The outcome of a call by a caller.
 pub(crate) fn decide<S: Store, J: Judge<S>>(
     alloc: Global,
     store: &mut S,
@@ -42,7 +42,7 @@ pub(crate) fn decide<S: Store, J: Judge<S>>(
     }
 }
 
-// What comes of a call by the publisher.
+// The outcome of a call by the publisher.
 fn decide_for_publisher<S: Store>(
     alloc: Global,
     store: &mut S,
@@ -62,7 +62,7 @@ fn decide_for_publisher<S: Store>(
     }
 }
 
-// What comes of a call by a client.
+// The outcome of a call by a client.
 fn decide_for_client<S: Store, J: Judge<S>>(
     alloc: Global,
     store: &mut S,
@@ -105,7 +105,7 @@ fn decide_for_client<S: Store, J: Judge<S>>(
     }
 }
 
-// A reply alone is the outcome.
+// The outcome that is a reply alone.
 fn reply_alone(reply: Result<Reply, NoRoom>) -> Result<Outcome, NoRoom>
     ensures { IsReplyAlone reply result }
 {

@@ -1,4 +1,4 @@
-//! What the form of an answer and the report decide.
+//! What depends on the report and on the form of an answer.
 ghost use Rattle.std.specs.Prelude.{◌≡◌};
 ghost use Rattle.bureau.specs.Outcome.{in_form};
 ghost use Rattle.bureau.specs.Replies.{reply_as};
@@ -18,7 +18,7 @@ pub(crate) fn kind_of(report: Report) -> Kind
     }
 }
 
-/// The reply that has a text in this form. It takes no memory.
+/// The reply that has a text in this form.
 pub(crate) fn reply_in(form: Form, text: Vec<u8>) -> Reply
     ensures { reply_as result ≡ in_form form text.items }
 {

@@ -1,4 +1,4 @@
-//! What holds of every run.
+//! Laws of every run. No code runs here.
 ghost use Rattle.std.specs.Prelude.{◌≡◌, ℕ, true, false, List};
 ghost use Rattle.bureau.specs.Alone.{AreAnsweredAlike, IsAlone, opening_of};
 ghost use Rattle.bureau.specs.Course.{IsAloneWhereItStays, IsCourse, IsInBoth, Stage, opening_of_newcomer};
@@ -12,9 +12,9 @@ ghost use Rattle.bureau_store.specs.declared.caller.CallerRow.{CallerRow};
 
 /// Isolation, a law of every run of the bureau, whatever calls of whatever callers come in whatever order.
 ///
-/// `alone`: each caller's answers, other than 503, are those of a bureau that received the publisher's calls
-/// and that caller's alone, those answered 503 left out. `alike`: so in two runs that open alike for a
-/// caller, the same call after the same own history has the same answer, unless one of the two is 503.
+/// `alone`: each caller's answers, other than 503, are those of a bureau that received the publisher's calls and
+/// that caller's alone, without those answered 503. `alike`: in two runs that open alike for a caller, the same
+/// call after the same own history has the same answer, unless one of the two is 503.
 pub fn isolation()
     ensures alone { (opening closing : Tables) (calls : List CallBy) (viewer : Caller) →
         AreInOrder opening → IsRun opening calls closing → IsAlone viewer (opening_of viewer opening) calls }
@@ -27,9 +27,9 @@ pub fn isolation()
 
 /// Isolation over several runs, between which the bureau may get other callers, whatever calls come in them.
 ///
-/// `alone`: to each caller who stays it is as if nothing had happened. Its answers, other than 503, are those of a
-/// bureau that received the publisher's calls and that caller's alone. `newcomer`: a client who is new finds what
-/// is published, and nothing of its own, whoever had its name before.
+/// `alone`: for each caller who stays it is as if nothing had happened. Its answers, other than 503, are those of
+/// a bureau that received the publisher's calls and that caller's alone. `newcomer`: a new client finds the
+/// published content, and nothing of its own, whoever had its name before.
 pub fn other_callers()
     ensures alone { (opening closing : Tables) (stages : List Stage) →
         AreInOrder opening → IsCourse opening stages closing → IsAloneWhereItStays opening stages }
@@ -42,7 +42,7 @@ pub fn other_callers()
 ///
 /// `once`: a change that was told 200 is told the same when its number comes again, until a later change of the
 /// caller's was made, and STALE from then on. `stale`: a change that was told STALE is told so from then on. A 503
-/// may come in place of each. The tables are those of the same run without what came again.
+/// may come in place of each. The tables are those of the same run without the changes that came again.
 pub fn repeats()
     ensures once { (opening closing : Tables) (calls : List CallBy) →
         IsRun opening calls closing → ActsOnce opening calls closing }

@@ -1,14 +1,14 @@
-//! The bureau: what it answers to each call, and what each caller may rely on.
+//! The bureau: its answer to each call, and what each caller may rely on.
 //!
 //! - [`Bureau`]: the bureau over a store and a judge
-//! - [`Call`]: what a caller asks
+//! - [`Call`]: a question or a change of a caller
 //! - [`isolation`]: each caller's answers are those of a bureau that no other client uses
 //! - [`repeats`]: a change acts once, however often it is sent
 //! - [`Reply`]: an answer: its status and its [`Body`]
 //!
-//! `specs/` says what the bureau is: begin with its `Outcome`, what comes of a call over what one
-//! caller sees; then `Joint`, the bureau that all share, and `Own` and `Alone`, the bureau that one caller
-//! has alone.
+//! `specs/` defines the bureau. Begin with its `Outcome`, what comes of a call over what one caller sees.
+//! Then read `Joint`, the bureau that all share, and `Own` and `Alone`, the bureau that one caller has
+//! alone.
 //!
 //! ```
 //! use bureau::{Bureau, Call};

@@ -1,4 +1,4 @@
-//! How a change's number stands to the caller's last one.
+//! A change's number beside that of the caller's last one.
 ghost use Rattle.std.specs.Prelude.{◌≡◌, ◌<◌, ◌≤◌, IfOk};
 ghost use Rattle.bureau.specs.Outcome.{Outcome, in_turn};
 ghost use Rattle.bureau.specs.Outcomes.{IsInTurn};
@@ -12,7 +12,7 @@ use std::alloc::Global;
 /// The greatest number of a change.
 const GREATEST_NUMBER: u64 = 9_223_372_036_854_775_807;
 
-/// How the number of a change stands to the number of its caller's last change.
+/// The place of a change's number in the order of its caller's changes.
 #[derive(Clone, Copy)]
 pub(crate) enum NumberOrder {
     /// It is the caller's next one.
@@ -27,7 +27,7 @@ pub(crate) enum NumberOrder {
     NoNumber,
 }
 
-/// How this number of a change stands to that of the caller's last change.
+/// Compares this number of a change with that of the caller's last change.
 pub(crate) fn order_of_number(number: Option<u64>, last: u64) -> NumberOrder
     ensures order { (kept : LastChange) (change : Outcome) →
         kept.number ≡ last → in_turn kept number change ≡ outcome_in result kept change }

@@ -6,11 +6,11 @@ use mcs_reader::Id;
 use std::alloc::AllocFailed;
 use zone_lists::{Pattern, ZoneRow};
 
-/// There is no room for a call now: memory ran out, or the store doesn't do what it is asked.
+/// There is no room for a call now: memory ran out, or the store refused.
 #[derive(Clone, Copy)]
 pub(crate) struct NoRoom;
 
-/// What comes of a call: a reply alone, or an accepted change with its reply.
+/// The outcome of a call: a reply alone, or an accepted change with its reply.
 #[derive(Drop)]
 pub(crate) enum Outcome {
     /// The reply. Nothing changes.
@@ -26,11 +26,11 @@ pub(crate) struct AcceptedChange {
     pub(crate) number: u64,
     /// The text of its reply, which is kept.
     pub(crate) reply: Vec<u8>,
-    /// What it does to the tables.
+    /// Its effect on the tables.
     pub(crate) effect: Effect,
 }
 
-/// What an accepted change does to the tables.
+/// The effect of an accepted change on the tables.
 #[derive(Drop)]
 pub(crate) enum Effect {
     /// The publisher publishes these changes, and the frames of these SYSMODs are touched.
@@ -49,7 +49,7 @@ pub(crate) enum Effect {
         client: Id,
         zone: Id,
     },
-    /// A client's list of received SYSMODs is this one.
+    /// A client's list of received SYSMODs becomes this one.
     ReceivedPut {
         client: Id,
         ids: Vec<Id>,

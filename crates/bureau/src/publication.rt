@@ -10,8 +10,8 @@ use faults::AnyFault;
 use mcs_reader::Statements;
 use std::alloc::Global;
 
-/// What the statements of a body publish. No statement is kept, and what stands after the first that publishes
-/// nothing for a fault is read too, since a fault of the text itself comes before it.
+/// The changes that the statements of a body publish. It keeps no statement. It also reads what comes after
+/// the first statement with a fault, since a fault of the text itself comes before that.
 pub(crate) fn changes_in(alloc: Global, body: &[u8]) -> Result<Vec<Change>, AnyFault>
     ensures changes { IfOk result (λ changes. Bodies.changes_in body.now ≡ Ok changes.items) }
     ensures fault { IfErr result (IsTold (Bodies.changes_in body.now)) }

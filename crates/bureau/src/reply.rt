@@ -23,7 +23,7 @@ impl Model for Body {
 }
 
 impl Body {
-    /// The body with these bytes. It takes no memory.
+    /// The body with these bytes.
     pub fn from_vec(bytes: Vec<u8>) -> Body
         ensures { result ≡ bytes.items }
     {
@@ -37,7 +37,7 @@ impl Body {
         self.bytes.as_slice()
     }
 
-    /// Gives the bytes back. It takes no memory.
+    /// Returns the bytes.
     pub fn into_vec(self) -> Vec<u8>
         ensures { result.items ≡ self }
     {
@@ -52,12 +52,12 @@ pub struct Reply {
     pub status: u16,
     /// Whether the body is JSON. Otherwise it is plain text.
     pub json: bool,
-    /// The body, which is empty where the status is 503.
+    /// The body, which is empty if the status is 503.
     pub body: Body,
 }
 
 impl Reply {
-    /// There is no room for the call now. It takes no memory.
+    /// There is no room for the call now. This reply takes no memory.
     pub fn no_room(alloc: Global) -> Reply
         ensures { reply_as result ≡ no_room }
     {
@@ -68,7 +68,7 @@ impl Reply {
         }
     }
 
-    /// What is asked for, in plain text. It takes no memory.
+    /// An answer in plain text, with status 200.
     pub(crate) fn text(text: Vec<u8>) -> Reply
         ensures { reply_as result ≡ plain 200 text.items }
     {
@@ -79,7 +79,7 @@ impl Reply {
         }
     }
 
-    /// What is asked for, as JSON. It takes no memory.
+    /// An answer as JSON, with status 200.
     pub(crate) fn json(text: Vec<u8>) -> Reply
         ensures { reply_as result ≡ as_json text.items }
     {

@@ -1,4 +1,4 @@
-//! The texts that are made from what is published, for a zone: reports, plans and verdicts.
+//! The texts that are made from the published content, for a zone: reports, plans and verdicts.
 ghost use Rattle.catalogue.specs.Ids.{Ascend};
 ghost use Rattle.bureau.specs.Reading.{TellsText};
 ghost use Rattle.bureau.specs.Texts.{chain_text_from, err_json_from, err_report_from, missing_json_from, missing_report_from, text_from};
@@ -17,7 +17,7 @@ use supersede::Zone;
 use verdicts::Judge;
 use zone_lists::Pattern;
 
-/// What is wanted of a report. The exception SYSMOD report has no patterns.
+/// The report or the plan for it. The exception SYSMOD report has no patterns.
 pub(crate) fn report_text<P: Published, J: Judge<P>>(
     alloc: Global,
     source: &mut P,
@@ -54,7 +54,7 @@ pub(crate) fn report_text<P: Published, J: Judge<P>>(
     }
 }
 
-// The report on what has since been held in error.
+// The report on installed SYSMODs that have since been held in error.
 fn err_report<P: Published, J: Judge<P>>(
     alloc: Global,
     source: &mut P,
@@ -90,7 +90,7 @@ fn err_report_json<P: Published, J: Judge<P>>(
     err_json(alloc, source, zone, &helds)
 }
 
-// The report on what is missing.
+// The report on missing fixes.
 fn missing_report<P: Published, J: Judge<P>>(
     alloc: Global,
     source: &mut P,

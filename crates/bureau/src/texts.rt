@@ -16,7 +16,7 @@ use report_json::{published_json, zones_json};
 use std::alloc::Global;
 use zone_lists::{Pattern, ZoneRow};
 
-// Where each column of the list of zones begins, and its name.
+// The column at which each field of the list of zones begins, and its name.
 const ZONE_COLUMNS: [Column; 2] = [
     Column {
         start: 1,
@@ -28,7 +28,7 @@ const ZONE_COLUMNS: [Column; 2] = [
     },
 ];
 
-/// How much is published, in a form: so many SYSMODs and so many holds.
+/// The counts of what is published, in a form: the numbers of SYSMODs and of holds.
 pub(crate) fn counts_told(
     alloc: Global,
     form: Form,
@@ -57,7 +57,7 @@ fn counts_line(alloc: Global, sysmods: u64, holds: u64) -> Result<Vec<u8>, NoMem
     Ok(text)
 }
 
-/// What is told of a publication: how many changes of each sort its statements made.
+/// The line for a publication: the number of changes of each sort that its statements made.
 pub(crate) fn publication_line(alloc: Global, changes: &[Change]) -> Result<Vec<u8>, NoMemory>
     ensures { IfOk result (λ text. text.items ≡ publication_text changes.now) }
 {
@@ -72,14 +72,14 @@ pub(crate) fn publication_line(alloc: Global, changes: &[Change]) -> Result<Vec<
     Ok(text)
 }
 
-/// What is told of a zone that was put.
+/// The line for a zone that was put.
 pub(crate) fn zone_put_line(alloc: Global, zone: &Id, rows: &[ZoneRow]) -> Result<Vec<u8>, NoMemory>
     ensures { IfOk result (λ text. text.items ≡ zone_put_text zone.now rows.now) }
 {
     zone_list_line(alloc, zone, b" ROWS ", rows.len())
 }
 
-/// What is told of a zone that was dropped.
+/// The line for a zone that was dropped.
 pub(crate) fn zone_dropped_line(alloc: Global, zone: &Id) -> Result<Vec<u8>, NoMemory>
     ensures { IfOk result (λ text. text.items ≡ zone_dropped_text zone.now) }
 {
@@ -88,7 +88,7 @@ pub(crate) fn zone_dropped_line(alloc: Global, zone: &Id) -> Result<Vec<u8>, NoM
     Ok(text)
 }
 
-/// What is told of the patterns that were put to a zone.
+/// The line for patterns that were put to a zone.
 pub(crate) fn patterns_line(
     alloc: Global,
     zone: &Id,
@@ -99,7 +99,7 @@ pub(crate) fn patterns_line(
     zone_list_line(alloc, zone, b" PATTERNS ", patterns.len())
 }
 
-/// What is told of a received list that was put.
+/// The line for a received list that was put.
 pub(crate) fn received_line(alloc: Global, ids: &[Id]) -> Result<Vec<u8>, NoMemory>
     ensures { IfOk result (λ text. text.items ≡ received_text ids.now) }
 {
@@ -110,7 +110,7 @@ pub(crate) fn received_line(alloc: Global, ids: &[Id]) -> Result<Vec<u8>, NoMemo
     Ok(text)
 }
 
-/// A client's zones with how many SYSMODs each has, in a form.
+/// A client's zones with the number of rows of each, in a form.
 pub(crate) fn zones_told(
     alloc: Global,
     form: Form,
@@ -135,7 +135,7 @@ fn zones_table(alloc: Global, zones: &[(Id, u64)]) -> Result<Vec<u8>, NoMemory>
     table.finish()
 }
 
-// What is told of a list that was put to a zone: how many entries it has.
+// The line for a list that was put to a zone: the number of its entries.
 fn zone_list_line(
     alloc: Global,
     zone: &Id,
@@ -152,7 +152,7 @@ fn zone_list_line(
     Ok(text)
 }
 
-// The beginning of what is told of a zone.
+// The beginning of a line for a zone.
 fn zone_start(alloc: Global, zone: &Id) -> Result<Vec<u8>, NoMemory>
     ensures { IfOk result (λ text. text.items ≡ codes "ZONE " ++ text_of zone.now) }
 {

@@ -16,11 +16,11 @@ const NO_MEMORY: Error = Error::SqliteFailure(ErrorCode::OutOfMemory);
 
 const CANNOT_OPEN: Error = Error::SqliteFailure(ErrorCode::CannotOpen);
 
-// How many pages of a change stand in memory before they go to the log: 32 MiB of them. A page that went there and is
-// written again stands there twice. With 2,000 pages a large publication left a log of four times the database.
+// The pages of a change that are in memory before they go to the log: 32 MiB of them. A page that went there and is
+// written again is there twice. With 2,000 pages a large publication left a log of four times the database.
 const CHANGED_PAGES: usize = 8192;
 
-/// A connection to the database in the file of this name and in its log, which are made where they aren't there.
+/// Connects to the database in the file of this name and in its log, which it makes if they aren't there.
 ///
 /// # Errors
 ///

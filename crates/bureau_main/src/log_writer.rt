@@ -6,13 +6,13 @@ use std::os::unix::fs::FileTypeExt;
 use std::os::unix::net::UnixStream;
 use std::rt::Stderr;
 
-// Standard error, by a name that follows it to what it is.
+// The name of standard error, which follows it to what it is.
 const NAME: &str = "/proc/self/fd/2";
 
-/// What the lines of a log are written to: standard error. No write raises a signal where nobody reads any more.
+/// Standard error, to which the lines of a log are written. No write raises a signal if nobody reads any more.
 #[derive(Drop)]
 pub(crate) enum LogWriter {
-    /// A file, a terminal or another device: no reader is asked for there.
+    /// A file, a terminal or another device, which needs no reader.
     Device(Stderr),
     /// A pipe, opened anew for both of its ends.
     Pipe(File),
@@ -21,8 +21,8 @@ pub(crate) enum LogWriter {
 }
 
 impl LogWriter {
-    /// Standard error as it is now. None where it is closed: what is opened next may get its descriptor, so this is
-    /// asked before any file is opened. None too where a pipe can't be opened anew.
+    /// Standard error as it is now. `None` if it is closed: the file that is opened next may get its descriptor, so
+    /// this comes before any file is opened. `None` also if a pipe can't be opened anew.
     pub(crate) fn of_stderr(rt: &HostRuntime) -> Option<LogWriter> {
         let stderr = rt.stderr();
         let Ok(copy) = stderr.as_fd().try_clone_to_owned() else {
@@ -41,11 +41,11 @@ impl LogWriter {
     }
 }
 
-// The pipe, to be written and to be read, so that it has a reader as long as it is open. Where it is full a write fails
-// at once: whoever should read may be gone.
+// Opens the pipe for writing and for reading, so that it has a reader as long as it is open. If it is full, a write
+// fails at once: its reader may be gone.
 fn pipe(rt: &HostRuntime) -> io::Result<File> {
     let pipe = OpenOptions::new().read(true).write(true).open(rt, NAME)?;
-    // The mode is that of what was opened, whatever it is called.
+    // The mode is that of the open pipe, which both handles share, so the type of this one does not matter.
     UnixStream::from(pipe.as_fd().try_clone_to_owned()?).set_nonblocking(true)?;
     Ok(pipe)
 }

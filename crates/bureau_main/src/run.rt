@@ -10,8 +10,8 @@ use std::alloc::Global;
 use std::io::{Read, Write};
 use store_runs::{Ended, Stores};
 
-/// Does what the words ask for, and copies the log of a store into its file as the last thing. Returns the exit status,
-/// and what is left of the files.
+/// Does what the words say, and copies the log of a store into its file as the last thing. Returns the exit status, and
+/// what is left of the files.
 ///
 /// It takes surroundings and streams of any kind: with the system's own types at hand the proof of these lines takes
 /// minutes.

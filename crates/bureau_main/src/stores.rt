@@ -38,7 +38,7 @@ impl Stores for StoreFiles<'_> {
                 return Err((StoreFault::Shape, Ended::Nothing));
             }
             if names_a_file(name) {
-                // Where it can't be made, the connection can't be made either, and tells why.
+                // If it can't be made, the connection can't be made either, and tells why.
                 let _made = make_private(self.rt, name);
             }
         }

@@ -1,4 +1,4 @@
-//! What the system gives a run: words, files, connections to a port, random keys and clocks.
+//! The system's words, files, connections to a port, random keys and clocks, for a run.
 use crate::log_writer::LogWriter;
 use bureau_program::Surroundings;
 use command_line::LineFault;
@@ -15,14 +15,15 @@ use std::{env, io};
 #[derive(Drop)]
 pub(crate) struct System<'a> {
     rt: &'a HostRuntime,
-    // Standard error, for a log. None where it is closed.
+    // Standard error, for a log. `None` if it is closed.
     log: Option<LogWriter>,
-    // Those of the port that is listened on.
+    // The sockets of the port on which it listens.
     sockets: Option<SocketRounds<'a, HostRuntime, LogWriter>>,
 }
 
 impl<'a> System<'a> {
-    // To be made before any file is opened: where standard error is closed, the first one gets its descriptor.
+    // Has to be called before any file is opened: if standard error is closed, the first file gets its
+    // descriptor.
     pub(crate) fn new(rt: &'a HostRuntime) -> System<'a> {
         System {
             rt,

@@ -1,4 +1,4 @@
--- What a run does: from the words of a command line to what it reads, what both streams get, and the exit status.
+-- A run: from the words of a command line to what it reads, what both streams get, and the exit status.
 use Rattle.std.specs.Prelude.{◌≡◌, ◌≢◌, ◌⊎◌, ℕ, Bool, false, [], List, map, Option, Some, Result, Ok, Err, IfSome, string_bytes}
 use Rattle.std.specs.Io.KnownBytes.{Keeps}
 use Rattle.clap.specs.Words.{fault_of}
@@ -43,8 +43,9 @@ abbrev pub IsReplay : (List ℕ → KnownFile) → List ℕ → List (List ℕ) 
 IsReplay files callers names outputs status =
     IsServed files callers names outputs status ⊎ IsEndedBy NotRead outputs status ⊎ IsEndedBy Memory outputs status
 
--- What a run may find: files by their names, the stores that were asked for before it and by its end, the ports that it asks for, each
--- with how many connections may be open at once and whether a log is kept, what ended its rounds, and the rounds before it and by its end.
+-- The facts that a run may find: files by their names; the stores that were asked for before it and by its end; the ports
+-- that it asks for, each with the most open connections and whether a log is kept; what ended its rounds, and the rounds
+-- before it and by its end.
 pub record Found : Type 1 where
   pub files : List ℕ → KnownFile
   pub asked : Asked
@@ -76,8 +77,8 @@ module _ (found : Found) (from : Image) {D : Type 0} {g : disk.Ghosts D} where
     pub goes_on : GoesOn from found.log found.log_after served.outcome ended
     pub asks : AsksOnce found.asked found.asked_after name false from (λ fault. served.outcome ≡ Some (of_store fault)) ended
 
-  -- What a line asks for is done, or what is wrong with the words is told. Standard input is read where a FILE is `-`, connections
-  -- come for `serve` alone, and a store is asked for where a STORE is named, and nowhere else.
+  -- The run does what a line says, or tells what is wrong with the words. It reads standard input only if a FILE is `-`,
+  -- gets connections only for `serve`, and asks for a store only if a STORE is named.
   abbrev pub IsAnswered : Result Line LineFault → Option (List ℕ) → Option (List ℕ) → Outputs → ℕ → Ended D g → Type 0
   IsAnswered (Ok (line.Holds file)) input rest outputs status ended =
       IsHolds found.files (string_bytes file) input rest outputs status × NobodyCame found × AsksForNone ended
@@ -109,8 +110,8 @@ IsUnderstoodAs words (Ok asked) = IsLineOf words asked
 IsUnderstoodAs words (Err (line_fault.Words text)) = (asked : Line) → IsLineOf words asked → fault_of bureau_app words ≢ []
 IsUnderstoodAs words (Err line_fault.Memory) = Unit {0}
 
--- A whole run of the program, from its words, where they are known, and its files to its streams, its status, and what is left of
--- a store's files, which held this as it began.
+-- A whole run of the program, from its words, if they are known, and its files to its streams, its status, and what is left
+-- of a store's files, which held this as it began.
 pub record IsRun (words : Option (List (List ℕ))) (found : Found) (from : Image) {D : Type 0} {g : disk.Ghosts D} (input rest : Option (List ℕ)) (outputs : Outputs) (status : ℕ) (ended : Ended D g) : Type 0 where
   pub line : Result Line LineFault
   pub understood : IfSome words (λ known. IsUnderstoodAs known line)

@@ -1,4 +1,4 @@
--- What `replay` makes of a callers file and the bytes of connections.
+-- The output of `replay`, by a callers file and the bytes of connections.
 use Rattle.std.specs.Prelude.{◌≡◌, ◌⊎◌, ℕ, IsTrue, List, Option, Some, None, true}
 use Rattle.std.specs.Io.KnownBytes.{Appends, Keeps}
 use Rattle.std.specs.List.{flat_map}
@@ -36,12 +36,12 @@ abbrev pub IsReplayCutShort : AnyFault → List ℕ → List (List ℕ) → Opti
 IsReplayCutShort fault callers connections old new =
     (fault ≡ of_program NotWritten) × ((written : List (List ℕ)) × IsReplayed callers connections written × AppendsFront old new (joined written))
 
--- it is open and has no tables, where its files returned what was written
+-- it is open and has no tables, if its files returned what was written
 abbrev pub IsNewDatabase : State → Type 0
 IsNewDatabase at = HasCleanDisk at → IsTrue at.is_open × IsEmpty at.committed
 
--- The store of a replay is refused as any call of a store may be: for want of memory or of room, or since its device failed. Or
--- memory ran out besides.
+-- The store of a replay is refused as any call of a store may be: for want of memory or of room, or since its device failed.
+-- Or memory ran out elsewhere.
 abbrev pub IsNotServed : AnyFault → Type 0
 IsNotServed fault =
     ((refused : StoreFault) × IsOfCall refused × (fault ≡ of_store refused)) ⊎ (fault ≡ of_program Memory)
@@ -51,8 +51,8 @@ IsNotServed fault =
 abbrev pub IsNotReplayed : List ℕ → AnyFault → Type 0
 IsNotReplayed callers fault = IsCallersFault callers fault ⊎ IsNotServed fault
 
--- What standard output gets: the replies of connections that were served one after the other, each caller answered as
--- if alone; a front part of them where a write failed; or nothing, where the callers file has a fault or memory ran out.
+-- Standard output gets the replies of connections that were served one after the other, each caller answered as if alone; a
+-- front part of them if a write failed; or nothing, if the callers file has a fault or memory ran out.
 abbrev pub IsReplayOutput : Option AnyFault → List ℕ → List (List ℕ) → Option (List ℕ) → Option (List ℕ) → Type 0
 IsReplayOutput None callers connections old new =
     (written : List (List ℕ)) × IsReplayed callers connections written × Appends old new (joined written)

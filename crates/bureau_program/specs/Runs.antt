@@ -57,8 +57,8 @@ AreRunsOver from (run ∷ runs) last = IsRunOver from run × AreRunsOver (left_b
 
 -- ---- what was called in them
 
--- the tables that a run found, the calls that were made, the tables after all that was acknowledged, how it ended, and which callers
--- it was to set, if any
+-- the tables that a run found, the calls that were made, the tables after all that was acknowledged, how it ended, and the
+-- callers that it was to set, if any
 pub record Run : Type 0 where
   pub before : Tables
   pub calls : List CallBy
@@ -73,7 +73,7 @@ AreCallsIn (Serves log log_after outcome left) run = (run.outcome ≡ outcome) �
 AreCallsIn (Sets rows outcome left) run = (run.calls ≡ []) × (run.outcome ≡ outcome) × (run.callers ≡ Some rows) × AreOfAFile rows
 AreCallsIn (Other left) run = (run.calls ≡ []) × (run.callers ≡ None)
 
--- so for each run
+-- it is so for each run
 abbrev pub AreRunsIn : List FileRun → List Run → Type 0
 AreRunsIn [] [] = Unit {0}
 AreRunsIn [] (run ∷ runs) = ⊥
@@ -117,9 +117,9 @@ pub record HasMade (closing : Tables) (calls : List CallBy) (next : Tables) (mad
 abbrev pub stages_of : List CallBy → List Stage
 stages_of calls = map Called calls
 
--- The calls of a run as they are found afterwards. Where it sets no callers: as they were answered; or, where the device failed, with
--- one more that was made. Where it does: with these callers after them, where it may have set them; or, unless its end tells that it
--- has, without.
+-- The calls of a run as they are found afterwards. If it sets no callers: as they were answered; or, if the device failed,
+-- with one more that was made. If it does: with these callers after them, if it may have set them; or without, unless its
+-- end tells that it has.
 abbrev pub AreFoundBy : Option (List CallerRow) → Run → Tables → List Stage → Type 0
 AreFoundBy None run next found = ((next ≡ run.closing) × (found ≡ stages_of run.calls))
     ⊎ ((run.outcome ≡ Some (of_store Device)) × ((made : List CallBy) × HasMade run.closing run.calls next made × (found ≡ stages_of made)))
@@ -144,15 +144,16 @@ AreJoined (run ∷ runs) this all =
 abbrev pub HaveThePublisher : List CallerRow → Type 0
 HaveThePublisher rows = has_name rows publisher_name ≡ true
 
--- The stages of all runs together are one course of the bureau, to these tables. So each reply to a caller who stays, other than 503,
--- is that of a bureau which got the publisher's and that caller's own calls of all runs before, without those told 503, and perhaps
--- the one on its way at each stop. Where no run sets callers, this is so for every caller.
+-- The stages of all runs together are one course of the bureau, to these tables. So each reply to a caller who stays, other
+-- than 503, is that of a bureau which got only some of the calls of all runs before. These are the publisher's and that
+-- caller's own, without those told 503, and perhaps the one on its way at each stop. If no run sets callers, this is so for
+-- every caller.
 pub record AreOneCourse (opening : Tables) (runs : List Run) (this : Tables) : Type 0 where
   pub all : List Stage
   pub joined : AreJoined runs this all
   pub course : IsCourse opening all this
   pub alone : IsAloneWhereItStays opening all
-  -- The publisher stays, where it was there in the beginning, since each callers file has it.
+  -- The publisher stays, if it was there in the beginning, since each callers file has it.
   pub stays : HaveThePublisher opening.callers → Stays Publisher opening.callers all
 
 -- ---- from one run to the next
@@ -163,7 +164,7 @@ abbrev pub HoldAfter : Tables → List FileRun → Image → Type 0
 HoldAfter opening files image = HoldTables image (λ this.
     (runs : List Run) × AreRunsIn files runs × AreRuns (λ at. at ≡ opening) runs this × AreOneCourse opening runs this)
 
--- The same, where `init` made the store with the callers of this file, the publisher among them, before the first of them.
+-- The same, if `init` made the store with the callers of this file, the publisher among them, before the first of them.
 abbrev pub HoldSinceInit : List ℕ → List FileRun → Image → Type 0
 HoldSinceInit source files image = (rows : List CallerRow) × AreRowsOf source rows × HaveThePublisher rows × HoldAfter (opened rows) files image
 

@@ -1,4 +1,4 @@
--- What `serve` does with a store, what it prints, and why it ends.
+-- Serving a store by `serve`: the output, and why it ends.
 use Rattle.std.specs.Prelude.{◌≡◌, ◌≤◌, ◌⊎◌, ◌++◌, ℕ, Bool, List, codes, decimal, false, replicate, Option, Some, None}
 use Rattle.std.specs.Io.KnownBytes.{Appends, Keeps}
 use Rattle.faults.specs.declared.any.AnyFault.{AnyFault}
@@ -65,7 +65,7 @@ module _ {Store : Type 0} (view : View Store Tables) (log log_after : Log) (slot
   ServesSome Over fault =
       DoesOver view slots (λ old new before after. AreServedSoFar (bureau_view view IsRightFor) old new log log_after before after Over fault connections)
 
-  -- the device failed at one event, which was the last that was looked at
+  -- the device failed at one event, and no later one was looked at
   abbrev pub ServesUntil : CacheLists → Store → Store → Type 0
   ServesUntil =
       DoesOver view slots (λ old new before after. EndsInFailure (bureau_view view IsRightFor) old new log log_after before after connections)
@@ -80,7 +80,8 @@ pub record IsNewCache (room : ℕ) (cache : CacheLists) : Type 0 where
   pub right : IsAlwaysRight cache
   pub room_is : 1 ≤ room → room ≤ 65536 → cache.capacity ≡ room
 
--- Serves private contracts alone: what a desk has before anybody comes is a new cache, free slots, and room for four of the largest bodies.
+-- Serves private contracts alone: a desk that is prepared has a new cache, free slots, and room for four of the largest
+-- bodies.
 pub record IsPrepared (service : Service) (prepared : Prepared) : Type 0 where
   pub cache : IsNewCache service.cache prepared.cache
   pub free : prepared.connections.slots.items ≡ replicate service.most_open None
@@ -95,9 +96,9 @@ pub record ByDesk {Store : Type 0} (room : ℕ) (Does : CacheLists → Store →
 
 -- ---- how a run may end
 
--- A session of a desk: it has room for so many frames, and serves so many connections to a port, of which so many are open at once at
--- most; that the port was asked for so; which fault ended the rounds; and the rounds before the session and by its end, as far as they
--- are known.
+-- A session of a desk: it has room for so many frames, and serves so many connections to a port, of which at most so many
+-- are open at once; that the port was asked for so; the fault that ended the rounds; and the rounds before the session and
+-- by its end, as far as they are known.
 pub record Session : Type 1 where
   pub room : ℕ
   pub most_open : ℕ
@@ -123,8 +124,8 @@ session_of service Listens Over log log_after = record {
   log_after = log_after;
 }
 
--- What is so where a run ends: because its store is refused, by the fault; before a desk listens, or where it can't print that
--- it does; after all connections; where there are no more rounds, by the fault; and at the event at which the device failed.
+-- How a run ends: because its store is refused, by the fault; before a desk listens, or because it can't print that it does;
+-- after all connections; when there are no more rounds, by the fault; or at the event at which the device failed.
 pub record Ends : Type 1 where
   pub refused : StoreFault → Type 0
   pub unserved : Type 0
@@ -151,7 +152,7 @@ pub record IsServedOver {S : Type 0} (g : Ghosts S) (Does : SqlState S → SqlSt
   pub did : Does opened closing
   pub after_is : after ≡ closing.conn
 
--- of a connection; it was only read where the store in it is refused, and nobody came
+-- of a connection; it was only read if the store in it is refused, and nobody came
 abbrev pub store_ends : {S : Type 0} → Ghosts S → Session → Held S → Held S → Ends
 store_ends g session before after = record {
   refused = λ fault. IsAtRest (state g before) × OnlyReads (state g before) (state g after)
@@ -184,7 +185,7 @@ abbrev pub IsUnheard : AnyFault → ℕ → Option (List ℕ) → Option (List �
 IsUnheard fault port old new =
     ((fault ≡ of_program NotWritten) × AppendsFront old new (listening_text port)) ⊎ (IsNotListening fault × Keeps old new)
 
--- what is told of a desk that listened, and serves no more
+-- the fault for a desk that listened, and serves no more
 abbrev pub fault_of_round : RoundFault → AnyFault
 fault_of_round round.System = of_program NotListening
 fault_of_round round.Memory = of_program Memory
@@ -193,9 +194,9 @@ abbrev pub fault_of_halt : Halt → AnyFault
 fault_of_halt halt.Device = of_store store.Device
 fault_of_halt (halt.Rounds fault) = fault_of_round fault
 
--- What standard output gets, and how the run ended: the line once the desk listens, behind which a run ends with a fault only where
--- the device failed or there were no more rounds; a front part of the line where that can't be written; or nothing, where no desk
--- listens.
+-- Standard output, and how the run ended. It gets the line once the desk listens; after that a run ends with a fault only if
+-- the device failed or there were no more rounds. It gets a front part of the line if that can't be written; or nothing, if
+-- no desk listens.
 abbrev pub IsServeOutput : Ends → Option AnyFault → ℕ → Option (List ℕ) → Option (List ℕ) → Type 0
 IsServeOutput ends None port old new = ends.served × Appends old new (listening_text port)
 IsServeOutput ends (Some fault) port old new =

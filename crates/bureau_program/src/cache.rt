@@ -7,14 +7,14 @@ use run_parts::ProgramFault;
 use std::alloc::Global;
 use std::hash::RandomState;
 
-// As many frames as a cache may have room for.
+// The most frames for which a cache may have room.
 const CAPACITY_MOST: u32 = 65_536;
 
 /// An empty cache with room for so many frames, at least one and at most 65,536.
 ///
 /// # Errors
 ///
-/// `Memory` where memory ran out.
+/// `Memory` if memory ran out.
 pub fn cache_of(alloc: Global, capacity: u32, keys: RandomState) -> Result<ChainCache, ProgramFault>
     ensures right { IfOk result IsAlwaysRight }
     ensures room { 1 ≤ capacity → capacity ≤ 65536 → IfOk result (λ cache. cache.capacity ≡ capacity) }

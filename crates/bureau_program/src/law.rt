@@ -1,4 +1,4 @@
-//! What any number of runs of the program keeps, as a law.
+//! Laws on any number of runs of the program.
 ghost use Rattle.std.specs.Prelude.{◌≡◌, ℕ, List, Option};
 ghost use Rattle.faults.specs.declared.any.AnyFault.{AnyFault};
 ghost use Rattle.bureau_sql.specs.Files.{HoldTables};
@@ -21,11 +21,11 @@ use store_runs::Ended;
 /// and perhaps after the change that was on its way at each stop. The calls of all runs, and the callers that were
 /// set between them, are together one course of the bureau. Each caller who stays is answered as if alone.
 ///
-/// A stop in `serve` leaves the tables after all that was acknowledged, and where the device failed, perhaps those
-/// with the one change that was on its way; one in `callers` leaves the tables before it or after it. So, over all
-/// runs, each reply to a caller who stays, other than 503, is that of a bureau which got the publisher's and that
-/// caller's own calls before it, and perhaps the one on its way at each stop. That each run of the program is such
-/// a run, [`what_a_run_keeps`] says.
+/// A stop in `serve` leaves the tables after all that was acknowledged; or, if the device failed, perhaps those with
+/// the one change that was on its way. A stop in `callers` leaves the tables before it or after it. So it is over all
+/// runs: each reply to a caller who stays, other than 503, is that of a bureau which got only some of the calls before
+/// it. These are the publisher's and that caller's own, and perhaps the one on its way at each stop.
+/// [`what_a_run_keeps`] says that each run of the program is such a run.
 pub fn any_number_of_runs()
     ensures made { (source : List ℕ) (image : Image) → HoldCallers source image
         → (runs : List FileRun) (last : Image) → AreRunsOver image runs last
@@ -37,7 +37,7 @@ pub fn any_number_of_runs()
 
 /// Each run of the program is one of those runs, by what its own contract says that it keeps ([`crate::run`]:
 /// `KeepsServed` of `serve`; `KeepsCallers` of a `callers` that was given callers; `KeepsTables` of any other that
-/// opened the files of the store). `ended` stands for what is left of the files. One that opened none keeps the
+/// opened the files of the store). `ended` stands for what is left of the files. A run that opened none keeps the
 /// tables too.
 pub fn what_a_run_keeps<D: Start>(ended: &Ended<FileFrom<D>>)
     ensures serves { (from : Image) (log log_after : Log) (outcome : Option AnyFault)

@@ -1,4 +1,4 @@
-//! A run of the program: what its words ask for, over files and the three streams.
+//! A run of the program: it does what its words say, over files and the three streams.
 ghost use Rattle.std.specs.Prelude.{◌≡◌, map, string_bytes, IfErr, IfOk};
 ghost use Rattle.faults.specs.Refusal.{IsRefusal};
 ghost use Rattle.sqlite_wal.specs.Files.{image_at};
@@ -19,12 +19,12 @@ use std::io::{Read, Write};
 use store_runs::{Ended, Stores, callers_file, check_file, do_init, migrate_file};
 use transfer::RETRIES;
 
-/// Does what the words of the command line ask for, and returns the exit status, and what is left of a store's files.
+/// Does what the words of the command line say, and returns the exit status, and what is left of a store's files.
 ///
-/// Standard input is read where `-` stands for a FILE of `holds` or of a report, and nowhere else. Every other FILE
-/// is opened by its name. What is made of it goes to standard output, and a fault's line to standard error.
-/// Connections come where the line asks for `serve`, and nowhere else. The line's STORE is asked for, once, and no
-/// other store. `start` stands for what its files hold as the run begins.
+/// It reads standard input only if `-` stands for a FILE of `holds` or of a report. It opens every other FILE by its
+/// name. Output goes to standard output, and a fault's line to standard error. Connections come only if the line is
+/// one of `serve`. The run asks for the line's STORE, once, and for no other store. `start` stands for what its files
+/// hold as the run begins.
 pub fn run<S: Surroundings, T: Stores, D: Start, I: Read, O: Write, E: Write>(
     surroundings: &mut S,
     stores: &mut T,
@@ -57,12 +57,13 @@ pub fn run<S: Surroundings, T: Stores, D: Start, I: Read, O: Write, E: Write>(
         output,
         errors,
     );
-    // By a call, which is proved once. At the end of the scope each text of each command would be let go here.
+    // Drops it by a call, which is proved once. At the end of the scope each text of each command would be dropped
+    // here.
     drop(line);
     done
 }
 
-// Does what a line asks for.
+// Does what a line says.
 fn answer<S: Surroundings, T: Stores, D: Start, I: Read, O: Write, E: Write>(
     surroundings: &mut S,
     stores: &mut T,
@@ -179,7 +180,7 @@ fn answer<S: Surroundings, T: Stores, D: Start, I: Read, O: Write, E: Write>(
     }
 }
 
-// Serves the connections that stand in files, with the callers of the callers file.
+// Serves the connections in files, with the callers of the callers file.
 fn do_replay<S: Surroundings, O: Write, E: Write>(
     surroundings: &S,
     alloc: Global,
@@ -205,8 +206,7 @@ fn do_replay<S: Surroundings, O: Write, E: Write>(
     }
 }
 
-// What stands in the callers file, and in the file of each connection. They are read in this order, with 64 retries in
-// all.
+// Reads the callers file, and the file of each connection, in this order, with 64 retries in all.
 fn read_files<S: Surroundings>(
     surroundings: &S,
     alloc: Global,

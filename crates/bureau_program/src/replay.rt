@@ -31,19 +31,19 @@ use store_runs::{callers_in, of_store};
 use transfer::{RETRIES, write_whole};
 use verdicts::Judge;
 
-// How many pages are kept besides those in the files, which stand in memory too: one mebibyte of them.
+// The pages that are kept besides those in the files, which are in memory too: one mebibyte of them.
 const PAGES: usize = 256;
 
-// How many pages of a change are kept before they go to the log: four gibibytes of them, more than a change writes. The
-// log stands in memory too, so a page that goes there early and is written again stands there twice.
+// The pages of a change that are kept before they go to the log: four gibibytes of them, more than a change writes. The
+// log is in memory too, so a page that goes there early and is written again is there twice.
 const CHANGED_PAGES: usize = 1 << 20;
 
 /// Serves connections one after the other over a store in memory that has these callers and nothing else, and
 /// prints what is written to each. Returns the exit status.
 ///
-/// A fault is told on `errors` alone, as `FAULT`, its number and its place; only where a write fails has `writer`
-/// a front part of the replies. `cache` is how many frames are kept, and `keys` those by which they are looked up; no
-/// reply shows either.
+/// A fault goes to `errors` alone, as `FAULT`, its number and its place. Only if a write fails does `writer` have a
+/// front part of the replies. `cache` is the number of frames that are kept, and `keys` those by which they are looked
+/// up; no reply shows either.
 pub fn run_replay<W: Write, E: Write>(
     alloc: Global,
     callers: &[u8],
@@ -61,7 +61,7 @@ pub fn run_replay<W: Write, E: Write>(
     told(errors, printed)
 }
 
-// Prints what is written to connections.
+// Prints the replies to connections.
 fn print_replies<W: Write>(
     alloc: Global,
     callers: &[u8],
@@ -79,7 +79,7 @@ fn print_replies<W: Write>(
     }
 }
 
-// What is written to connections that are served with the callers of a file.
+// Serves connections with the callers of a file, and returns the replies.
 fn replies(
     alloc: Global,
     callers: &[u8],
@@ -96,7 +96,7 @@ fn replies(
     serve_rows(alloc, rows.as_slice(), files, cache, keys)
 }
 
-// What is written to connections that are served with these callers.
+// Serves connections with these callers, and returns the replies.
 fn serve_rows(
     alloc: Global,
     rows: &[CallerRow],
@@ -112,14 +112,14 @@ fn serve_rows(
     match cache_of(alloc, cache, keys) {
         Ok(judge) => serve_over(alloc, conn, judge, rows, files),
         Err(_) => {
-            // By a call, which is proved once. At the end of the scope each list in it would be let go here.
+            // Drops it by a call, which is proved once. At the end of the scope each list in it would be dropped here.
             drop(conn);
             Err(AnyFault::from(ProgramFault::Memory))
         }
     }
 }
 
-// The same over an empty database, where its files return what was written to them, and by any judge.
+// The same over an empty database, if its files return what was written to them, and by any judge.
 fn serve_over<S: Alter + Drop, J: Judge<SqlStore<S>> + Drop>(
     alloc: Global,
     conn: Connection<S>,
@@ -143,7 +143,7 @@ fn serve_over<S: Alter + Drop, J: Judge<SqlStore<S>> + Drop>(
     serve_files(alloc, &mut bureau, files)
 }
 
-// What is written to connections that a bureau serves one after the other.
+// Serves connections by a bureau, one after the other, and returns the replies.
 fn serve_files<T: Store, J: Judge<T>>(
     alloc: Global,
     bureau: &mut Bureau<T, J>,

@@ -22,25 +22,25 @@ use std::alloc::Global;
 use std::io::{ErrorKind, Write};
 use store_runs::{Ended, Stores, end, of_store, run_open};
 
-// How many bytes all connections together may hold, beyond a head of each: four bodies of the largest size.
+// The bytes that all connections together may hold, beyond a head of each: four bodies of the largest size.
 const HELD_MOST: usize = 1 << 28;
 
-/// How a desk is served.
+/// The options of `serve`.
 #[derive(Clone, Copy, Debug)]
 pub struct Service {
     /// The port of 127.0.0.1 where it listens.
     pub port: u16,
-    /// How many frames it keeps.
+    /// The most frames that it keeps.
     pub cache: u32,
-    /// How many connections it takes.
+    /// The number of connections that it takes.
     pub connections: u32,
-    /// How many of them are open at once at most.
+    /// The most of them that are open at once.
     pub most_open: u32,
     /// Whether a log is kept.
     pub log: bool,
 }
 
-/// What a desk has beside its store, before anybody comes.
+/// The parts of a desk beside its store, before anybody comes.
 #[derive(Drop)]
 pub struct Prepared {
     /// The cache that all callers share.
@@ -54,10 +54,10 @@ pub struct Prepared {
 /// Serves the desk whose store a file has, side by side to so many connections to a port of 127.0.0.1. Prints where it
 /// listens, once it does. Returns the exit status, and what is left of the files.
 ///
-/// A fault is told on `errors` alone. Behind the line there are three: a device that failed, after which nothing
-/// more is served; a system that tells no more of connections; and want of memory for the desk itself. Whatever a
-/// stop leaves of the files from then on, the next opening finds the store in it, with the tables after the calls
-/// of the connections that came.
+/// A fault goes to `errors` alone. After the line there are three: a device that failed, after which nothing more is
+/// served; a system that tells no more of connections; and want of memory for the desk itself. Whatever a stop leaves
+/// of the files from then on, the next opening finds the store in it, with the tables after the calls of the
+/// connections that came.
 pub fn run_serve<S: Surroundings, T: Stores, D: Start, W: Write, E: Write>(
     surroundings: &mut S,
     stores: &mut T,
@@ -85,7 +85,7 @@ pub fn run_serve<S: Surroundings, T: Stores, D: Start, W: Write, E: Write>(
     }
 }
 
-/// Serves the desk whose store a connection has, and gives the connection back.
+/// Serves the desk whose store a connection has, and returns the connection.
 pub fn open_and_serve<S: Surroundings, D: Alter + Drop, W: Write, E: Write>(
     surroundings: &mut S,
     alloc: Global,
@@ -110,7 +110,7 @@ pub fn open_and_serve<S: Surroundings, D: Alter + Drop, W: Write, E: Write>(
     }
 }
 
-// Serves a store, and gives it back.
+// Serves a store, and returns it.
 fn serve_store<S: Surroundings, D: Alter + Drop, W: Write>(
     surroundings: &mut S,
     alloc: Global,
@@ -138,7 +138,7 @@ fn serve_store<S: Surroundings, D: Alter + Drop, W: Write>(
     }
 }
 
-// What is told of a desk that listened, and serves no more.
+// The fault for a desk that listened, and serves no more.
 fn fault_of(halt: Halt) -> AnyFault
     ensures { result ≡ fault_of_halt halt }
 {
@@ -149,7 +149,7 @@ fn fault_of(halt: Halt) -> AnyFault
     }
 }
 
-// Makes what a desk has before anybody comes, listens, and prints where.
+// Prepares a desk, listens, and prints where.
 fn announce<S: Surroundings, W: Write>(
     surroundings: &mut S,
     alloc: Global,
@@ -168,7 +168,7 @@ fn announce<S: Surroundings, W: Write>(
     match listen_and_tell(surroundings, alloc, service, writer) {
         Ok(()) => Ok(prepared),
         Err(fault) => {
-            // By a call, which is proved once. At the end of the scope each list in it would be let go here.
+            // Drops it by a call, which is proved once. At the end of the scope each list in it would be dropped here.
             drop(prepared);
             Err(fault)
         }
@@ -195,7 +195,7 @@ fn listen_and_tell<S: Surroundings, W: Write>(
     Ok(())
 }
 
-// What a desk has before anybody comes.
+// Prepares the parts of a desk before anybody comes.
 fn prepare<S: Surroundings>(
     surroundings: &S,
     alloc: Global,
@@ -204,7 +204,7 @@ fn prepare<S: Surroundings>(
     ensures prepared { IfOk result (IsPrepared service) }
     ensures fault { IfErr result IsNotListening }
 {
-    // The cache is the largest, and made last: what stands before a call that may fail is let go there too.
+    // The cache is the largest, and made last: all that stands before a call that may fail is dropped there too.
     let routes = routes(alloc)?;
     let connections = free_slots(alloc, service.most_open)?;
     let cache = new_cache(surroundings, alloc, service.cache)?;
@@ -279,13 +279,13 @@ fn listen<S: Surroundings>(
     }
 }
 
-/// Serves so many connections to a desk over a store, side by side, with a cache that all callers share. Gives the
-/// store back.
+/// Serves so many connections to a desk over a store, side by side, with a cache that all callers share. Returns the
+/// store.
 ///
 /// # Errors
 ///
-/// [`Halt::Device`] once the store's device has failed: then nothing more is looked at. [`Halt::Rounds`] where
-/// there are no more rounds.
+/// [`Halt::Device`] once the store's device has failed: then it looks at nothing more. [`Halt::Rounds`] if there are no
+/// more rounds.
 pub fn serve_in_rounds<S: Store, R: Rounds>(
     alloc: Global,
     store: S,
@@ -306,7 +306,7 @@ pub fn serve_in_rounds<S: Store, R: Rounds>(
     let mut bureau = Bureau::new(alloc, store, cache);
     let served = serve_rounds(alloc, &mut bureau, &routes, &mut connections, rounds, count);
     let (store, cache) = bureau.into_parts();
-    // By a call, which is proved once. At the end of the scope each list in it would be let go here.
+    // Drops it by a call, which is proved once. At the end of the scope each list in it would be dropped here.
     drop(cache);
     (served, store)
 }

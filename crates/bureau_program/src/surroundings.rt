@@ -1,5 +1,5 @@
-//! What surrounds a run: the words of its command line, files by their names, ports and the connections to them,
-//! and random keys. Stores come besides.
+//! The surroundings of a run: the words of its command line, files by their names, ports and the connections to
+//! them, and random keys. Stores come in an argument of their own.
 ghost use Rattle.std.specs.Prelude.{◌≡◌, ℕ, Bool, List, Option, None, map, string_bytes, IfOk, IfErr, IfSome, OnOk};
 ghost use Rattle.faults.specs.Refusal.{IsRefusal};
 
@@ -12,15 +12,15 @@ use std::io;
 
 /// The words of a command line, the files that they may name, and the connections that come to a port.
 ///
-/// Those of a system tell nothing of what they have. Others, as lists of words, of files and of events of
-/// connections, can tell all of it. So what is proved of every `Surroundings` says which words and which files a
-/// run reads, and which connections it serves. No connection comes before a port is listened on.
+/// Nothing is known of what a system's surroundings have. Others, such as lists of words, of files and of events,
+/// may know all of it. So a proof about every `Surroundings` says which words and which files a run reads, and which
+/// connections it serves. No connection comes before the run listens on a port.
 pub trait Surroundings: Files + Rounds {
-    /// The words after the program's name, where they are known.
+    /// The words after the program's name, if they are known.
     ghost known_words: { Self → Option (List (List ℕ)) };
 
-    /// That this port is listened on, for so many connections at once, with a log or without. A body gives it from a
-    /// `listen` that succeeded, and from nothing else.
+    /// That the run listens on this port, for so many connections at once, with a log or without. Only the contract
+    /// of a `listen` that succeeded gives it.
     ghost known_port: { Self → ℕ → ℕ → Bool → Type 0 };
 
     /// The words after the program's name.
@@ -33,9 +33,9 @@ pub trait Surroundings: Files + Rounds {
             (λ known. map string_bytes words.items ≡ known)) }
         ensures fault { IfErr result (IsRefusal LineFault.Memory (λ _. known_words self.now ≡ None)) };
 
-    /// Listens on a port of 127.0.0.1. From then on the connections are those that come to it, so many of them at
-    /// once at most. Where a log is to be kept, standard error gets a line for each of their requests, and for each
-    /// of them that failed.
+    /// Listens on a port of 127.0.0.1. From then on the connections are those that come to it, at most so many of
+    /// them at once. If a log is kept, standard error gets a line for each of their requests, and for each of them
+    /// that failed.
     ///
     /// # Errors
     ///

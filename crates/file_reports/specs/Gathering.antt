@@ -1,4 +1,4 @@
--- No part of what is promised: private contracts cite it. What was gathered while a publication is read.
+-- No part of what is promised: private contracts cite it. The state while a publication is gathered.
 use Rattle.std.specs.Prelude.{◌≡◌, ◌++◌, Bool, true, false, List, []}
 use Rattle.catalogue.specs.Changes.{records_in}
 use Rattle.catalogue.specs.Content.{Content}
@@ -11,7 +11,7 @@ use Rattle.file_reports.specs.declared.gathering.Reading.{Reading}
 abbrev pub IsWith : Content → List Change → Content → Type 0
 IsWith old changes new = (earlier : List Change) → old ≡ content_of earlier → new ≡ content_of (earlier ++ changes)
 
--- Of all that was read of a publication, everything is gathered but the record of the last header. That stands open.
+-- Of all that was read of a publication, everything is gathered but the record of the last header, which is open.
 pub record IsGathered (old : Content) (all : Begun) (now : Reading) : Type 0 where
   pub gathered : IsWith old (all.before ++ all.after) now.gathered
   pub header : now.header ≡ record { before = []; open_record = all.open_record; after = [] }

@@ -1,4 +1,4 @@
--- What the inputs of a report say: the publications, one after the other, and the lists of a zone; or the first fault.
+-- The meaning of a report's inputs: the publications, one after the other, and the lists of a zone; or the first fault.
 use Rattle.std.specs.Prelude.{◌≡◌, ◌⊎◌, ◌+◌, ◌++◌, ℕ, List, [], ◌∷◌, Option, Some, None, Result, Ok, Err, Bool, true, false, IsSome, length, nat_le, ◌<◌}
 use Rattle.faults.specs.FaultText.{text_of}
 use Rattle.faults.specs.Told.{of_input, of_machine}
@@ -21,12 +21,12 @@ pub record Refused : Type 0 where
   pub input : Input
   pub line : List ℕ
 
--- what an input says, as a body of that kind says it at a desk, or the line of its first fault
+-- the meaning of an input, as that of such a body at a desk, or the line of its first fault
 abbrev pub said_in : {A : Type 0} → Input → Result A (List ℕ) → Result A Refused
 said_in input (Ok what) = Ok what
 said_in input (Err line) = Err (record { input = input; line = line })
 
--- what is said first and then what is said with it, or the first fault
+-- the first meaning and then the one that follows from it, or the first fault
 abbrev pub and_then : {A B : Type 0} → Result A Refused → (A → Result B Refused) → Result B Refused
 and_then (Ok what) next = next what
 and_then (Err refused) next = Err refused
@@ -40,7 +40,8 @@ pub record Inputs : Type 0 where
   pub received : Option (List ℕ)
   pub publications : List (List ℕ)
 
--- what all inputs say: the zone's rows, the patterns, what is received, and the content that all publications leave
+-- the meaning of all inputs: the zone's rows, the patterns, the received SYSMODs, and the content that all publications
+-- leave
 pub record Said : Type 0 where
   pub rows : List ZoneRow
   pub patterns : List (List ℕ)
@@ -51,12 +52,12 @@ pub record Said : Type 0 where
 abbrev pub most_bytes : ℕ
 most_bytes = 67108864
 
--- what an input says that is not too long, or else the fault 5
+-- the meaning of an input that is not too long, or else the fault 5
 abbrev pub if_not_long : {A : Type 0} → Bool → Input → Result A (List ℕ) → Result A Refused
 if_not_long true input said = said_in input said
 if_not_long false input said = Err (record { input = input; line = text_of (of_input 5) })
 
--- what a list says, unless it has more bytes than an input may have
+-- the entries of a list, unless it has more bytes than an input may have
 abbrev pub list_in : {A : Type 0} → Input → List ℕ → Result A (List ℕ) → Result A Refused
 list_in input body said = if_not_long (nat_le (length body) most_bytes) input said
 
@@ -72,19 +73,20 @@ abbrev pub received_said : Option (List ℕ) → Result (List (List ℕ)) Refuse
 received_said None = Ok []
 received_said (Some body) = list_in Received body (ids_in body)
 
--- what publications publish, of which the first has this index: all of it in order, or the fault of the first that has one
+-- the changes of publications, of which the first has this index: all in order, or the fault of the first publication that
+-- has one
 abbrev pub published_from : ℕ → List (List ℕ) → Result (List Change) Refused
 published_from index [] = Ok []
 published_from index (body ∷ bodies) =
     and_then (said_in (Publication index) (changes_in body)) (λ changes.
     and_then (published_from (index + 1) bodies) (λ later. Ok (changes ++ later)))
 
--- the content that they leave, where nothing was published before
+-- the content that they leave, if nothing was published before
 abbrev pub content_published : List (List ℕ) → Result Content Refused
 content_published bodies = and_then (published_from 0 bodies) (λ changes. Ok (content_of changes))
 
--- What the inputs say, or the first fault: that of the zone's rows, then of the categories, of what is received, and of the
--- publications in their order.
+-- The meaning of the inputs, or the first fault: that of the zone's rows, then of the categories, of the received SYSMODs,
+-- and of the publications in their order.
 abbrev pub said_by : Inputs → Result Said Refused
 said_by inputs =
     and_then (rows_said inputs.zone) (λ rows.
@@ -102,7 +104,7 @@ IsGiven inputs (Publication index) = index < length inputs.publications
 
 -- ---- how a fault is told
 
--- a fault with the input that it is in; one of the machine is in none
+-- a fault with its input; one of the machine is in none
 abbrev pub input_at_fault : Input → Cause → Option Input
 input_at_fault input cause.Input = Some input
 input_at_fault input cause.Machine = None
@@ -120,12 +122,12 @@ IsMemory fault =
 abbrev pub IsOutOfMemory : InputFault → Type 0
 IsOutOfMemory told = (told.input ≡ None) × IsMemory told.fault
 
--- the input is at fault, and nothing is said but that and the line of this fault
+-- the input is at fault, and the answer is that and the line of this fault
 abbrev pub IsOfInput : {A : Type 0} → Result A Refused → InputFault → Type 0
 IsOfInput said told =
     (told.fault.cause ≡ cause.Input)
     × ((input : Input) × (told.input ≡ Some input) × (said ≡ Err (record { input = input; line = text_of told.fault })))
 
--- what is told is the first fault of the inputs; or memory ran out
+-- the fault is the first one of the inputs; or memory ran out
 abbrev pub IsFirstFault : {A : Type 0} → Result A Refused → InputFault → Type 0
 IsFirstFault said told = IsOutOfMemory told ⊎ IsOfInput said told

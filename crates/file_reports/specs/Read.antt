@@ -1,4 +1,5 @@
--- No part of what is promised: private contracts cite it. What the inputs say, as it was read.
+-- No part of what is promised: private contracts cite it. The meaning of the inputs, as it was
+-- read.
 use Rattle.file_reports.specs.Inputs.{Said}
 use Rattle.file_reports.specs.declared.inputs.Read.{Read}
 

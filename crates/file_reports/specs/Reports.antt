@@ -1,4 +1,4 @@
--- The reports of inputs: what a desk says of the content that all publications leave, in the zone.
+-- The reports of inputs: the answers of a desk on the content that all publications leave, in the zone.
 use Rattle.std.specs.Prelude.{ℕ, List, Result, Ok}
 use Rattle.bureau_store.specs.Tables.{ZoneTable}
 use Rattle.questions.specs.declared.report.Report.TheVariants.{ErrSysmods, MissingFix}
@@ -23,6 +23,6 @@ missing_text_said zone said = desk.report_text MissingFix (Rows Text) said.conte
 abbrev pub chain_text_said : List ℕ → List ℕ → Said → List ℕ
 chain_text_said zone sysmod said = desk.chain_text said.content zone (zone_said said) sysmod
 
--- a text of what the inputs say, or the first fault
+-- a text on the meaning of the inputs, or the first fault
 abbrev pub text_by : (Said → List ℕ) → Inputs → Result (List ℕ) Refused
 text_by text inputs = and_then (said_by inputs) (λ said. Ok (text said))

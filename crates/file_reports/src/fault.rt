@@ -1,4 +1,4 @@
-//! The first fault of the inputs, and which of them it is in.
+//! The first fault of the inputs, and its input.
 ghost use Rattle.std.specs.Prelude.{◌≡◌};
 ghost use Rattle.file_reports.specs.Inputs.{told_in};
 
@@ -28,7 +28,7 @@ pub struct InputFault {
 }
 
 impl InputFault {
-    // A fault of an input; one of the machine is in none.
+    // A fault of an input. One of the machine is in none.
     pub(crate) fn of(fault: AnyFault, input: Input) -> InputFault
         ensures { result ≡ told_in input fault }
     {

@@ -1,4 +1,4 @@
-//! What the statements of a publication publish, gathered one at a time.
+//! Gathering what the statements of a publication publish, one at a time.
 ghost use Rattle.std.specs.Prelude.{◌≡◌, Bool, true, false, Some, [], is_some, IfOk, OnOk, IfErr};
 ghost use Rattle.faults.specs.Refusal.{IsRefusal};
 ghost use Rattle.holddata.specs.Statements.{first_of};
@@ -12,8 +12,8 @@ use flat_content::Gathered;
 use mcs_reader::{Statement, Verb};
 use std::alloc::Global;
 
-/// What was gathered so far, and the record of the last header, as far as it was read. A hold is gathered where it
-/// stands: no record depends on it, and it on none.
+/// What was gathered so far, and the record of the last header, as far as it was read. A hold is gathered at once: no
+/// record depends on it, and it depends on none.
 #[derive(Drop)]
 pub(crate) struct Reading {
     pub(crate) gathered: Gathered,
@@ -21,7 +21,7 @@ pub(crate) struct Reading {
 }
 
 impl Reading {
-    /// Nothing of a publication was read. It takes no memory.
+    /// Nothing of a publication was read.
     pub(crate) fn new(alloc: Global, gathered: Gathered) -> Self
         ensures { IsGathered gathered nothing_begun result }
     {
@@ -35,7 +35,7 @@ impl Reading {
     ///
     /// # Errors
     ///
-    /// The fault of this statement; `Memory` where memory ran out.
+    /// The fault of this statement; `Memory` if memory ran out.
     pub(crate) fn take(self, alloc: Global, statement: &Statement) -> Result<Self, CatFault>
         ensures read { IfOk result (λ now. (old : Content) (all : Begun) →
             IsGathered old all self → IsGathered old (with_statement all statement.now) now) }
@@ -51,7 +51,7 @@ impl Reading {
         }
     }
 
-    // A header closes the record that stands open.
+    // A header closes the open record.
     fn begin(self, alloc: Global, statement: &Statement) -> Result<Self, CatFault>
         requires { is_header (part_of statement.now) ≡ true }
         ensures read { IfOk result (λ now. (old : Content) (all : Begun) →
@@ -99,11 +99,11 @@ impl Reading {
         })
     }
 
-    /// All that was read is gathered.
+    /// Gathers all that was read.
     ///
     /// # Errors
     ///
-    /// `Memory` where memory ran out.
+    /// `Memory` if memory ran out.
     pub(crate) fn finish(self) -> Result<Gathered, CatFault>
         ensures content { IfOk result (λ now. (old : Content) (all : Begun) →
             IsGathered old all self → IsWith old (changes_in all) now) }
@@ -114,7 +114,7 @@ impl Reading {
     }
 }
 
-// A statement that says the same whatever stands before it.
+// A statement that means the same whatever comes before it.
 fn alone(alloc: Global, statement: &Statement) -> Result<ChangeReader, CatFault>
     requires { belongs (part_of statement.now) ≡ false }
     ensures read { IfOk result (λ now. now ≡ with_statement nothing_begun statement.now) }

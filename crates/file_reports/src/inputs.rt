@@ -1,4 +1,4 @@
-//! A zone's lists, and what all inputs say.
+//! A zone's lists, and the meaning of all inputs.
 ghost use Rattle.std.specs.Prelude.{◌≡◌, ◌<◌, ◌≤◌, ℕ, List, Ok, IfOk, IfErr, OnOk, length, map};
 ghost use Rattle.faults.specs.Told.{of_input};
 ghost use Rattle.std.specs.Option.{option_map};
@@ -71,7 +71,7 @@ impl<'a> Lists<'a> {
     }
 }
 
-/// What all inputs say.
+/// The meaning of all inputs.
 #[derive(Drop)]
 pub(crate) struct Read {
     pub(crate) installed: Zone,
@@ -84,7 +84,7 @@ pub(crate) struct Read {
 ///
 /// # Errors
 ///
-/// The first fault, with the input that it is in; or memory ran out.
+/// The first fault, with its input; or memory ran out.
 pub(crate) fn read_all(
     alloc: Global,
     lists: Lists<'_>,

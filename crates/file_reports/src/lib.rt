@@ -1,10 +1,10 @@
-//! Reports from files, with no desk: from the bytes of publications and of a zone's lists to the text that a new desk
-//! answers after the same publications and lists.
+//! Reports from files, without a desk: from the bytes of publications and of a zone's lists to the text that a new
+//! desk answers after the same publications and lists.
 //!
-//! - [`Lists`]: a zone's lists: its SYSMODs, and what the client has received and asks for, where these are given
+//! - [`Lists`]: a zone's lists: its SYSMODs, and the client's received SYSMODs and fix categories, if these are given
 //! - [`err_report`], [`missing_report`]: the two reports on a zone
 //! - [`chain_report`]: the verdict on a SYSMOD in a zone
-//! - [`Input`]: which of the inputs has a fault; [`InputFault`]: the first fault, and the input that it is in
+//! - [`Input`]: the input that has a fault; [`InputFault`]: the first fault, and its input
 //!
 //! ```
 //! // what isn't named here is of mcs_reader

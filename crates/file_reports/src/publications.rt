@@ -1,4 +1,4 @@
-//! What publications leave, one after the other.
+//! The content that publications leave, one after the other.
 ghost use Rattle.std.specs.Prelude.{◌≡◌, List, Ok, IfOk, IfErr, map};
 ghost use Rattle.catalogue.specs.Content.{IsInOrder};
 ghost use Rattle.catalogue.specs.declared.change.Change.{Change};
@@ -18,7 +18,7 @@ use flat_content::{FlatContent, Gathered};
 use mcs_reader::Statements;
 use std::alloc::Global;
 
-/// The content that publications leave where nothing was published before. Each is gathered while it is read, and is
+/// The content that publications leave if nothing was published before. Each is gathered while it is read, and is
 /// dropped before the next one is read.
 ///
 /// # Errors
@@ -41,7 +41,7 @@ pub(crate) fn content_in(
     Ok(finished_content(gathered)?)
 }
 
-// What was gathered, with what the publication with this index publishes. The publication is dropped.
+// Adds what the publication with this index publishes, and drops the publication.
 fn with_publication(
     alloc: Global,
     gathered: Gathered,
@@ -69,8 +69,8 @@ fn finished_content(gathered: Gathered) -> Result<FlatContent, SourceFault>
     Ok(gathered.content()?)
 }
 
-// What was gathered, with what the statements of a publication publish. No statement is kept, and no list of changes.
-// What stands after the first statement that has a fault is read too, since a fault of the text comes before it.
+// Adds what the statements of a publication publish. It keeps no statement, and no list of changes. It also reads
+// what comes after the first statement with a fault, since a fault of the text comes before that.
 fn with_text(alloc: Global, gathered: Gathered, text: &[u8]) -> Result<Gathered, AnyFault>
     ensures content { IfOk result (λ now. (changes : List Change)
         × (body.changes_in text.now ≡ Ok changes) × IsWith gathered changes now) }

@@ -32,17 +32,16 @@ use supersede::Zone;
 use verdicts::{Judge, Verdict};
 use zone_lists::Pattern;
 
-// How many nodes a frame has at most from which a chain is answered. Where a SYSMOD reaches further, all that is
-// catalogued is read once.
+// The most nodes of a frame from which a chain is answered. If a SYSMOD reaches further, all that is catalogued is
+// read once.
 const NODES_MOST: usize = 256;
 
-/// The exception SYSMOD report on a zone, as a new desk answers it after the same publications and lists. The zone has
-/// this name. The fix categories are not read.
+/// Prints the exception SYSMOD report on a zone of this name, as a new desk answers it after the same publications and
+/// lists. It doesn't read the fix categories.
 ///
 /// # Errors
 ///
-/// The first fault of the lists and of the publications in their order, with the input that it is in; or memory ran
-/// out.
+/// The first fault of the lists and of the publications in their order, with its input; or memory ran out.
 pub fn err_report(
     alloc: Global,
     zone: &Id,
@@ -63,7 +62,7 @@ pub fn err_report(
     Ok(err_text_in(alloc, zone, read)?)
 }
 
-/// The missing fix report on a zone, as [`err_report`].
+/// Prints the missing fix report on a zone, as [`err_report`] does.
 ///
 /// # Errors
 ///
@@ -88,7 +87,8 @@ pub fn missing_report(
     Ok(missing_text_in(alloc, zone, read)?)
 }
 
-/// The verdict on a SYSMOD in a zone, as JSON and as [`err_report`]. No list is read but that of the zone's SYSMODs.
+/// Prints the verdict on a SYSMOD in a zone, as JSON, as [`err_report`] does. It reads no list but that of the zone's
+/// SYSMODs.
 ///
 /// # Errors
 ///
@@ -183,7 +183,7 @@ fn chain_text_in(alloc: Global, zone: &Id, sysmod: &Id, read: Read) -> Result<Ve
     Ok(plan_json(alloc, &mut content, zone, sysmod, &verdict)?)
 }
 
-// The verdict on a SYSMOD: from its frame, where that is small, or from all that is catalogued.
+// The verdict on a SYSMOD: from its frame, if that is small, or from all that is catalogued.
 fn verdict_in(
     alloc: Global,
     content: &mut FlatContent,

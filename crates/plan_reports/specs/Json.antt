@@ -24,12 +24,12 @@ chosen_data one =
     (member (codes "resolver") (string (text_of one.resolver))
     (member (codes "sysmod") (string (text_of one.hold.sysmod)) no_members)))
 
--- an id, or null where there is none
+-- an id, or null if there is none
 abbrev pub id_data : Option (List ℕ) → Data
 id_data None = null
 id_data (Some id) = string (text_of id)
 
--- what blocks a SYSMOD, and what would give that
+-- the need that blocks a SYSMOD, and what would give it
 abbrev pub blocked_data : BlockedNeed → Data
 blocked_data one =
     object (member (codes "giver") (id_data one.giver)

@@ -1,4 +1,4 @@
--- The members of a plan, with what is said of each: why it is there, and what its installer is to heed.
+-- The members of a plan: why each is there, and which holds its installer should heed.
 use Rattle.std.specs.Prelude.{ℕ, ◌+◌, ◌++◌, ◌&&◌, not, Bool, List, [], ◌∷◌, filter, map}
 use Rattle.holddata.specs.declared.key.Kind.TheVariants.{SystemHold, UserHold}
 use Rattle.zone_lists.specs.declared.zones.ZoneRow.{ZoneRow}
@@ -24,7 +24,7 @@ pub record MemberLists : Type 0 where
   pub system : List (List ℕ)
   pub user : List (List ℕ)
 
--- the holds for which a member came: those of which it gives the resolver that is chosen
+-- the holds for which a member came: those whose chosen resolver it gives
 abbrev pub holds_for : Content → List ChosenResolver → List ℕ → List HoldOn
 holds_for content resolved id = map (λ one. one.hold) (filter (λ one. gives content id one.resolver) resolved)
 
@@ -32,7 +32,7 @@ holds_for content resolved id = map (λ one. one.hold) (filter (λ one. gives co
 abbrev pub needed_by_of : Content → List ZoneRow → List (List ℕ) → List ℕ → List (List ℕ)
 needed_by_of content rows members id = filter (λ other. not (same_id other id) && needs_id content rows other id) members
 
--- what is said of a member of a step
+-- a member of a step
 abbrev pub member_at : Content → List ZoneRow → List (List ℕ) → List ChosenResolver → List (List ℕ) → ℕ → List ℕ → MemberLists
 member_at content rows received resolved members step id = record {
   step = step;

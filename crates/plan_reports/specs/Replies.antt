@@ -1,4 +1,4 @@
--- The plans for the two reports in print and as JSON, from what is published, the zone and the lists.
+-- The plans for the two reports in print and as JSON, from the published content, the zone and the lists.
 use Rattle.std.specs.Prelude.{ℕ, List}
 use Rattle.holddata.specs.declared.hold.Hold.{Hold}
 use Rattle.zone_lists.specs.declared.zones.ZoneRow.{ZoneRow}
@@ -18,11 +18,12 @@ abbrev pub written_as : Form → Report → List ℕ → List MemberLists → Pl
 written_as Text report name members plan = plan_text_of report name members plan
 written_as Json report name members plan = plan_json_of report name members plan
 
--- the text of a plan, with what is said of its members
+-- the text of a plan, with the causes and holds of its members
 abbrev pub told_as : Form → Content → List ZoneRow → List (List ℕ) → Report → List ℕ → PlanLists → List ℕ
 told_as form content rows received report name plan = written_as form report name (plan_members_of content rows received plan) plan
 
--- the holds that a report tells of: ERROR holds on what is installed; or FIXCAT holds on it, of the categories that a pattern matches
+-- the holds of a report: ERROR holds on installed SYSMODs; or FIXCAT holds on them, for the categories that a pattern
+-- matches
 abbrev pub holds_of : Report → Content → List ZoneRow → List (List ℕ) → List (List ℕ) → List Hold → List HoldLists
 holds_of ErrSysmods content rows received patterns holds = err_holds_of content rows received holds
 holds_of MissingFix content rows received patterns holds = missing_holds_of content rows received patterns holds

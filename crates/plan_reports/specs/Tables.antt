@@ -14,7 +14,7 @@ use Rattle.questions.specs.declared.report.Report.TheVariants.{ErrSysmods, Missi
 abbrev pub received_field : Bool → List ℕ
 received_field received = if received then codes "YES" else codes "NO"
 
--- ids with commas between, or a dash where there is none
+-- ids with commas between, or a dash if there is none
 abbrev pub list_field : List (List ℕ) → List ℕ
 list_field [] = codes "-"
 list_field (id ∷ ids) = join_with_byte 44 (map text_of (id ∷ ids))
@@ -90,7 +90,7 @@ held_table holds = text_in held_columns (Some (codes "HOLDS WITH HELD RESOLVERS"
 abbrev pub blocked_columns : List (ℕ × List ℕ)
 blocked_columns = (1, codes "SYSMOD") ∷ (10, codes "NEED") ∷ (19, codes "GIVER") ∷ []
 
--- what would give a need, or why nothing does
+-- the SYSMOD that would give a need, or why none does
 abbrev pub giver_field : Option (List ℕ) → Bool → List ℕ
 giver_field (Some id) published = text_of id
 giver_field None true = codes "- NOT APPLICABLE -"

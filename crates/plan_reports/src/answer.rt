@@ -1,4 +1,4 @@
-//! The plan for a report, from what is published, the zone and the lists.
+//! The plan for a report, from the published content, the zone and the lists.
 ghost use Rattle.std.specs.Prelude.{◌≡◌, IfOk};
 ghost use Rattle.catalogue.specs.Ids.{Ascend};
 ghost use Rattle.catalogue.specs.View.{MayAsk, Tells};
@@ -17,7 +17,7 @@ use verdicts::Judge;
 use zone_lists::Pattern;
 use zone_plans::{ZonePlan, err_plan, missing_plan};
 
-/// The plan for a report on a zone, in a form.
+/// Makes the plan for a report on a zone, in a form.
 ///
 /// It is made from the holds of the report's kind on the SYSMODs that are installed in the zone: ERROR holds for the
 /// exception SYSMOD report; for the missing fix report FIXCAT holds, of the categories that a pattern matches.
@@ -25,7 +25,7 @@ use zone_plans::{ZonePlan, err_plan, missing_plan};
 ///
 /// # Errors
 ///
-/// `Memory` where memory ran out, `Device` where the source failed.
+/// `Memory` if memory ran out, `Device` if the source failed.
 pub fn plan_answer<P: Published, J: Judge<P>>(
     alloc: Global,
     source: &mut P,

@@ -1,4 +1,4 @@
-//! What stands in the columns.
+//! The fields of the columns.
 ghost use Rattle.std.specs.Prelude.{◌≡◌, None, IfOk, codes, map};
 ghost use Rattle.mcs_reader.specs.Bytes.{bytes_of_each};
 ghost use Rattle.mcs_reader.specs.Id.{text_of};
@@ -11,10 +11,10 @@ use mcs_reader::Id;
 use std::alloc::Global;
 use zone_plans::{ChosenResolver, HoldOn};
 
-// What stands for an absent field.
+// The text for an absent field.
 const ABSENT: &[u8] = b"-";
 
-/// What stands for an absent field, beside an id.
+/// The text for an absent field, beside an id.
 pub(crate) fn dash(_: &Id) -> &[u8]
     ensures { result.now ≡ codes "-" }
 {
@@ -37,7 +37,7 @@ pub(crate) fn received_field(received: &bool) -> &[u8]
     }
 }
 
-/// Ids with commas between, or a dash where there is none.
+/// Ids with commas between, or a dash if there is none.
 pub(crate) fn list_field(alloc: Global, ids: &[Id]) -> Result<Vec<u8>, NoMemory>
     ensures { IfOk result (λ field. field.items ≡ Spec.list_field ids.now) }
 {

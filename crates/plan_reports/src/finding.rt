@@ -1,4 +1,4 @@
-//! What is found of the members, by their places.
+//! The findings on the members, by their indices.
 ghost use Rattle.std.specs.Prelude.{◌≡◌, List, IfOk};
 ghost use Rattle.zone_lists.specs.declared.zones.ZoneRow.{ZoneRow};
 ghost use Rattle.catalogue.specs.Content.{Content};
@@ -14,14 +14,14 @@ use std::alloc::Global;
 use std::marker::Model;
 use zone_plans::ZonePlan;
 
-/// What is found of the members.
+/// The findings on the members.
 #[derive(Debug, Drop)]
 pub(crate) struct Found {
     /// The members, ascending.
     pub(crate) ids: Vec<Id>,
-    /// Of each the places of the members that need it.
+    /// For each the indices of the members that need it.
     pub(crate) needing: Vec<Vec<usize>>,
-    /// Of each the places of the holds for which it came.
+    /// For each the indices of the holds for which it came.
     pub(crate) resolving: Vec<Vec<usize>>,
 }
 
@@ -37,7 +37,7 @@ impl Model for Found {
     } };
 }
 
-/// What is found of the members of a plan, and of the holds with a resolver.
+/// Finds the causes of the members of a plan, by it and by its holds with a resolver.
 pub(crate) fn find(alloc: Global, ids: Vec<Id>, plan: &ZonePlan) -> Result<Found, NoMemory>
     requires { Ascend ids.items }
     ensures ids { IfOk result (λ found. found.ids ≡ ids.items) }

@@ -1,4 +1,4 @@
-//! The tables of the holds that no member resolves, and of what blocks their resolvers.
+//! The tables of the holds that no member resolves, and of the needs that block their resolvers.
 ghost use Rattle.std.specs.Prelude.{◌≡◌, IfOk};
 ghost use Rattle.plan_reports.specs.Tables as Spec;
 
@@ -65,7 +65,7 @@ pub(crate) fn unresolved_table(alloc: Global, holds: &[HoldOn]) -> Result<Vec<u8
     table.finish()
 }
 
-/// The holds of which no resolver is GOOD and one is HELD.
+/// The holds without a GOOD resolver that have one that is HELD.
 pub(crate) fn held_table(alloc: Global, holds: &[ChosenResolver]) -> Result<Vec<u8>, NoMemory>
     ensures { IfOk result (λ text. text.items ≡ Spec.held_table holds.now) }
 {
@@ -76,7 +76,7 @@ pub(crate) fn held_table(alloc: Global, holds: &[ChosenResolver]) -> Result<Vec<
     table.finish()
 }
 
-/// What blocks the resolvers that are HELD.
+/// The needs that block the resolvers that are HELD.
 pub(crate) fn blocked_table(alloc: Global, needs: &[BlockedNeed]) -> Result<Vec<u8>, NoMemory>
     ensures { IfOk result (λ text. text.items ≡ Spec.blocked_table needs.now) }
 {

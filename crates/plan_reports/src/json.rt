@@ -13,10 +13,10 @@ use serde_json::{Value, json};
 use std::alloc::Global;
 use zone_plans::ZonePlan;
 
-/// A plan for a report on a zone as compact JSON with its keys in ascending order: `blocked`, `held`, `members`,
+/// Prints a plan for a report on a zone as compact JSON with its keys in ascending order: `blocked`, `held`, `members`,
 /// `report`, `resolved`, `unresolved` and `zone`. `report` is `errsysmods` or `missingfix`. All values are texts, lists
-/// and objects, but for `received` and `published`, which are true or false, `step`, which is a number, and `giver`,
-/// which is null where nothing that applies gives a need.
+/// and objects, except these: `received` and `published` are true or false, `step` is a number, and `giver` is null if
+/// nothing that applies gives a need.
 ///
 /// # Errors
 ///

@@ -1,5 +1,5 @@
-//! The plans for the two reports on a zone, in print and as JSON, with what is said of each member (IBM z/OS SMP/E
-//! Reference, `++VER`, operands FMID, PRE, REQ and SUP, and `++HOLD`).
+//! The plans for the two reports on a zone, in print and as JSON, with the causes and the holds of each member (IBM
+//! z/OS SMP/E Reference, `++VER`, operands FMID, PRE, REQ and SUP, and `++HOLD`).
 //!
 //! - [`plan_answer`]: the plan for a report, in a form
 //! - [`plan_members`]: the members of a plan, each a [`Member`]: its step, its functions, whether it was received, why it

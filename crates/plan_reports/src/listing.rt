@@ -1,4 +1,4 @@
-//! Which SYSMODs a plan has.
+//! The SYSMODs of a plan.
 ghost use Rattle.std.specs.Prelude.{◌≡◌, IfOk};
 ghost use Rattle.catalogue.specs.Ids.{Ascend, in_order};
 ghost use Rattle.zone_plans.specs.Members.{joined};

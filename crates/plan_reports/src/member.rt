@@ -1,11 +1,11 @@
-//! A member of a plan, with what is said of it.
+//! A member of a plan, with its causes and holds.
 
 use mcs_reader::Id;
 use std::alloc::Global;
 use std::marker::Model;
 use zone_plans::HoldOn;
 
-/// A member of a plan. A contract sees what each part holds.
+/// A member of a plan. A contract sees the content of each part.
 #[derive(Debug, Drop)]
 pub struct Member {
     step: usize,
@@ -38,7 +38,7 @@ impl Model for Member {
 impl Member {
     ghost use Rattle.std.specs.Prelude.{◌≡◌, []};
 
-    /// A member of which no more is said so far. It takes no memory.
+    /// A member without functions, causes and holds so far.
     pub fn new(alloc: Global, step: usize, id: Id, received: bool) -> Self
         ensures { result ≡ record {
           step = step;
@@ -63,7 +63,7 @@ impl Member {
         }
     }
 
-    /// The same with these functions. It takes no memory.
+    /// Adds these functions.
     pub fn with_fmids(mut self, fmids: Vec<Id>) -> Self
         ensures { result ≡ record self { fmids = fmids.items } }
     {
@@ -71,8 +71,7 @@ impl Member {
         self
     }
 
-    /// The same with why it is there: the holds for which it came, and the other members that need it. It takes no
-    /// memory.
+    /// Adds why it is there: the holds for which it came, and the other members that need it.
     pub fn with_causes(mut self, holds: Vec<HoldOn>, needed_by: Vec<Id>) -> Self
         ensures { result ≡ record self { holds = holds.items; needed_by = needed_by.items } }
     {
@@ -81,7 +80,7 @@ impl Member {
         self
     }
 
-    /// The same with the reasons of the SYSTEM and USER holds on it. It takes no memory.
+    /// Adds the reasons of the SYSTEM and USER holds on it.
     pub fn with_holds_to_heed(mut self, system: Vec<Id>, user: Vec<Id>) -> Self
         ensures { result ≡ record self { system = system.items; user = user.items } }
     {
@@ -118,7 +117,7 @@ impl Member {
         self.received
     }
 
-    /// The holds for which it came: those of which it gives the resolver that is chosen.
+    /// The holds for which it came: those whose chosen resolver it gives.
     pub fn holds(&self) -> &[HoldOn]
         ensures { result.now ≡ self.now.holds }
     {
@@ -132,7 +131,7 @@ impl Member {
         self.needed_by.as_slice()
     }
 
-    /// The reasons of the SYSTEM holds on it, which its installer is to heed.
+    /// The reasons of the SYSTEM holds on it, which its installer should heed.
     pub fn system(&self) -> &[Id]
         ensures { result.now ≡ self.now.system }
     {

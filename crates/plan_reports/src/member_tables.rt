@@ -86,7 +86,7 @@ pub(crate) fn plan_table(
     table.finish()
 }
 
-// With what the title of the plan's text begins.
+// The beginning of the title of the plan's text.
 fn title_of(report: Report) -> &'static [u8]
     ensures { result.now ≡ Spec.title_of report }
 {
@@ -130,7 +130,7 @@ fn member_fields<'a>(
     ]
 }
 
-/// Why each member is there.
+/// The cause of each member.
 pub(crate) fn cause_table(alloc: Global, members: &[Member]) -> Result<Vec<u8>, NoMemory>
     ensures { IfOk result (λ text. text.items ≡ Spec.cause_table members.now) }
 {

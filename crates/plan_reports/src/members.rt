@@ -1,4 +1,4 @@
-//! The members of a plan, with what is said of each.
+//! The members of a plan, with the causes and holds of each.
 ghost use Rattle.std.specs.Prelude.{◌≡◌, List, IfOk};
 ghost use Rattle.zone_lists.specs.declared.zones.ZoneRow.{ZoneRow};
 ghost use Rattle.catalogue.specs.Content.{Content};
@@ -16,16 +16,16 @@ use mcs_reader::Id;
 use std::alloc::Global;
 use zone_plans::ZonePlan;
 
-/// The members of a plan for a zone by step, in each ascending, with what is said of each: its functions, whether it
-/// was received, for which holds it came and which other members need it, and the SYSTEM and USER holds to heed
-/// (IBM z/OS SMP/E Reference, `++VER`, operands FMID, PRE, REQ and SUP, and `++HOLD`). `received` are the SYSMODs
-/// that the client has received.
+/// Lists the members of a plan for a zone by step, in each step ascending. Each has its functions, and whether it
+/// was received. It has the holds for which it came, the other members that need it, and the SYSTEM and USER holds
+/// to heed (IBM z/OS SMP/E Reference, `++VER`, operands FMID, PRE, REQ and SUP, and `++HOLD`). `received` are the
+/// SYSMODs that the client has received.
 ///
-/// All of it is said by what was found for the plan, and no source is asked.
+/// All of it comes from the findings of the plan, and no source is asked.
 ///
 /// # Errors
 ///
-/// `NoMemory` where memory ran out.
+/// `NoMemory` if memory ran out.
 pub fn plan_members(
     alloc: Global,
     received: &[Id],

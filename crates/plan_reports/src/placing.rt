@@ -1,4 +1,4 @@
-//! For each member the places of what it gives.
+//! For each member the indices of what it gives.
 ghost use Rattle.std.specs.Prelude.{◌≡◌, ◌<◌, [], ℕ, List, Contains, IfOk, OnOk, length, option_map, slice_set};
 ghost use Rattle.zone_lists.specs.declared.zones.ZoneRow.{ZoneRow};
 ghost use Rattle.catalogue.specs.Content.{Content};
@@ -15,7 +15,7 @@ use std::alloc::Global;
 use verdicts::index_of;
 use zone_plans::{ChosenResolver, Findings, Reading};
 
-/// For each member the members that need it, by their places: those that need what it gives.
+/// For each member the members that need it, by their indices: those that need what it gives.
 pub(crate) fn needing_rows(
     alloc: Global,
     ids: &[Id],
@@ -31,7 +31,7 @@ pub(crate) fn needing_rows(
     Ok(rows)
 }
 
-// Adds the place of each member to the rows of those that it needs.
+// Adds the index of each member to the rows of those that it needs.
 fn put_members(
     alloc: Global,
     rows: &mut [Vec<usize>],
@@ -54,7 +54,7 @@ fn put_members(
     Ok(())
 }
 
-/// For each member the holds for which it came, by their places.
+/// For each member the holds for which it came, by their indices.
 pub(crate) fn resolving_rows(
     alloc: Global,
     ids: &[Id],
@@ -71,7 +71,7 @@ pub(crate) fn resolving_rows(
     Ok(rows)
 }
 
-// Adds the place of each hold to the rows of the members that give its resolver.
+// Adds the index of each hold to the rows of the members that give its resolver.
 fn put_resolved(
     alloc: Global,
     rows: &mut [Vec<usize>],
@@ -94,7 +94,7 @@ fn put_resolved(
     Ok(())
 }
 
-// As many rows, without a place.
+// As many rows, all empty.
 fn no_places(alloc: Global, count: usize) -> Result<Vec<Vec<usize>>, NoMemory>
     ensures none { IfOk result (λ rows. (q : ℕ) → row (places_of rows.items) q ≡ []) }
     ensures len { IfOk result (λ rows. length rows.items ≡ count) }
@@ -106,7 +106,7 @@ fn no_places(alloc: Global, count: usize) -> Result<Vec<Vec<usize>>, NoMemory>
     Ok(rows)
 }
 
-// Adds a place to the rows of the members that give one of some needs.
+// Adds an index to the rows of the members that give one of some needs.
 fn put_needs(
     rows: &mut [Vec<usize>],
     ids: &[Id],
@@ -130,7 +130,7 @@ fn put_needs(
     Ok(())
 }
 
-// Adds a place to the rows of the members that an answer has, and to none for what is there.
+// Adds an index to the rows of the members in an answer, and to none for a need that is there.
 fn put_answer(
     rows: &mut [Vec<usize>],
     ids: &[Id],
@@ -149,7 +149,7 @@ fn put_answer(
     }
 }
 
-// Adds a place to the rows of the members that stand among some ids.
+// Adds an index to the rows of the members that are among some ids.
 fn put_all(rows: &mut [Vec<usize>], ids: &[Id], list: &[Id], place: usize) -> Result<(), NoMemory>
     requires ascend { Ascend ids.now }
     requires len { length rows.old ≡ length ids.now }
@@ -186,7 +186,7 @@ fn put_at(rows: &mut [Vec<usize>], index: usize, place: usize) -> Result<(), NoM
     Ok(())
 }
 
-// Adds a place, unless it is the last one.
+// Adds an index, unless it is the last one.
 fn put_once(places: &mut Vec<usize>, place: usize) -> Result<(), NoMemory>
     ensures { OnOk result (places.new.items ≡ with_once places.old.items place) }
 {

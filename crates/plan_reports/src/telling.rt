@@ -1,4 +1,4 @@
-//! What is told of the members, step by step.
+//! The members, step by step.
 ghost use Rattle.std.specs.Prelude.{◌≡◌, ◌++◌, [], ℕ, List, Contains, IfOk, OnOk, filter, map, not};
 ghost use Rattle.std.specs.List.{cons_option, slice_get};
 ghost use Rattle.zone_lists.specs.declared.zones.ZoneRow.{ZoneRow};
@@ -67,7 +67,7 @@ fn push_step(
     Ok(())
 }
 
-// Where an id stands.
+// The index of an id.
 fn place_of(ids: &[Id], id: &Id) -> usize
     requires ascend { Ascend ids.now }
     requires listed { Contains ids.now id.now }
@@ -79,7 +79,7 @@ fn place_of(ids: &[Id], id: &Id) -> usize
     }
 }
 
-// What is told of the member at an index.
+// The member at an index.
 fn told_at(
     alloc: Global,
     received: &[Id],
@@ -104,7 +104,7 @@ fn told_at(
     Ok(read.with_causes(holds, needed_by))
 }
 
-// The same with what was read of it.
+// Adds what was read of it.
 fn with_reading(alloc: Global, member: Member, reading: &Reading) -> Result<Member, NoMemory>
     ensures { IfOk result (λ told. told ≡ record member {
       fmids = reading.now.fmids;
@@ -128,7 +128,7 @@ fn row_at(rows: &[Vec<usize>], index: usize) -> &[usize]
     }
 }
 
-// The holds at some places.
+// The holds at some indices.
 fn holds_at(
     alloc: Global,
     resolved: &[ChosenResolver],
@@ -159,7 +159,7 @@ fn push_hold(holds: &mut Vec<HoldOn>, one: Option<ChosenResolver>) -> Result<(),
     Ok(())
 }
 
-// The ids at some places but for one.
+// The ids at some indices but for one.
 fn others_at(alloc: Global, ids: &[Id], id: &Id, places: &[usize]) -> Result<Vec<Id>, NoMemory>
     ensures { IfOk result (λ others. others.items ≡ others_at ids.now id.now places.now) }
 {

@@ -11,11 +11,12 @@ use questions::Report;
 use std::alloc::Global;
 use zone_plans::ZonePlan;
 
-/// A plan for a report on a zone, as text: six tables, one after the other, each with its title, a heading, its rows
+/// Prints a plan for a report on a zone: six tables, one after the other, each with its title, a heading, its rows
 /// and their count. Each line ends with LF.
 ///
-/// The tables are the members by step, why each is there, the SYSTEM and USER holds to heed, the holds without a
-/// resolver that is GOOD or HELD, those of which none is GOOD, and what blocks the resolvers that are HELD.
+/// The first three tables are the members by step, why each is there, and the SYSTEM and USER holds to heed. The
+/// others are the holds without a resolver that is GOOD or HELD, those without a GOOD one, and the needs that block
+/// the resolvers that are HELD.
 ///
 /// # Errors
 ///

@@ -1,4 +1,4 @@
-//! A plan in print or as JSON, with what is said of its members.
+//! A plan in print or as JSON, with the causes and holds of its members.
 ghost use Rattle.std.specs.Prelude.{◌≡◌, List, IfOk};
 ghost use Rattle.zone_lists.specs.declared.zones.ZoneRow.{ZoneRow};
 ghost use Rattle.catalogue.specs.Content.{Content};

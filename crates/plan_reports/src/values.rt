@@ -1,4 +1,4 @@
-//! What a plan names, as JSON values.
+//! The parts of a plan, as JSON values.
 ghost use Rattle.std.specs.Prelude.{◌≡◌, IfOk, map};
 ghost use Rattle.serde_json.specs.Data.{Data};
 ghost use Rattle.serde_json.specs.View.{items_of, items_view, view};
@@ -13,7 +13,7 @@ use serde_json::{Value, json};
 use std::alloc::Global;
 use zone_plans::{ChosenResolver, HoldOn};
 
-/// What has a value of its own.
+/// A type with a value of its own.
 pub(crate) trait ToValue {
     /// The data that its value stands for.
     ghost data_of: { Self → Data };
@@ -22,7 +22,7 @@ pub(crate) trait ToValue {
         ensures { IfOk result (λ value. view value ≡ data_of self.now) };
 }
 
-/// The values of some, in their order.
+/// The values of some items, in their order.
 pub(crate) fn values_of<T: ToValue>(alloc: Global, items: &[T]) -> Result<Vec<Value>, NoMemory>
     ensures { IfOk result (λ values. items_view values.items ≡ items_of (map T.data_of items.now)) }
 {
@@ -86,7 +86,7 @@ impl ToValue for Member {
     }
 }
 
-// An id, or null where there is none.
+// An id, or null if there is none.
 fn id_value(alloc: Global, id: &Option<Id>) -> Result<Value, NoMemory>
     ensures { IfOk result (λ value. view value ≡ Spec.id_data id.now) }
 {

@@ -1,6 +1,6 @@
 //! Tests of the program: worked sources and requests, lines of words, stores, and files that are interrupted.
 //!
-//! They stand in a crate of their own, since a crate with tests is proved twice by the gate.
+//! They have a crate of their own, since the gate proves a crate with tests twice.
 #![tactic(auto)]
 
 #[cfg(test)]

@@ -11,7 +11,7 @@ full_year yy = if nat_lt yy 70 then 2000 + yy else 1900 + yy
 abbrev pub is_leap : ℕ → Bool
 is_leap yy = yy % 4 == 0
 
--- how many days each month has
+-- the number of days of each month
 abbrev pub month_lengths : Bool → List ℕ
 month_lengths leap = 31 ∷ (if leap then 29 else 28) ∷ 31 ∷ 30 ∷ 31 ∷ 30 ∷ 31 ∷ 31 ∷ 30 ∷ 31 ∷ 30 ∷ 31 ∷ []
 
@@ -45,7 +45,7 @@ abbrev pub day_data : ℕ → Option (ℕ × ℕ) → Data
 day_data year None = null
 day_data year (Some day) = string (day_text year day)
 
--- the date of a hold, or null where it has none
+-- the date of a hold, or null if it has none
 abbrev pub date_data : Option ℕ → Data
 date_data None = null
 date_data (Some date) = day_data (full_year (date / 1000)) (day_in (month_lengths (is_leap (date / 1000))) 1 (date % 1000))

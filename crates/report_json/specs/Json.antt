@@ -18,33 +18,33 @@ use Rattle.report_json.specs.Dates.{date_data}
 
 -- ---- fields
 
--- an id, or null where there is none
+-- an id, or null if there is none
 abbrev pub id_data : Option (List ℕ) → Data
 id_data None = null
 id_data (Some id) = string (text_of id)
 
--- the status of a resolver as the text has it, or null where there is no resolver
+-- the status of a resolver as the text has it, or null if there is no resolver
 abbrev pub status_data : Option Status → Data
 status_data None = null
 status_data (Some status) = string (status_field (Some status))
 
--- whether the resolver was received, or null where there is none
+-- whether the resolver was received, or null if there is none
 abbrev pub received_data : Option Bool → Data
 received_data None = null
 received_data (Some received) = boolean received
 
--- a category; those of the bureau have ASCII alone, and stand as they are
+-- a category; those of the bureau have only ASCII, and are written as they are
 abbrev pub category_data : List ℕ → Data
 category_data category = string (utf8_lossy category)
 
--- the functions of a SYSMOD by its record, whether they are installed or not, or null where it has no record
+-- the functions of a SYSMOD by its record, whether they are installed or not, or null if it has no record
 abbrev pub fmids_data : Option Sysmod → Data
 fmids_data None = null
 fmids_data (Some sysmod) = array (texts sysmod.fmids)
 
 -- ---- the exception SYSMOD report
 
--- a row, by its hold and what is said of its resolver: the columns of the text, and the date of the hold
+-- a row, by its hold and the status of its resolver: the columns of the text, and the date of the hold
 abbrev pub err_data_with : Hold → Option (List ℕ) → Option Status → Option Bool → Data
 err_data_with hold resolver status received =
     object (member (codes "class") (id_data hold.class)
@@ -63,7 +63,8 @@ err_data line =
 
 -- ---- the missing fix report
 
--- a row, by its category, its hold and what is said of its resolver: the columns of the text, and the class and the date of the hold
+-- a row, by its category, its hold and the status of its resolver: the columns of the text, and the class and the date of
+-- the hold
 abbrev pub missing_data_with : List ℕ → Hold → Option (List ℕ) → Option Status → Option Bool → Data
 missing_data_with category hold resolver status received =
     object (member (codes "category") (category_data category)
@@ -132,7 +133,7 @@ missing_json_of content zone patterns helds =
     (map missing_data (missing_lines_of patterns helds))
     (map (sysmod_data content) (sysmods_in helds)))
 
--- a zone, and how many SYSMODs its list has
+-- a zone, and the number of its rows
 abbrev pub zone_data : List ℕ × ℕ → Data
 zone_data zone = object (member (codes "sysmods") (number (unsigned zone.1)) (member (codes "zone") (string (text_of zone.0)) no_members))
 
@@ -143,7 +144,7 @@ zones_data zones = object (member (codes "zones") (array (items_of (map zone_dat
 abbrev pub zones_json_of : List (List ℕ × ℕ) → List ℕ
 zones_json_of zones = compact_text (zones_data zones)
 
--- how many SYSMODs and how many holds are published
+-- the numbers of SYSMODs and of holds that are published
 abbrev pub published_data : ℕ → ℕ → Data
 published_data sysmods holds = object (member (codes "holds") (number (unsigned holds)) (member (codes "sysmods") (number (unsigned sysmods)) no_members))
 

@@ -9,7 +9,7 @@ use itoa::Buffer;
 use serde_json::Value;
 use std::alloc::Global;
 
-/// The date of a hold, `YYYY-MM-DD`, or null where it has none, or one that no calendar has.
+/// The date of a hold, `YYYY-MM-DD`, or null if it has none, or one that no calendar has.
 pub(crate) fn date_value(alloc: Global, date: Option<Date>) -> Result<Value, NoMemory>
     ensures { IfOk result (λ value. view value ≡ Spec.date_data date) }
 {
@@ -33,7 +33,7 @@ fn full_year(yy: u32) -> u32
     if yy < 70 { 2000 + yy } else { 1900 + yy }
 }
 
-// How many days each month has.
+// The number of days of each month.
 fn month_lengths(leap: bool) -> [u32; 12]
     ensures { result ≡ Spec.month_lengths leap }
 {

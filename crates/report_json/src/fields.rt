@@ -13,7 +13,7 @@ use serde_json::Value;
 use std::alloc::Global;
 use verdicts::Status;
 
-/// An id, or null where there is none.
+/// An id, or null if there is none.
 pub(crate) fn id_value(alloc: Global, id: &Option<Id>) -> Result<Value, NoMemory>
     ensures { IfOk result (λ value. view value ≡ Spec.id_data id.now) }
 {
@@ -23,7 +23,7 @@ pub(crate) fn id_value(alloc: Global, id: &Option<Id>) -> Result<Value, NoMemory
     }
 }
 
-/// The status of a resolver, or null where there is none.
+/// The status of a resolver, or null if there is none.
 pub(crate) fn status_value(alloc: Global, status: Option<Status>) -> Result<Value, NoMemory>
     ensures { IfOk result (λ value. view value ≡ Spec.status_data status) }
 {
@@ -35,7 +35,7 @@ pub(crate) fn status_value(alloc: Global, status: Option<Status>) -> Result<Valu
     }
 }
 
-/// Whether a resolver was received, or null where there is none.
+/// Whether a resolver was received, or null if there is none.
 pub(crate) fn received_value(received: Option<bool>) -> Value
     ensures { view result ≡ Spec.received_data received }
 {
@@ -71,7 +71,7 @@ fn category_values(alloc: Global, categories: &[&[u8]]) -> Result<Vec<Value>, No
     Ok(values)
 }
 
-/// The functions of a SYSMOD by its record, or null where it has none.
+/// The functions of a SYSMOD by its record, or null if it has none.
 pub(crate) fn fmids_value(alloc: Global, sysmod: &Option<Sysmod>) -> Result<Value, NoMemory>
     ensures { IfOk result (λ value. view value ≡ Spec.fmids_data sysmod.now) }
 {

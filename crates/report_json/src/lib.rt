@@ -3,7 +3,7 @@
 //! - [`err_json`]: the exception SYSMOD report on a zone
 //! - [`missing_json`]: the missing fix report on a zone
 //! - [`zones_json`]: a client's zones
-//! - [`published_json`]: how much is published
+//! - [`published_json`]: the counts of what is published
 //!
 //! ```
 //! use report_json::published_json;

@@ -9,8 +9,8 @@ use mcs_reader::Id;
 use serde_json::{Value, json};
 use std::alloc::Global;
 
-/// A client's zones as compact JSON: an object with `zones`, a list of objects. Each has `zone`, and
-/// `sysmods`, which is how many SYSMODs its list has.
+/// Prints a client's zones as compact JSON: an object with `zones`, a list of objects. Each has `zone`,
+/// and `sysmods`, which is the number of its rows.
 ///
 /// # Errors
 ///
@@ -22,7 +22,8 @@ pub fn zones_json(alloc: Global, zones: &[(Id, u64)]) -> Result<Vec<u8>, NoMemor
     compact(alloc, &value)
 }
 
-/// How much is published as compact JSON: an object with `holds` and `sysmods`, which are numbers.
+/// Prints the counts of what is published as compact JSON: an object with `holds` and `sysmods`, which
+/// are numbers.
 ///
 /// # Errors
 ///

@@ -17,23 +17,23 @@ use serde_json::{Value, json};
 use std::alloc::Global;
 use zone_lists::Pattern;
 
-/// The exception SYSMOD report on a zone as compact JSON: an object with `report`, which is `errsysmods`,
-/// `rows`, `sysmods` and `zone`. Keys ascend in each object, and no line end stands after it. The rows are the lines
-/// of the holds in the report's order.
+/// Prints the exception SYSMOD report on a zone as compact JSON: an object with `report`, which is `errsysmods`,
+/// `rows`, `sysmods` and `zone`. Keys ascend in each object, and no line end comes after it. The rows are the lines of
+/// the holds in the report's order.
 ///
-/// A row has the columns of the text, `class`, `fmid`, `reason`, `received`, `resolver`, `status` and
-/// `sysmod`, and the `date` of its hold. `received` is true or false. What is absent is null. In the row of
-/// a hold without a resolver, `received`, `resolver` and `status` are null.
+/// A row has the columns of the text, `class`, `fmid`, `reason`, `received`, `resolver`, `status` and `sysmod`, and
+/// the `date` of its hold. `received` is true or false. An absent field is null. In the row of a hold without a
+/// resolver, `received`, `resolver` and `status` are null.
 ///
-/// A `date` is `YYYY-MM-DD`, in one of the years 1970 to 2069. It is null where the hold has no DATE, and
-/// where its DATE is a day that no calendar has, which is day 366 of a year with 365.
+/// A `date` is `YYYY-MM-DD`, in one of the years 1970 to 2069. It is null if the hold has no DATE, or if its DATE is a
+/// day that no calendar has, which is day 366 of a year with 365.
 ///
-/// `sysmods` has each held SYSMOD of the rows once, in ascending order: `fmids`, which are the functions
-/// that its record names, or null where it is not published, and `sysmod`.
+/// `sysmods` has each held SYSMOD of the rows once, in ascending order: `fmids`, which are the functions that its
+/// record names, or null if it is not published, and `sysmod`.
 ///
 /// # Errors
 ///
-/// `Memory` where memory ran out, `Device` where the source failed.
+/// `Memory` if memory ran out, `Device` if the source failed.
 pub fn err_json<P: Published>(
     alloc: Global,
     source: &mut P,
@@ -81,7 +81,7 @@ fn err_values(alloc: Global, lines: &[Line]) -> Result<Vec<Value>, NoMemory>
     Ok(values)
 }
 
-/// The missing fix report on a zone, as [`err_json`]: `holds`, `report`, which is `missingfix`, `rows`,
+/// Prints the missing fix report on a zone, as [`err_json`] does: `holds`, `report`, which is `missingfix`, `rows`,
 /// `sysmods` and `zone`.
 ///
 /// A row has `category`, `class` and `date`, which are those of its hold, `reason`, `received`, `resolver`,

@@ -15,7 +15,7 @@ abbrev pub texts : List (List ℕ) → Items
 texts [] = no_items
 texts (id ∷ ids) = item (string (text_of id)) (texts ids)
 
--- the reasons of the holds of a kind, which an installer is to heed; they don't bear on the verdict
+-- the reasons of the holds of a kind, which an installer should heed; they don't bear on the verdict
 abbrev pub reasons_in : Kind → List Hold → List (List ℕ)
 reasons_in kind holds = map (λ hold. hold.key.reason) (filter (λ hold. kind_order hold.key.kind == kind_order kind) holds)
 
@@ -33,12 +33,12 @@ abbrev pub plan_items : Content → List (List ℕ) → Items
 plan_items content [] = no_items
 plan_items content (id ∷ ids) = item (plan_member content id) (plan_items content ids)
 
--- the members that every verdict has: what it says, of which SYSMOD, in which zone
+-- the members that every verdict has: the status, the SYSMOD, the zone
 abbrev pub verdict_members : List ℕ → List ℕ → List ℕ → Members
 verdict_members status sysmod zone =
     member (codes "status") (string status) (member (codes "sysmod") (string (text_of sysmod)) (member (codes "zone") (string (text_of zone)) no_members))
 
--- a verdict, with the members of its plan, with what blocks it, or with neither
+-- a verdict, with the members of its plan, with the need that blocks it, or with neither
 abbrev pub good_data : List ℕ → List ℕ → Items → Data
 good_data zone sysmod plan = object (member (codes "plan") (array plan) (verdict_members (codes "GOOD") sysmod zone))
 

@@ -1,5 +1,5 @@
--- The rows of the exception SYSMOD report (IBM z/OS SMP/E Commands, REPORT ERRSYSMODS): which installed SYSMODs
--- have since been held in error, and what resolves that.
+-- The rows of the exception SYSMOD report (IBM z/OS SMP/E Commands, REPORT ERRSYSMODS): the installed SYSMODs that have
+-- since been held in error, and the SYSMODs that resolve that.
 use Rattle.std.specs.Prelude.{◌≡◌, ℕ, not, List, [], Option, filter, map, option_map}
 use Rattle.std.specs.BTreeSet.{insert_key}
 use Rattle.std.specs.List.{flat_map, fold}
@@ -49,8 +49,8 @@ err_rows_of content rows received holds =
     flat_map (err_rows_of_hold content rows received)
     (filter (λ hold. not (is_there content rows hold.key.reason)) (by_fmid holds))
 
--- rows by the FMID of the hold, an absent one first, then by SYSMOD, reason and resolver; the class stands before the
--- resolver, and decides only where two holds have the first three, which no two ERROR holds in force do
+-- rows by the FMID of the hold, an absent one first, then by SYSMOD, reason and resolver; the class comes before the
+-- resolver, and decides only if two holds have the first three, which no two ERROR holds in force do
 abbrev pub err_row_cmp : ErrRow → ErrRow → Ordering
 err_row_cmp a b =
     ordering_then (option_cmp id_cmp a.fmid b.fmid)

@@ -23,12 +23,12 @@ use Rattle.reports.specs.declared.missing.MissingHeld.{MissingHeld}
 
 -- ---- what is asked, and what resolves a hold
 
--- what is asked for: its reason, and its resolver where it has one
+-- the SYSMODs that are asked for: its reason, and its resolver if it has one
 abbrev pub named_by : By → Hold → List (List ℕ)
 named_by Reason hold = hold.key.reason ∷ []
 named_by ReasonOrResolver hold = hold.key.reason ∷ cons_option hold.resolver []
 
--- what is known of the candidates for a reason, and of the SYSMODs by a resolver, unless one is there
+-- the candidates for a reason and the SYSMODs for a resolver, unless one of the two is there
 abbrev pub both_of : Option (List (List ℕ)) → Option (List (List ℕ)) → Option (List (List ℕ))
 both_of None by_resolver = None
 both_of (Some by_reason) None = None
@@ -38,7 +38,7 @@ abbrev pub unless_resolver_there : Content → List ZoneRow → Option (List ℕ
 unless_resolver_there content rows resolver =
     if is_resolver_there content rows resolver then None else Some (resolvers_by content rows resolver)
 
--- what resolves it, unless it is resolved already
+-- the SYSMODs that resolve it, unless it is resolved already
 abbrev pub resolved_by : By → Content → List ZoneRow → Hold → Option (List (List ℕ))
 resolved_by Reason content rows hold = unless_there content rows hold.key.reason
 resolved_by ReasonOrResolver content rows hold =
@@ -46,7 +46,7 @@ resolved_by ReasonOrResolver content rows hold =
 
 -- ---- holds with what resolves each
 
--- A hold with what resolves it, before it is known what is said of that.
+-- A hold with the SYSMODs that resolve it, before their verdicts are known.
 pub record FoundLists : Type 0 where
   pub hold : Hold
   pub ids : List (List ℕ)
@@ -77,7 +77,7 @@ error_cmp a b =
     ordering_then (option_cmp id_cmp a.fmid b.fmid)
     (ordering_then (id_cmp a.sysmod b.sysmod) (ordering_then (id_cmp a.reason b.reason) (option_cmp id_cmp a.class b.class)))
 
--- groups, each put under what it is ordered by
+-- groups, each under its order
 abbrev pub put_errors : List (ErrorHeld × GroupParts) → List GroupParts → List (ErrorHeld × GroupParts)
 put_errors entries groups = fold (λ old group. insert_entry error_cmp old (error_held group.hold) group) entries groups
 

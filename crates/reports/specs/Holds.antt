@@ -12,12 +12,12 @@ use Rattle.reports.specs.MissingRows.{is_missing, resolvers_of}
 use Rattle.reports.specs.Resolvers.{candidates_for, is_received, status_in}
 use Rattle.reports.specs.declared.holds.Resolver.{Resolver}
 
--- A hold of a report as contracts see it, and what resolves it.
+-- A hold of a report as contracts see it, and its resolvers.
 pub record HoldLists : Type 0 where
   pub hold : Hold
   pub resolvers : List Resolver
 
--- a SYSMOD that resolves a hold, with what is said of it
+-- a SYSMOD that resolves a hold, with its status
 abbrev pub resolver_by : (List ℕ → Status) → List (List ℕ) → List ℕ → Resolver
 resolver_by status received id = record { id = id; status = status id; received = is_received received id }
 
@@ -35,8 +35,8 @@ err_holds_of content rows received holds =
 abbrev pub is_asked : List (List ℕ) → Hold → Bool
 is_asked patterns hold = list_any (λ category. list_any (λ pattern. does_match pattern category) patterns) hold.categories
 
--- the holds of the missing fix report, in their order: those with a category that a pattern matches, where neither the reason nor
--- the resolver is there
+-- the holds of the missing fix report, in their order: those with a category that a pattern matches, if neither the reason
+-- nor the resolver is there
 abbrev pub missing_holds_of : Content → List ZoneRow → List (List ℕ) → List (List ℕ) → List Hold → List HoldLists
 missing_holds_of content rows received patterns holds =
     map (λ hold. held_by (status_in content rows) received hold (resolvers_of content rows hold))

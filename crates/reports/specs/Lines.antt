@@ -16,15 +16,15 @@ use Rattle.reports.specs.declared.holds.Resolver.{Resolver}
 use Rattle.reports.specs.declared.rows.ErrRow.{ErrRow}
 use Rattle.reports.specs.declared.rows.MissingRow.{MissingRow}
 
--- A line of a report as contracts see it: a hold, one of the SYSMODs that resolve it, or none, and in the missing fix report the fix
--- category of which it speaks.
+-- A line of a report as contracts see it: a hold, and one of the SYSMODs that resolve it, or none. In the missing fix report
+-- it also has a fix category of the hold.
 pub record LineParts : Type 0 where
   pub category : List ℕ
   pub hold : Hold
   pub resolver : Option Resolver
 
--- What a report says of a hold, in the missing fix report by a category of it: a line of each resolver, or one that says that there
--- is none.
+-- A hold as a report has it, in the missing fix report under one of its categories: a line for each resolver, or one that
+-- says that there is none.
 pub record GroupParts : Type 0 where
   pub category : List ℕ
   pub hold : Hold
@@ -39,7 +39,7 @@ line_of group resolver = record { category = group.category; hold = group.hold; 
 abbrev pub lines_of : GroupParts → List LineParts
 lines_of group = map (line_of group) (each_or_none group.resolvers)
 
--- the lines of groups in their order; of two that stand at one place in it the later counts
+-- the lines of groups in their order; of two with the same place in it the later one counts
 abbrev pub lines_by : (GroupParts → GroupParts → Ordering) → List GroupParts → List LineParts
 lines_by order groups = flat_map lines_of (fold (replace_key order) [] groups)
 
@@ -73,7 +73,7 @@ ErrRowsAreLines = (content : Content) (rows : List ZoneRow) (received : List (Li
 abbrev pub missing_order : GroupParts → GroupParts → Ordering
 missing_order a b = missing_cmp (record { category = a.category; hold = a.hold }) (record { category = b.category; hold = b.hold })
 
--- of a hold each category that a pattern matches
+-- each category of a hold that a pattern matches
 abbrev pub missing_groups : List (List ℕ) → HoldLists → List GroupParts
 missing_groups patterns held =
     map (λ category. group_of category held) (filter (λ category. list_any (λ pattern. does_match pattern category) patterns) held.hold.categories)

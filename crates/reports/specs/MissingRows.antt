@@ -1,5 +1,5 @@
--- The rows of the missing fix report (IBM z/OS SMP/E Commands, REPORT MISSINGFIX): which fixes of the chosen
--- categories a zone lacks.
+-- The rows of the missing fix report (IBM z/OS SMP/E Commands, REPORT MISSINGFIX): the fixes of the chosen categories that a
+-- zone lacks.
 use Rattle.std.specs.Prelude.{◌≡◌, ℕ, ◌||◌, ◌++◌, Bool, false, not, List, [], ◌∷◌, Option, Some, None, filter, map, option_map}
 use Rattle.std.specs.BTreeSet.{insert_key}
 use Rattle.std.specs.Cmp.Lexicographic.{slice_cmp}
@@ -49,7 +49,7 @@ categories_asked patterns hold =
     map (λ category. record { category = category; hold = hold })
     (filter (λ category. list_any (λ pattern. does_match pattern category) patterns) hold.categories)
 
--- what resolves a hold: its resolver, and each candidate that gives its reason or its resolver
+-- the SYSMODs that resolve a hold: its resolver, and each candidate that gives its reason or its resolver
 abbrev pub resolvers_by : Content → List ZoneRow → Option (List ℕ) → List (List ℕ)
 resolvers_by content rows None = []
 resolvers_by content rows (Some resolver) = candidates_for content rows resolver ++ resolver ∷ []
@@ -72,8 +72,8 @@ abbrev pub missing_rows_of_category : Content → List ZoneRow → List (List �
 missing_rows_of_category content rows received missing =
     map (missing_row content rows received missing) (each_or_none (resolvers_of content rows missing.hold))
 
--- the rows of the report, of the FIXCAT holds on SYSMODs that are installed: of each category that a pattern matches,
--- where neither the reason nor the resolver is there
+-- the rows of the report, from the FIXCAT holds on installed SYSMODs: for each category that a pattern matches, if neither
+-- the reason nor the resolver is there
 abbrev pub missing_rows_of : Content → List ZoneRow → List (List ℕ) → List (List ℕ) → List Hold → List MissingRow
 missing_rows_of content rows received patterns holds =
     flat_map (missing_rows_of_category content rows received)
@@ -84,7 +84,7 @@ abbrev pub missing_row_cmp : MissingRow → MissingRow → Ordering
 missing_row_cmp a b =
     ordering_then (slice_cmp nat_cmp a.category b.category) (ordering_then (id_cmp a.sysmod b.sysmod) (id_cmp a.reason b.reason))
 
--- no row of the report stands after one that is greater, and the resolvers in the rows of one hold ascend
+-- no row of the report comes after one that is greater, and the resolvers in the rows of one hold ascend
 pub record MissingRowsAscend : Type 0 where
   pub rows : (content : Content) (rows : List ZoneRow) (received patterns : List (List ℕ)) (holds : List Hold)
       → StandInOrder (λ row later. missing_row_cmp row later ≡ Greater → ⊥) (missing_rows_of content rows received patterns holds)

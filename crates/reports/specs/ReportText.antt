@@ -8,7 +8,7 @@ use Rattle.reports.specs.declared.rows.MissingRow.{MissingRow}
 use Rattle.verdicts.specs.declared.verdict.Status.{Status}
 use Rattle.verdicts.specs.declared.verdict.Status.TheVariants.{Good, Held, Lack}
 
--- what stands for a resolver: its id, or that there is none
+-- the field of a resolver: its id, or that there is none
 abbrev pub resolver_field : Option (List ℕ) → List ℕ
 resolver_field None = codes "- NONE -"
 resolver_field (Some id) = text_of id
@@ -42,7 +42,7 @@ missing_columns =
     (1, codes "CATEGORY") ∷ (67, codes "FMID") ∷ (76, codes "REASON") ∷ (85, codes "RESOLVER") ∷ (94, codes "STATUS")
     ∷ (101, codes "RECEIVED") ∷ []
 
--- the held SYSMOD stands in the column FMID
+-- the held SYSMOD is in the column FMID
 abbrev pub missing_fields : MissingRow → List (List ℕ)
 missing_fields row =
     row.category ∷ text_of row.sysmod ∷ text_of row.reason ∷ resolver_field row.resolver ∷ status_field row.status

@@ -1,4 +1,4 @@
--- What a report says of the SYSMODs that resolve a hold.
+-- The SYSMODs that resolve a hold, as a report has them.
 use Rattle.std.specs.Prelude.{◌≡◌, ℕ, Bool, true, List, [], ◌∷◌, Option, Some, None, filter, map, option_map, if◌then◌else◌}
 use Rattle.std.specs.Global.{Vec}
 use Rattle.std.specs.List.{AllByRecursion, list_any}
@@ -26,7 +26,7 @@ abbrev pub candidates_for : Content → List ZoneRow → List ℕ → List (List
 candidates_for content rows id =
     filter (λ giver. is_candidate content rows giver) (filter (λ giver. gives content giver id) (ids_of content))
 
--- what the rows of a hold name: each of its resolvers, or, in one row, that there is none
+-- the resolvers in the rows of a hold: each of them, or, in one row, none
 abbrev pub each_or_none : {A : Type 0} → List A → List (Option A)
 each_or_none [] = None ∷ []
 each_or_none (first ∷ more) = map Some (first ∷ more)
@@ -35,15 +35,15 @@ each_or_none (first ∷ more) = map Some (first ∷ more)
 abbrev pub unless_there : Content → List ZoneRow → List ℕ → Option (List (List ℕ))
 unless_there content rows id = if is_there content rows id then None else Some (candidates_for content rows id)
 
--- each of some ids stands among others
+-- each of some ids is among others
 abbrev pub AreAmong : List (List ℕ) → List (List ℕ) → Type 0
 AreAmong ids others = (id : List ℕ) → has ids id ≡ true → has others id ≡ true
 
--- what was answered for the ids that were asked for
+-- the answers for the ids that were asked for
 abbrev pub AreAnswers : Content → List ZoneRow → List (List ℕ) → List (Option (Vec Id)) → Type 0
 AreAnswers content rows asked answers = map (option_map (λ ids. ids.items)) answers ≡ map (candidates_unless_there content rows) asked
 
--- each row stands before those after it
+-- each row comes before those after it
 abbrev pub StandInOrder : {Row : Type 0} → (Row → Row → Type 0) → List Row → Type 0
 StandInOrder Before [] = Unit {0}
 StandInOrder Before (row ∷ rows) = AllByRecursion (Before row) rows × StandInOrder Before rows

@@ -1,4 +1,4 @@
-//! What was told of the SYSMODs that were asked for, each by its place among them.
+//! The answers for SYSMODs that were asked for, each by its index among them.
 ghost use Rattle.std.specs.Prelude.{◌≡◌, true, ℕ, List, Option, Some, map, option_map, OnOk};
 ghost use Rattle.std.specs.List.{slice_get};
 ghost use Rattle.std.specs.Global.{Vec};
@@ -13,8 +13,7 @@ use std::collections::BTreeSet;
 use supersede::index_among;
 use verdicts::Status;
 
-/// The candidates that were found for one of the SYSMODs that were asked for, or what is handed for another. It takes no
-/// memory.
+/// The candidates that were found for `id`; `other` if it isn't among the SYSMODs that were asked for.
 pub fn answer_among<'a>(
     asked: &[Id],
     answers: &'a [Option<Vec<Id>>],
@@ -45,7 +44,7 @@ fn answer_at<'a>(
     }
 }
 
-/// What gives one of the SYSMODs that were asked for, or what is handed for another. It takes no memory.
+/// The SYSMODs that give `id`; `other` if it isn't among the SYSMODs that were asked for.
 pub fn list_among<'a>(
     asked: &[Id],
     lists: &'a [Vec<Id>],
@@ -71,7 +70,7 @@ fn list_at<'a>(lists: &'a [Vec<Id>], other: &'a Vec<Id>, at: usize) -> &'a Vec<I
     }
 }
 
-/// The verdict that was given on one of the SYSMODs that were asked for.
+/// The status of one of the SYSMODs that were asked for.
 pub(crate) fn status_among(asked: &[Id], statuses: &[Status], id: &Id) -> Status
     requires { Ascend asked.now }
     ensures { (f : List ℕ → Status) → statuses.now ≡ map f asked.now
@@ -92,7 +91,7 @@ fn status_at(statuses: &[Status], at: usize) -> Status
     }
 }
 
-/// Whether a SYSMOD stands among others.
+/// Whether a SYSMOD is among others.
 pub fn is_among(ids: &[Id], id: &Id) -> bool
     requires { Ascend ids.now }
     ensures { result ≡ has ids.now id.now }
@@ -100,11 +99,11 @@ pub fn is_among(ids: &[Id], id: &Id) -> bool
     index_among(ids, id).is_some()
 }
 
-/// Puts ids among others, in order.
+/// Adds ids, in order.
 ///
 /// # Errors
 ///
-/// `NoMemory` where memory ran out.
+/// `NoMemory` if memory ran out.
 pub fn put_all(found: &mut BTreeSet<Id>, ids: &[Id]) -> Result<(), NoMemory>
     ensures { OnOk result (found.new.keys ≡ put_among found.old.keys ids.now) }
 {

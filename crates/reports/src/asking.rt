@@ -1,4 +1,4 @@
-//! What is asked for a hold, and what resolves it by the answers.
+//! The SYSMODs that are asked for on behalf of a hold, and its resolvers by the answers.
 ghost use Rattle.std.specs.Prelude.{◌≡◌, ◌++◌, ◌∷◌, [], true, List, option_map, IfOk, IfSome, OnOk};
 ghost use Rattle.std.specs.List.{cons_option};
 ghost use Rattle.zone_lists.specs.declared.zones.ZoneRow.{ZoneRow};
@@ -15,7 +15,7 @@ use mcs_reader::Id;
 use std::alloc::Global;
 use std::collections::BTreeSet;
 
-/// By what a report finds the SYSMODs that resolve a hold.
+/// The relation of a hold to the SYSMODs that resolve it.
 #[derive(Clone, Copy)]
 pub(crate) enum By {
     /// They give its reason.
@@ -27,7 +27,7 @@ pub(crate) enum By {
 /// The candidates that give a SYSMOD, ascending, unless it is there.
 pub(crate) type Answer = Option<Vec<Id>>;
 
-/// Puts the SYSMODs that are asked for among others, in order.
+/// Adds the SYSMODs that are asked for, in order.
 pub(crate) fn put_named(by: By, hold: &Hold, ids: &mut BTreeSet<Id>) -> Result<(), NoMemory>
     ensures { OnOk result (ids.new.keys ≡ put_among ids.old.keys (Spec.named_by by hold.now)) }
 {
@@ -38,7 +38,7 @@ pub(crate) fn put_named(by: By, hold: &Hold, ids: &mut BTreeSet<Id>) -> Result<(
     }
 }
 
-// Puts an id among others, in order, if there is one.
+// Adds an id, in order, if there is one.
 fn put_any(ids: &mut BTreeSet<Id>, id: Option<Id>) -> Result<(), NoMemory>
     ensures { OnOk result (ids.new.keys ≡ put_among ids.old.keys (cons_option id [])) }
 {
@@ -48,7 +48,8 @@ fn put_any(ids: &mut BTreeSet<Id>, id: Option<Id>) -> Result<(), NoMemory>
     Ok(())
 }
 
-/// What resolves a hold, by what was answered for each SYSMOD that was asked for, unless it is resolved already.
+/// The SYSMODs that resolve a hold, by the answer for each SYSMOD that was asked for, unless it is resolved
+/// already.
 pub(crate) fn resolving(
     alloc: Global,
     by: By,
@@ -88,7 +89,7 @@ fn copied(answer: &Answer) -> Result<Answer, NoMemory>
     }
 }
 
-// What resolves a hold by its reason and by its resolver, unless one of them is there.
+// The SYSMODs that resolve a hold by its reason and by its resolver, unless one of the two is there.
 fn by_either(
     alloc: Global,
     asked: &[Id],
@@ -110,7 +111,7 @@ fn by_either(
     both_of(alloc, by_reason, &by_resolver)
 }
 
-// The resolver of a hold and the candidates that give it, unless it is there; none where a hold has none.
+// The resolver of a hold and the candidates that give it, unless it is there; none if the hold has none.
 fn unless_resolver_there(
     alloc: Global,
     asked: &[Id],
@@ -145,7 +146,8 @@ fn with_itself(found: &Answer, resolver: &Id) -> Result<Answer, NoMemory>
     }
 }
 
-// What resolves a hold by its reason and by its resolver, ascending, each once, unless one of them is there.
+// The SYSMODs that resolve a hold by its reason and by its resolver, ascending, each once, unless one of the two
+// is there.
 fn both_of(alloc: Global, by_reason: &Answer, by_resolver: &Answer) -> Result<Answer, NoMemory>
     ensures { IfOk result (λ all. option_map (λ ids. ids.items) all
         ≡ Spec.both_of (option_map (λ ids. ids.items) by_reason.now)

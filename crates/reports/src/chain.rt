@@ -15,15 +15,15 @@ use serde_json::{Value, json};
 use std::alloc::Global;
 use verdicts::Verdict;
 
-/// The verdict on a SYSMOD in a zone as compact JSON with its keys in ascending order.
+/// Prints the verdict on a SYSMOD in a zone as compact JSON with its keys in ascending order.
 ///
-/// It has `status`, `sysmod` and `zone`; where the SYSMOD can be installed also `plan`, whose members
-/// ascend, each with `id` and with the reasons of the SYSTEM and of the USER holds on it, which its
-/// installer is to heed (IBM z/OS SMP/E Reference, `++HOLD`); where it is held also `blocked`.
+/// It has `status`, `sysmod` and `zone`. If the SYSMOD can be installed, it also has `plan`, whose members ascend. Each
+/// has its `id` and the reasons of the SYSTEM and of the USER holds on it, which its installer should heed (IBM z/OS
+/// SMP/E Reference, `++HOLD`). If it is held, it also has `blocked`.
 ///
 /// # Errors
 ///
-/// `Memory` where memory ran out, `Device` where the source failed.
+/// `Memory` if memory ran out, `Device` if the source failed.
 pub fn plan_json<P: Published>(
     alloc: Global,
     source: &mut P,

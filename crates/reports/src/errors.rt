@@ -23,7 +23,7 @@ use std::collections::BTreeMap;
 use supersede::Zone;
 use verdicts::Judge;
 
-// What the report orders a hold by.
+// The order of a hold in the report.
 #[derive(Clone, Copy, PartialEq, Eq, PartialOrd, Ord)]
 struct ErrorHeld {
     fmid: Option<Id>,
@@ -32,8 +32,8 @@ struct ErrorHeld {
     class: Option<Id>,
 }
 
-/// The rows of the exception SYSMOD report on a zone, from the ERROR holds on the SYSMODs that are installed
-/// in it (IBM z/OS SMP/E Commands, REPORT ERRSYSMODS).
+/// Makes the rows of the exception SYSMOD report on a zone, from the ERROR holds on the SYSMODs that are installed in
+/// it (IBM z/OS SMP/E Commands, REPORT ERRSYSMODS).
 ///
 /// A hold whose reason isn't there has a row for each candidate that gives the reason, or one row
 /// that says that there is none. Rows are ordered by the FMID of the hold, an absent one first, then by SYSMOD,
@@ -41,7 +41,7 @@ struct ErrorHeld {
 ///
 /// # Errors
 ///
-/// `Memory` where memory ran out, `Device` where the source failed.
+/// `Memory` if memory ran out, `Device` if the source failed.
 pub fn err_rows<P: Published, J: Judge<P>>(
     alloc: Global,
     source: &mut P,
@@ -58,7 +58,7 @@ pub fn err_rows<P: Published, J: Judge<P>>(
     ensures right { Tells P.content_view source.old source.new
         (λ content. J.is_right judge.old content → J.is_right judge.new content) }
 
-    // The rows stand in the report's order.
+    // The rows are in the report's order.
     ensures order { ErrRowsAscend }
 {
     let held = err_holds(alloc, source, judge, zone, received, holds)?;
@@ -66,7 +66,8 @@ pub fn err_rows<P: Published, J: Judge<P>>(
     Ok(rows_of(alloc, &lines)?)
 }
 
-/// The holds of the report that nothing resolves yet, each with the candidates that give its reason, in their order.
+/// Finds the holds of the report that nothing resolves yet, each with the candidates that give its reason, in their
+/// order.
 ///
 /// # Errors
 ///
@@ -101,12 +102,12 @@ fn lent(alloc: Global, holds: &[Hold]) -> Result<Vec<&Hold>, NoMemory>
     Ok(all)
 }
 
-/// The lines of the report, in its order: those of the FMID of a hold, an absent one first, then of SYSMOD, reason and
-/// resolver. Of two holds that agree in all of these and in their class the later counts.
+/// Makes the lines of the report, in its order: by the FMID of a hold, an absent one first, then by SYSMOD, reason and
+/// resolver. If two holds agree in all of these and in their class, the later one counts.
 ///
 /// # Errors
 ///
-/// `NoMemory` where memory ran out.
+/// `NoMemory` if memory ran out.
 pub fn err_lines<'h>(alloc: Global, helds: &[HoldResolvers<'h>]) -> Result<Vec<Line<'h>>, NoMemory>
     ensures lines { IfOk result (λ lines. lines.items ≡ err_lines_of helds.now) }
 

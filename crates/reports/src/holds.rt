@@ -5,12 +5,12 @@ use mcs_reader::Id;
 use std::marker::Model;
 use verdicts::Status;
 
-/// A SYSMOD that resolves a hold, with what a report says of it.
+/// A SYSMOD that resolves a hold, with its status.
 #[derive(Clone, Copy, Debug, PartialEq, Eq)]
 pub struct Resolver {
     /// The SYSMOD.
     pub id: Id,
-    /// Which verdict it has in the zone.
+    /// The status of its verdict in the zone.
     pub status: Status,
     /// Whether the client has received it.
     pub received: bool,
@@ -34,7 +34,7 @@ impl<'h> Model for HoldResolvers<'h> {
 impl<'h> HoldResolvers<'h> {
     ghost use Rattle.std.specs.Prelude.{◌≡◌};
 
-    /// A hold with these. It takes no memory.
+    /// A hold with these resolvers.
     pub fn new(hold: &'h Hold, resolvers: Vec<Resolver>) -> Self
         ensures { result ≡ record { hold = hold.now; resolvers = resolvers.items } }
     {
@@ -48,7 +48,7 @@ impl<'h> HoldResolvers<'h> {
         self.hold
     }
 
-    /// What resolves it, ascending.
+    /// Its resolvers, ascending.
     pub fn resolvers(&self) -> &[Resolver]
         ensures { result.now ≡ self.now.resolvers }
     {

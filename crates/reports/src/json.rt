@@ -1,4 +1,4 @@
-//! What all JSON of reports has: texts of ids, and the text of a value.
+//! The parts that all JSON of reports has: texts of ids, and the text of a value.
 ghost use Rattle.std.specs.Prelude.{◌≡◌, IfOk, false};
 ghost use Rattle.serde_json.specs.View.{items_view, view};
 ghost use Rattle.serde_json.specs.Written.{compact_text, has_float};

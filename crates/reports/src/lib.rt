@@ -1,16 +1,16 @@
 //! Reports: exception SYSMODs and missing fixes, as rows and in print.
 //!
-//! - [`err_rows`], [`missing_rows`]: the rows of the reports over what is published and a zone
-//! - [`err_holds`], [`missing_holds`]: the holds of the reports, each with what resolves it, from which rows and plans are
+//! - [`err_rows`], [`missing_rows`]: the rows of the reports, from the published content and a zone
+//! - [`err_holds`], [`missing_holds`]: the holds of the reports, each with its resolvers, from which rows and plans are
 //!   made: [`HoldResolvers`], [`Resolver`]
 //! - [`err_lines`], [`missing_lines`]: the [`Line`]s of these in the order of the reports, each with its hold
 //! - [`ErrRow`], [`MissingRow`]: a row of each report; [`MissingCategory`]: a fix category of its row
-//! - [`Status`]: what is said of a resolver: which verdict it has
+//! - [`Status`]: the verdict on a resolver
 //! - [`err_text`], [`missing_text`]: the reports in print
 //! - [`titled`]: a title that ends with a zone's name
-//! - [`plan_json`]: a verdict as JSON; [`text_values`]: texts of ids as such; [`compact`]: the text of a value
-//! - [`answer_among`], [`list_among`]: what was told of one of the SYSMODs that were asked for; [`is_among`]: whether it is one
-//!   of them; [`put_all`]: puts ids among others
+//! - [`plan_json`]: a verdict as JSON; [`text_values`]: texts of ids; [`compact`]: the text of a value
+//! - [`answer_among`], [`list_among`]: the answer for one of the SYSMODs that were asked for; [`is_among`]: whether it
+//!   is one of them; [`put_all`]: adds ids
 //!
 //! ```
 //! // what isn't named here is of catalogue, chains, mcs_reader, supersede and zone_lists

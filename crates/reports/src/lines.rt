@@ -11,8 +11,8 @@ use std::alloc::Global;
 use std::marker::Model;
 use verdicts::Status;
 
-/// A line of a report: a hold, one of the SYSMODs that resolve it, or that there is none, and in the missing fix report
-/// the fix category of which it speaks. A contract sees these.
+/// A line of a report: a hold, and one of the SYSMODs that resolve it, or none. In the missing fix report it also has a
+/// fix category of the hold. A contract sees these.
 #[derive(Debug, Drop)]
 pub struct Line<'h> {
     category: &'h [u8],
@@ -59,7 +59,7 @@ impl<'h> Line<'h> {
         }
     }
 
-    /// What is said of the resolver, where there is one.
+    /// The status of the resolver, if there is one.
     pub fn status(&self) -> Option<Status>
         ensures { result ≡ option_map (λ one. one.status) self.now.resolver }
     {
@@ -69,7 +69,7 @@ impl<'h> Line<'h> {
         }
     }
 
-    /// Whether the client has received the resolver, where there is one.
+    /// Whether the client has received the resolver, if there is one.
     pub fn received(&self) -> Option<bool>
         ensures { result ≡ option_map (λ one. one.received) self.now.resolver }
     {
@@ -80,7 +80,7 @@ impl<'h> Line<'h> {
     }
 }
 
-/// What a report says of a hold, in the missing fix report by a category of it: the lines of all its resolvers.
+/// A hold as a report has it, in the missing fix report under one of its categories: the lines of all its resolvers.
 #[derive(Drop)]
 pub(crate) struct Group<'r, 'h> {
     category: &'h [u8],
@@ -104,7 +104,7 @@ impl<'r, 'h> Group<'r, 'h> {
     ghost use Rattle.std.specs.Prelude.{◌≡◌};
     ghost use Rattle.reports.specs.Lines.{group_of};
 
-    /// What is said of a hold by a category.
+    /// The group of a hold under a category.
     pub(crate) fn new(category: &'h [u8], held: &'r HoldResolvers<'h>) -> Self
         ensures { result ≡ group_of category.now held.now }
     {
@@ -122,7 +122,7 @@ impl<'r, 'h> Group<'r, 'h> {
     }
 }
 
-/// The lines of groups, in their order.
+/// Makes the lines of groups, in their order.
 pub(crate) fn lines_in<'h>(
     alloc: Global,
     groups: &[Group<'_, 'h>],

@@ -26,7 +26,7 @@ use supersede::Zone;
 use verdicts::Judge;
 use zone_lists::Pattern;
 
-// What the report orders a category of a hold by.
+// The order of a category of a hold in the report.
 #[derive(PartialEq, Eq, PartialOrd, Ord, Drop)]
 struct MissingHeld {
     category: MissingCategory,
@@ -35,17 +35,17 @@ struct MissingHeld {
     resolver: Option<Id>,
 }
 
-/// The rows of the missing fix report on a zone, from the FIXCAT holds on the SYSMODs that are installed in
-/// it (IBM z/OS SMP/E Commands, REPORT MISSINGFIX).
+/// Makes the rows of the missing fix report on a zone, from the FIXCAT holds on the SYSMODs that are installed in it
+/// (IBM z/OS SMP/E Commands, REPORT MISSINGFIX).
 ///
-/// Each category of a hold that a pattern matches has a row for the resolver of the hold and for each candidate
-/// that gives the reason or the resolver, each once, or one row that says that there is none; but
-/// none where the reason or the resolver is there. Rows are ordered by category, held SYSMOD, reason
-/// and resolver. `received` are the SYSMODs that the client has received.
+/// Each category of a hold that a pattern matches has a row for each SYSMOD that resolves the hold, or one row that
+/// says that there is none. These SYSMODs are the resolver of the hold and each candidate that gives the reason or the
+/// resolver, each once. The category has no row if the reason or the resolver is there. Rows are ordered by category,
+/// held SYSMOD, reason and resolver. `received` are the SYSMODs that the client has received.
 ///
 /// # Errors
 ///
-/// `Memory` where memory ran out, `Device` where the source failed.
+/// `Memory` if memory ran out, `Device` if the source failed.
 pub fn missing_rows<P: Published, J: Judge<P>>(
     alloc: Global,
     source: &mut P,
@@ -63,7 +63,7 @@ pub fn missing_rows<P: Published, J: Judge<P>>(
     ensures right { Tells P.content_view source.old source.new
         (λ content. J.is_right judge.old content → J.is_right judge.new content) }
 
-    // The rows stand in the report's order.
+    // The rows are in the report's order.
     ensures order { MissingRowsAscend }
 {
     let held = missing_holds(alloc, source, judge, zone, received, patterns, holds)?;
@@ -71,8 +71,8 @@ pub fn missing_rows<P: Published, J: Judge<P>>(
     Ok(rows_of(alloc, &lines)?)
 }
 
-/// The holds of the report that nothing resolves yet and of which a pattern matches a category, each with what resolves
-/// it: its resolver, and each candidate that gives its reason or its resolver. They stand in their order.
+/// Finds the holds of the report that nothing resolves yet and that have a category which a pattern matches, in their
+/// order. Each has its resolvers: the hold's own, and each candidate that gives its reason or its resolver.
 ///
 /// # Errors
 ///
@@ -99,7 +99,7 @@ pub fn missing_holds<'h, P: Published, J: Judge<P>>(
     holds_by(alloc, source, judge, zone, received, by, &asked)
 }
 
-// The holds of which a pattern matches a category.
+// The holds with a category that a pattern matches.
 fn asked_for<'h>(
     alloc: Global,
     patterns: &[Pattern],
@@ -138,12 +138,12 @@ fn is_matched(patterns: &[Pattern], category: &[u8]) -> bool
     patterns.iter().any(|pattern| pattern.matches(category))
 }
 
-/// The lines of the report, in its order: those of each category that a pattern matches, then of held SYSMOD, reason and
-/// resolver. Of two holds that agree in the SYSMOD, the reason and the resolver of the hold the later counts.
+/// Makes the lines of the report, in its order: by each category that a pattern matches, then by held SYSMOD, reason
+/// and resolver. If two holds agree in the SYSMOD, the reason and the resolver of the hold, the later one counts.
 ///
 /// # Errors
 ///
-/// `NoMemory` where memory ran out.
+/// `NoMemory` if memory ran out.
 pub fn missing_lines<'h>(
     alloc: Global,
     patterns: &[Pattern],
@@ -182,7 +182,7 @@ fn listed<'r, 'h>(
     groups.into_values().collect(alloc)
 }
 
-// Puts the categories of a hold that patterns match among others, in order.
+// Adds the categories of a hold that patterns match, in order.
 fn put_asked<'r, 'h>(
     alloc: Global,
     groups: &mut BTreeMap<MissingHeld, Group<'r, 'h>>,

@@ -1,4 +1,4 @@
-//! What resolves each hold of a report, and what is said of it.
+//! The resolvers of each hold of a report, and their verdicts.
 ghost use Rattle.std.specs.Prelude.{◌≡◌, ◌++◌, [], true, ℕ, List, map, option_map, IfOk, OnOk};
 ghost use Rattle.std.specs.List.{cons_option, flat_map};
 ghost use Rattle.zone_lists.specs.declared.zones.ZoneRow.{ZoneRow};
@@ -25,7 +25,7 @@ use std::marker::Model;
 use supersede::Zone;
 use verdicts::{Judge, Status};
 
-// A hold with what resolves it, before it is known what is said of that.
+// A hold with the SYSMODs that resolve it, before their verdicts are known.
 #[derive(Drop)]
 struct Found<'h> {
     hold: &'h Hold,
@@ -56,7 +56,7 @@ impl<'h> Found<'h> {
     }
 }
 
-/// The holds that nothing resolves yet, each with what resolves it, in their order.
+/// Finds the holds that nothing resolves yet, each with its resolvers, in their order.
 pub(crate) fn holds_by<'h, P: Published, J: Judge<P>>(
     alloc: Global,
     source: &mut P,
@@ -95,7 +95,7 @@ fn asked_in(alloc: Global, by: By, holds: &[&Hold]) -> Result<Vec<Id>, NoMemory>
     ids.into_iter().collect(alloc)
 }
 
-// What resolves each hold, by what was answered for each SYSMOD that was asked for.
+// The SYSMODs that resolve each hold, by the answer for each SYSMOD that was asked for.
 fn found_answered<'h>(
     alloc: Global,
     by: By,
@@ -116,7 +116,7 @@ fn found_answered<'h>(
     Ok(found)
 }
 
-// Adds what is found for a hold, unless it is resolved already.
+// Adds the findings on a hold, unless it is resolved already.
 fn put_found<'h>(found: &mut Vec<Found<'h>>, hold: &'h Hold, ids: Answer) -> Result<(), NoMemory>
     ensures { OnOk result (found.new.items ≡ found.old.items
         ++ cons_option (option_map (found_with hold.now) (option_map (λ ids. ids.items) ids)) []) }
@@ -139,7 +139,7 @@ fn resolvers_in(alloc: Global, found: &[Found]) -> Result<Vec<Id>, NoMemory>
     ids.into_iter().collect(alloc)
 }
 
-// The holds with their resolvers, with what was answered for each of these.
+// The holds with their resolvers, by the answer for each of these.
 fn all_told<'h>(
     alloc: Global,
     found: &[Found<'h>],

@@ -23,9 +23,9 @@ pub struct ErrRow {
     pub reason: Id,
     /// A SYSMOD that gives the reason; none in a row that says that there is none.
     pub resolver: Option<Id>,
-    /// What is said of the resolver, where there is one.
+    /// The status of the resolver, if there is one.
     pub status: Option<Status>,
-    /// Whether the client has received the resolver, where there is one.
+    /// Whether the client has received the resolver, if there is one.
     pub received: Option<bool>,
     /// The class of the hold.
     pub class: Option<Id>,
@@ -46,7 +46,7 @@ impl Model for MissingCategory {
 }
 
 impl MissingCategory {
-    /// The category of these bytes. It takes no memory.
+    /// The category of these bytes.
     pub fn new(bytes: Vec<u8>) -> MissingCategory
         ensures { result ≡ bytes.items }
     {
@@ -60,7 +60,7 @@ impl MissingCategory {
         self.bytes.as_slice()
     }
 
-    /// Gives the bytes back. It takes no memory.
+    /// Returns the bytes.
     pub fn into_vec(self) -> Vec<u8>
         ensures { result.items ≡ self }
     {
@@ -126,8 +126,8 @@ pub struct MissingRow {
     pub reason: Id,
     /// A SYSMOD that resolves the hold; none in a row that says that there is none.
     pub resolver: Option<Id>,
-    /// What is said of the resolver, where there is one.
+    /// The status of the resolver, if there is one.
     pub status: Option<Status>,
-    /// Whether the client has received the resolver, where there is one.
+    /// Whether the client has received the resolver, if there is one.
     pub received: Option<bool>,
 }

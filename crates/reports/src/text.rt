@@ -11,7 +11,7 @@ use faults::NoMemory;
 use mcs_reader::Id;
 use std::alloc::Global;
 
-// Where each column of the exception SYSMOD report begins, and its name.
+// The column at which each field of the exception SYSMOD report begins, and its name.
 const ERR_COLUMNS: [Column; 7] = [
     Column {
         start: 1,
@@ -43,7 +43,7 @@ const ERR_COLUMNS: [Column; 7] = [
     },
 ];
 
-// The same of the missing fix report. The held SYSMOD stands under FMID.
+// The same for the missing fix report. The held SYSMOD is in the column FMID.
 const MISSING_COLUMNS: [Column; 6] = [
     Column {
         start: 1,
@@ -71,11 +71,11 @@ const MISSING_COLUMNS: [Column; 6] = [
     },
 ];
 
-// What stands for an absent field.
+// The text for an absent field.
 const ABSENT: &[u8] = b"-";
 
-/// The exception SYSMOD report on a zone: a title, a heading, the rows and their count. Each line ends with
-/// LF (IBM z/OS SMP/E Commands, REPORT ERRSYSMODS).
+/// Prints the exception SYSMOD report on a zone: a title, a heading, the rows and their count. Each line ends with LF
+/// (IBM z/OS SMP/E Commands, REPORT ERRSYSMODS).
 ///
 /// # Errors
 ///
@@ -91,7 +91,7 @@ pub fn err_text(alloc: Global, zone: &Id, rows: &[ErrRow]) -> Result<Vec<u8>, No
     table.finish()
 }
 
-/// The missing fix report on a zone, as [`err_text`] (IBM z/OS SMP/E Commands, REPORT MISSINGFIX).
+/// Prints the missing fix report on a zone, as [`err_text`] does (IBM z/OS SMP/E Commands, REPORT MISSINGFIX).
 ///
 /// # Errors
 ///
@@ -120,7 +120,7 @@ pub fn titled(alloc: Global, title: &[u8], zone: &Id) -> Result<Vec<u8>, NoMemor
     Ok(titled)
 }
 
-// What stands in the columns for a row.
+// The fields of a row.
 fn err_fields_of(row: &ErrRow) -> [&[u8]; 7]
     ensures { bytes_of_each result ≡ err_fields row.now }
 {

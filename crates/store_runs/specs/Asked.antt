@@ -1,4 +1,4 @@
--- Which stores a run asks for, and what comes of it.
+-- The stores that a run asks for, and the answers.
 use Rattle.std.specs.Prelude.{◌≡◌, ℕ, Bool, List, [], ◌∷◌, ◌++◌, option_map, Option, Some, IfSome, Result, Ok, Err}
 use Rattle.bureau_store.specs.declared.fault.StoreFault.{StoreFault}
 use Rattle.sqlite_disk.specs.declared.Disk.{Ghosts}
@@ -13,19 +13,19 @@ pub data Answer : Type 0 where
   Unopened : StoreFault → Answer
   Failed : StoreFault → Answer
 
--- A store that was asked for: the name of its file, whether that was to be made where it isn't there, what stands for what the
--- files held, and what came of it.
+-- A store that was asked for: the name of its file, whether that was to be made if it isn't there, what stands for what the
+-- files held, and the answer.
 pub record Asking : Type 0 where
   pub name : List ℕ
   pub makes : Bool
   pub from : Image
   pub answer : Answer
 
--- all that was asked for, the oldest first, as far as it is known
+-- all stores that were asked for, the oldest first, as far as they are known
 abbrev pub Asked : Type 0
 Asked = Option (List Asking)
 
--- By then these were asked for too, and nothing else. What is known was known before.
+-- By then these were asked for too, and no others. A list that is known was known before.
 abbrev pub Asks : Asked → Asked → List Asking → Type 0
 Asks old new more = IfSome new (λ all. option_map (λ before. before ++ more) old ≡ Some all)
 
@@ -34,7 +34,7 @@ abbrev pub AsksFor : Asked → Asked → List ℕ → Bool → Image → Answer 
 AsksFor old new name makes from answer = Asks old new (record { name = name; makes = makes; from = from; answer = answer } ∷ [])
 
 module _ {D : Type 0} {g : Ghosts D} where
-  -- what came of it, where no connection could be made
+  -- the answer if no connection could be made
   abbrev pub refused_with : StoreFault → Ended D g → Answer
   refused_with fault Nothing = Unopened fault
   refused_with fault (Left it) = Failed fault
@@ -44,13 +44,14 @@ module _ {D : Type 0} {g : Ghosts D} where
   answer_in (Ok conn) = Connected
   answer_in (Err refused) = refused_with refused.0 refused.1
 
-  -- A run whose store was asked for with this answer told it (`Told`), and what it left is of those files.
+  -- A run whose store was asked for with this answer told it (`Told`), and left those files.
   abbrev pub Agrees : (Told : StoreFault → Type 0) → Answer → Ended D g → Type 0
   Agrees Told Connected ended = IsClosed ended
   Agrees Told (Unopened fault) ended = IsNothing ended × Told fault
   Agrees Told (Failed fault) ended = IsLeft ended × Told fault
 
-  -- A run asked for the store of this name, once, and for no other. It left what came of that, and told the fault, if there was one.
+  -- A run asked for the store of this name, once, and for no other. It left the files of the answer, and told the fault, if
+  -- there was one.
   pub record AsksOnce (old new : Asked) (name : List ℕ) (makes : Bool) (from : Image) (Told : StoreFault → Type 0) (ended : Ended D g) : Type 0 where
     pub answer : Answer
     pub once : AsksFor old new name makes from answer

@@ -1,4 +1,4 @@
--- What `callers` prints, why it ends, and what it leaves of a store.
+-- The output of `callers`, why it ends, and what it leaves of a store.
 use Rattle.std.specs.Prelude.{◌≡◌, ◌⊎◌, ◌++◌, ℕ, List, codes, decimal, false, Option, Some, None, Result, Ok, Err}
 use Rattle.std.specs.Io.KnownBytes.{Appends, Keeps}
 use Rattle.faults.specs.declared.any.AnyFault.{AnyFault}
@@ -30,7 +30,7 @@ use Rattle.store_runs.specs.Keeping as keeping
 use Rattle.store_runs.specs.Keeping.{IsDone, KeepsEarlier, TellsOnly}
 use Rattle.store_runs.specs.declared.ended.Ended.{Ended}
 
--- how many callers there are, how many of them are new, how many others are gone, and how many have another token
+-- the number of callers, of those that are new, of others that are gone, and of those that have another token
 abbrev pub callers_text : CallerCounts → List ℕ
 callers_text counts =
     codes "CALLERS " ++ decimal counts.callers ++ codes " ADDED " ++ decimal counts.added
@@ -38,8 +38,7 @@ callers_text counts =
 
 -- ---- what becomes of a store
 
--- What is so where a run ends: by what the store that was opened answered when it got the callers; or, where none is opened, by
--- the fault.
+-- How a run ends: if a store was opened, by its answer when it got the callers; if none was, by the fault.
 pub record CallersEnds : Type 1 where
   pub set : Result CallerCounts StoreFault → Type 0
   pub unopened : StoreFault → Type 0
@@ -48,7 +47,8 @@ pub record CallersEnds : Type 1 where
 abbrev pub store_set : {S : Type 0} → Ghosts S → List CallerRow → SqlState S → SqlState S → CallersEnds
 store_set g rows old new = record { set = λ answer. SetsCallers (sql_view g) rows old new answer; unopened = λ fault. ⊥ }
 
--- A store was opened over a connection, and answered this when it got these callers. The connection is as it left it.
+-- A store was opened over a connection, and this was its answer when it got these callers. The connection is as the store
+-- left it.
 pub record IsSetOver {S : Type 0} (g : Ghosts S) (rows : List CallerRow) (before after : Held S) (answer : Result CallerCounts StoreFault) : Type 0 where
   pub opened : SqlState S
   pub has_opened : HasOpened g (state g before) opened
@@ -79,14 +79,14 @@ abbrev pub IsLineLost : AnyFault → CallerCounts → Option (List ℕ) → Opti
 IsLineLost fault counts old new =
     ((fault ≡ of_program NotWritten) × AppendsFront old new (callers_text counts)) ⊎ ((fault ≡ of_program Memory) × Keeps old new)
 
--- What standard output gets: the line, where the store has the callers; or nothing, where it has those of before.
+-- Standard output gets the line, if the store has the callers; or nothing, if it has those of before.
 abbrev pub IsCallersOutput : CallersEnds → Option AnyFault → Option (List ℕ) → Option (List ℕ) → Type 0
 IsCallersOutput ends None old new = (counts : CallerCounts) × ends.set (Ok counts) × Appends old new (callers_text counts)
 IsCallersOutput ends (Some fault) old new =
     ((counts : CallerCounts) × ends.set (Ok counts) × IsLineLost fault counts old new)
     ⊎ (((refused : StoreFault) × (fault ≡ of_store refused) × (ends.set (Err refused) ⊎ ends.unopened refused)) × Keeps old new)
 
--- A whole run: what becomes of the store, what standard output and standard error get, and the exit status.
+-- A whole run: the store that it leaves, what standard output and standard error get, and the exit status.
 pub record IsCallersRun (ends : CallersEnds) (old new old_errors new_errors : Option (List ℕ)) (status : ℕ) : Type 0 where
   pub outcome : Option AnyFault
   pub output : IsCallersOutput ends outcome old new
@@ -104,8 +104,8 @@ TellsSet outcome = IsDone outcome ⊎ (outcome ≡ Some (of_program Memory))
 abbrev pub MayHaveSet : Option AnyFault → Type 0
 MayHaveSet outcome = TellsSet outcome ⊎ (outcome ≡ Some (of_store Device))
 
--- What such a run leaves of tables: as they were, unless its end tells that it has set these callers; or with these callers, where
--- it may have set them.
+-- The tables that such a run leaves: as they were, unless its end tells that it has set these callers; or with these
+-- callers, if it may have set them.
 abbrev pub LeavesSet : List CallerRow → Option AnyFault → Tables → Tables → Type 0
 LeavesSet rows outcome before this =
     ((TellsSet outcome → ⊥) × (this ≡ before)) ⊎ (MayHaveSet outcome × (this ≡ with_callers rows before))

@@ -1,4 +1,4 @@
--- What `check` prints, and why it ends.
+-- The output of `check`, and why it ends.
 use Rattle.std.specs.Prelude.{◌≡◌, ◌⊎◌, false, ℕ, IsTrue, List, map, Option, Some, None, Result, Ok, Err}
 use Rattle.std.specs.Io.KnownBytes.{Appends, Keeps}
 use Rattle.std.specs.List.Sorted.{IsPermutation}
@@ -70,7 +70,7 @@ IsToldWhole before after text =
     HasCleanDisk after → IsWholeStore before.committed
     × (IsOurs before.committed → IsTextOf (tables_of (held_by before.committed)) text)
 
--- what is told of what is found
+-- the fault for a finding
 abbrev pub IsToldAs : Finding → CheckFault → Type 0
 IsToldAs Whole told = ⊥
 IsToldAs OtherTables told = told ≡ in_no_table (of_store Shape)
@@ -82,7 +82,7 @@ abbrev pub IsUnservable : State → State → CheckFault → Type 0
 IsUnservable before after told =
     (refused : StoreFault) × (told ≡ in_no_table (of_store refused)) × (HasCleanDisk after → IsNoStore before after refused)
 
--- it isn't the bureau's own, or a row of the table that is told is none that the bureau writes
+-- it isn't the bureau's own, or a row of the table in the answer isn't one that the bureau writes
 abbrev pub IsUnsound : State → State → CheckFault → Type 0
 IsUnsound before after told = (finding : Finding) × IsToldAs finding told × (HasCleanDisk after → IsFound before.committed finding)
 
@@ -94,7 +94,7 @@ IsUntold limit database = IsUnsaid of_callers SaysCallers limit database ⊎ ((c
 abbrev pub IsUnknown : State → State → Type 0
 IsUnknown before after = IsCausedBy IsUnread before after ⊎ (IsFound before.committed Whole × IsCausedBy IsUntold before after)
 
--- Memory ran out; or a failed device is told, for a cause.
+-- Memory ran out; or the fault is that of the device, for a cause.
 abbrev pub IsUnanswered : State → State → CheckFault → Type 0
 IsUnanswered before after told =
     (told ≡ in_no_table (of_store Memory)) ⊎ ((told ≡ in_no_table (of_store Device)) × (HasCleanDisk after → IsUnknown before after))
@@ -105,7 +105,7 @@ IsWrong before after told = IsUnservable before after told ⊎ IsUnsound before 
 
 -- ---- a run
 
--- What standard output gets: the text, of a store that is whole; a front part of it, where it can't be written; or nothing.
+-- Standard output gets the text of a store that is whole; a front part of it, if it can't be written; or nothing.
 abbrev pub IsCheckOutput : Option CheckFault → State → State → Option (List ℕ) → Option (List ℕ) → Type 0
 IsCheckOutput None before after old new = (text : List ℕ) × IsToldWhole before after text × Appends old new text
 IsCheckOutput (Some told) before after old new =
@@ -117,7 +117,7 @@ abbrev pub check_line : CheckFault → Option StoreTable → List ℕ
 check_line told None = text_of told.fault
 check_line told (Some table) = line_in told.fault (table_name table)
 
--- what standard error gets: nothing, or the line that tells the fault, as far as it takes it
+-- standard error gets nothing, or the line that tells the fault, as far as it takes it
 abbrev pub IsCheckTold : Option CheckFault → Option (List ℕ) → Option (List ℕ) → Type 0
 IsCheckTold None old new = Keeps old new
 IsCheckTold (Some told) old new = AppendsFront old new (check_line told told.table)
@@ -137,17 +137,17 @@ pub record IsCheckRun (Prints : Option CheckFault → Type 0) (old_errors new_er
   pub told : IsCheckTold outcome old_errors new_errors
   pub status_is : status ≡ check_status outcome
 
--- What is printed of the files of a store: no connection to them could be made, and the fault tells why; or one was made, which only
--- read its database.
+-- The output for the files of a store: no connection to them could be made, and the fault tells why; or one was made, which
+-- only read its database.
 abbrev pub IsFilesChecked : {D : Type 0} {g : disk.Ghosts D} → Image → Option (List ℕ) → Option (List ℕ) → Ended D g → Option CheckFault → Type 0
 IsFilesChecked from old new ended outcome =
     ((refused : StoreFault) × (outcome ≡ Some (in_no_table (of_store refused))) × IsRefused false from refused ended × Keeps old new)
     ⊎ IsUsed from (λ found left. IsAtRest (file_state found) × IsCheckOutput outcome (file_state found) (file_state left) old new
     × OnlyReads (file_state found) (file_state left)) ended
 
--- `check STORE`, by the name of its file. Over files that held the bureau's own store, it tells no fault of a store but 41 or 42
--- (`IsOfRead`), and 44 only with the name of a table. A stop leaves what was there: a database tree by tree, and so a store of
--- either version. It asks for that store alone.
+-- `check STORE`, by the name of its file. It asks for that store alone. Over files that held the bureau's own store, it
+-- tells no fault of a store but 41 or 42 (`IsOfRead`), and 44 only with the name of a table. A stop leaves what was there: a
+-- database tree by tree, and so a store of either version.
 pub record IsCheck (asked asked_after : Asked) (from : Image) {D : Type 0} {g : disk.Ghosts D} (name : List ℕ) (outputs : Outputs) (status : ℕ) (ended : Ended D g) : Type 0 where
   pub checked : IsCheckRun (IsFilesChecked from outputs.output outputs.written ended) outputs.errors outputs.told status
   pub faults : TellsOnly IsOfRead (λ fault. checked.outcome ≡ Some (in_no_table (of_store fault))) from ended
@@ -156,7 +156,7 @@ pub record IsCheck (asked asked_after : Asked) (from : Image) {D : Type 0} {g : 
 
 -- ---- No part of what is promised: private contracts cite it.
 
--- what is seen of an open connection: that it is whole, and how much it has
+-- an open connection is seen to be whole, and how much it has
 abbrev pub IsSeenWhole : State → State → List ℕ → Type 0
 IsSeenWhole before after text =
     HasCleanDisk after → IsTrue before.is_open → (IsFound before.committed Whole)
@@ -169,6 +169,6 @@ IsSeenWrong before after told =
     ⊎ (told ≡ in_no_table (of_store Memory))
     ⊎ ((told ≡ in_no_table (of_store Device)) × (HasCleanDisk after → IsTrue before.is_open → IsUnknown before after))
 
--- what is told of a read that is refused
+-- the fault for a read that is refused
 abbrev pub IsToldOfRead : ReadFault → CheckFault → Type 0
 IsToldOfRead refused told = (told ≡ in_no_table (of_store Memory)) ⊎ ((told ≡ in_no_table (of_store Device)) × (refused ≡ fault.Device))

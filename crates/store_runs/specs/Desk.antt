@@ -1,4 +1,4 @@
--- What `init` prints, why it ends and what it leaves of a database, and why a store isn't opened.
+-- The output of `init`, why it ends and what it leaves of a database, and why a store isn't opened.
 use Rattle.std.specs.Prelude.{◌≡◌, ◌⊎◌, ◌++◌, ℕ, IsTrue, List, codes, decimal, length, Option, Some, None, Ok, Err}
 use Rattle.std.specs.Io.KnownBytes.{Appends, Keeps}
 use Rattle.faults.specs.declared.any.AnyFault.{AnyFault}
@@ -33,7 +33,7 @@ use Rattle.run_parts.specs.ProgramFault.{of_program}
 use Rattle.store_runs.specs.declared.ended.Ended.{Ended}
 use Rattle.run_parts.specs.declared.fault.ProgramFault.TheVariants.{NotWritten, Memory}
 
--- what is told of a fault of the store
+-- the fault of a run for that of the store
 abbrev pub of_store : StoreFault → AnyFault
 of_store fault = store_fault.told fault
 
@@ -43,7 +43,7 @@ of_store fault = store_fault.told fault
 abbrev pub AreRowsOf : List ℕ → List CallerRow → Type 0
 AreRowsOf source rows = callers_of source ≡ Ok rows
 
--- how many callers there are
+-- the number of callers
 abbrev pub init_text : List CallerRow → List ℕ
 init_text rows = codes "CALLERS " ++ decimal (length rows) ++ codes "\n"
 
@@ -58,8 +58,8 @@ IsCallersFault source fault =
 abbrev pub IsInitFault : List ℕ → AnyFault → Type 0
 IsInitFault source fault = IsCallersFault source fault ⊎ ((refused : StoreFault) × (fault ≡ of_store refused))
 
--- Why a database is left as it was: the fault of the callers file; or that of a store which isn't made there. Among them is 44, just
--- where the database isn't empty; and of an empty one 42 or 43, only where it couldn't be written (`CannotWrite`).
+-- Why a database is left as it was: the fault of the callers file; or that of a store which isn't made there. It is 44
+-- exactly if the database isn't empty; and if it is empty, 42 or 43 only if the store couldn't be written (`CannotWrite`).
 abbrev pub IsInitRefused : List ℕ → State → State → AnyFault → Type 0
 IsInitRefused source before after fault =
     IsCallersFault source fault
@@ -70,7 +70,7 @@ abbrev pub IsInitCutShort : AnyFault → List ℕ → Option (List ℕ) → Opti
 IsInitCutShort fault source old new =
     (fault ≡ of_program NotWritten) × ((rows : List CallerRow) × AreRowsOf source rows × AppendsFront old new (init_text rows))
 
--- What standard output gets: how many callers the file has; or nothing, where no store is made.
+-- Standard output gets the number of the file's callers; or nothing, if no store is made.
 abbrev pub IsInitOutput : Option AnyFault → List ℕ → Option (List ℕ) → Option (List ℕ) → Type 0
 IsInitOutput None source old new = (rows : List CallerRow) × AreRowsOf source rows × Appends old new (init_text rows)
 IsInitOutput (Some fault) source old new = IsInitCutShort fault source old new ⊎ (IsInitFault source fault × Keeps old new)
@@ -87,18 +87,18 @@ pub record IsNewStore (rows : List CallerRow) (after : State) : Type 0 where
 abbrev pub HasCallers : List ℕ → State → Type 0
 HasCallers source after = HasCleanDisk after → (rows : List CallerRow) × AreRowsOf source rows × IsNewStore rows after
 
--- What is left of the database of a connection: the tables, also where only the line couldn't be written; else what was there.
+-- What is left of the database of a connection: the tables, also if only the line couldn't be written; else what was there.
 abbrev pub IsInitLeft : Option AnyFault → List ℕ → State → State → Type 0
 IsInitLeft None source before after = HasCallers source after
 IsInitLeft (Some fault) source before after =
     ((fault ≡ of_program NotWritten) × HasCallers source after)
     ⊎ (IsInitRefused source before after fault × (HasCleanDisk after → KeepsCommit before after))
 
--- the trees are those of a store with the file's callers and no other row, where the database was empty
+-- the trees are those of a store with the file's callers and no other row, if the database was empty
 abbrev pub AreFoundedBy : List ℕ → State → Trees → Type 0
 AreFoundedBy source before trees = (rows : List CallerRow) × AreRowsOf source rows × AreFounded before rows trees
 
--- What a stop may leave: those trees, and else what it might have left before.
+-- What a stop may leave: those trees, or else what it might have left before.
 abbrev pub InitSurvives : List ℕ → State → State → Type 0
 InitSurvives source before after = Survives before after (AreFoundedBy source before)
 
@@ -119,8 +119,8 @@ pub record IsInitRun (Leaves : Option AnyFault → Type 0) (source : List ℕ) (
 
 -- ---- a store that is opened
 
--- No device has failed, and the database was only read. Where the disk returned what was written, it is of version 2, its
--- tables and conditions are there, and a store that was ours is ours. A store of version 1 is not opened.
+-- No device has failed, and the database was only read. If the disk returned what was written, the database is of version 2,
+-- its tables and conditions are there, and a store that was ours is ours. A store of version 1 is not opened.
 pub record HasOpened {S : Type 0} (ghosts : Ghosts S) (before : State) (store : SqlState S) : Type 0 where
   pub opened : store.failures ≡ 0
   pub reads : OnlyReads before (shown ghosts store)

@@ -1,4 +1,4 @@
--- What a connection finds in the files of a store, and what is left of them, wherever a run ends.
+-- A connection over the files of a store, and what is left of them, wherever a run ends.
 use Rattle.std.specs.Prelude.{◌≡◌, ◌⊎◌, false, Bool, IsTrue, None}
 use Rattle.bureau_sql.specs.Files.{HoldTrees}
 use Rattle.bureau_store.specs.declared.fault.StoreFault.{StoreFault}
@@ -22,7 +22,7 @@ use Rattle.sqlite.specs.declared.file.Leftover.{Leftover}
 use Rattle.store_runs.specs.declared.ended.Ended.{Ended}
 use Rattle.store_runs.specs.declared.ended.Ended.TheVariants.{Nothing, Left, Closed}
 
--- Why no connection can be made: memory ran out, or the files can't be opened; or none are there, and none were to be made.
+-- Why no connection can be made: memory ran out, or the files can't be opened; or there are none, and none should be made.
 abbrev pub IsNotConnected : Bool → StoreFault → Type 0
 IsNotConnected makes Memory = Unit {0}
 IsNotConnected makes Device = Unit {0}
@@ -44,7 +44,7 @@ module _ {D : Type 0} {g : Ghosts D} where
     pub only : (image : Image) → outcomes g files.log files.db image → image ≡ from
     pub leaves : IsCleanLeft it → LeavesFiles files it
 
-  -- where no connection could be made: nothing was opened, or this is left of the two files
+  -- if no connection could be made: nothing was opened, or this is left of the two files
   abbrev pub IsLeftOver : Image → Ended D g → Type 0
   IsLeftOver from Nothing = Unit {0}
   IsLeftOver from (Left it) = IsLeftOf from it
@@ -56,11 +56,11 @@ module _ {D : Type 0} {g : Ghosts D} where
   CannotUse files it = MoreFaults (faults_of g files) (faults_left it) ⊎ IsFullLeft it
       ⊎ ((((trees : Trees) × HoldsDatabase (image_of g files) trees) ⊎ sqlite.IsNothing (image_of g files)) → ⊥)
 
-  -- Why an open failed that got these files, where the disk returned what was written: memory ran out, or they can't be used.
+  -- Why an open failed that got these files, if the disk returned what was written: memory ran out, or they can't be used.
   abbrev pub FailsToOpen : StoreFault → Files D → Leftover D g → Type 0
   FailsToOpen fault files it = IsCleanLeft it → (fault ≡ Memory) ⊎ ((fault ≡ Device) × CannotUse files it)
 
-  -- That is so where the files were opened. Of files that can't be opened no reason is known.
+  -- It is so if the files were opened. Of files that can't be opened no reason is known.
   abbrev pub HasCause : (from : Image) → StoreFault → (ended : Ended D g) → IsLeftOver from ended → Type 0
   HasCause from fault Nothing left = Unit {0}
   HasCause from fault (Left it) left = FailsToOpen fault left.files it
@@ -75,8 +75,9 @@ module _ {D : Type 0} {g : Ghosts D} where
     pub trees : (trees : Trees) → recovers last trees → (file_state conn).may_leave trees
     pub left : IsClean (view last) → (left : Image) → (files.state last).may_leave left → HoldTrees (file_state conn).may_leave left
 
-  -- The log was copied into the file, or that failed. Whenever the run stops from then on, the files hold a database that a stop
-  -- might have left before. Where the copy fails and shuts the store, that its trees are numbered still is taken on trust.
+  -- The log was copied into the file, or that failed. Whenever the run stops from then on, the files hold a database that a
+  -- stop might have left before. If the copy fails and closes the store, it is taken on trust that its trees are still
+  -- numbered.
   pub record IsCopied (old new : FileStore D g) : Type 0 where
     pub clean : IsClean (view new) → IsClean (view old)
     pub left : IsClean (view new) → IsTrue (view old).is_numbered → AreDatabases (recovers old) → IsTrue (view new).is_open ⊎ IsTrue (view new).is_numbered
@@ -105,7 +106,7 @@ module _ {D : Type 0} {g : Ghosts D} where
   IsClosed (Left it) = ⊥
   IsClosed (Closed last) = Unit {0}
 
-  -- the log was copied into the file, where files were opened as a database; else nothing was done
+  -- the log was copied into the file, if files were opened as a database; else nothing was done
   abbrev pub IsCopiedEnd : Ended D g → Ended D g → Type 0
   IsCopiedEnd Nothing after = after ≡ Nothing
   IsCopiedEnd (Left it) after = after ≡ Left it
@@ -113,7 +114,7 @@ module _ {D : Type 0} {g : Ghosts D} where
   IsCopiedEnd (Closed last) (Left it) = ⊥
   IsCopiedEnd (Closed last) (Closed now) = IsCopied last now
 
-  -- No connection to the files could be made. 44 is told only where no files were opened.
+  -- No connection to the files could be made. 44 is told only if no files were opened.
   pub record IsRefused (makes : Bool) (from : Image) (fault : StoreFault) (ended : Ended D g) : Type 0 where
     pub why : IsNotConnected makes fault
     pub left : IsLeftOver from ended

@@ -1,4 +1,4 @@
--- What the files of a store hold from one run to the next, whenever a run stops.
+-- The contents of a store's files from one run to the next, whenever a run stops.
 use Rattle.std.specs.Prelude.{◌≡◌, ◌⊎◌, ℕ, IsTrue, List, Option, None, Some}
 use Rattle.faults.specs.declared.any.AnyFault.{AnyFault}
 use Rattle.bureau_store.specs.Tables.{Tables, opened}
@@ -64,8 +64,9 @@ module _ {D : Type 0} {g : disk.Ghosts D} where
   MayLeave (left.Unopened now) image = (state_of now).may_leave image
   MayLeave (left.Store now) image = (files.state now).may_leave image
 
-  -- What the toolchain promises nowhere of an open that failed, and is taken on trust: where it was replaying the log, it took the
-  -- pages of a file that end in sums for such; and where it was checking what it found, the trees are numbered, as it found them.
+  -- The facts on an open that failed which the toolchain promises nowhere, and which are taken on trust. If it was replaying
+  -- the log, it took the pages of a file that end in sums for such. If it was checking what it found, the trees are
+  -- numbered, as it found them.
   abbrev pub IsUsual : Image → Leftover D g → Type 0
   IsUsual from (left.Files now) = Unit {0}
   IsUsual from (left.Unopened now) =
@@ -78,25 +79,25 @@ module _ {D : Type 0} {g : disk.Ghosts D} where
   HadCleanDisk (Left it) = IsCleanLeft it
   HadCleanDisk (Closed last) = IsClean (view last)
 
-  -- it did, and what is taken on trust is so
+  -- it did, and those facts are true
   abbrev pub EndsWell : Image → Ended D g → Type 0
   EndsWell from Nothing = Unit {0}
   EndsWell from (Left it) = IsCleanLeft it × IsUsual from it
   EndsWell from (Closed last) = IsClean (view last)
 
-  -- Whenever a run stops from its end on, it may leave this: where no files were opened, what they held; and of those that were
-  -- opened as a database, one that stands in the store as it was ended, also where the log is copied into the file.
+  -- Whenever a run stops from its end on, it may leave this: if no files were opened, what they held; and if they were
+  -- opened as a database, one that stands in the store as it was ended, also while the log is copied into the file.
   abbrev pub Leaves : Image → Ended D g → Image → Type 0
   Leaves from Nothing image = image ≡ from
   Leaves from (Left it) image = MayLeave it image
   Leaves from (Closed last) image = (files.state last).may_leave image ⊎ HoldTrees (recovers last) image
 
-  -- so it is, whatever a stop leaves
+  -- it is so, whatever a stop leaves
   abbrev pub Keeps : Image → Ended D g → (Image → Type 0) → Type 0
   Keeps from ended Is = EndsWell from ended → (left : Image) → Leaves from ended left → Is left
 
-  -- Where the disk returned what was written, and the files that a run opened held the bureau's own store, each fault of a store
-  -- that it tells (`Told`) is one that it may tell (`May`).
+  -- The disk returned what was written, and the files that a run opened held the bureau's own store. Then each fault of a
+  -- store that the run tells (`Told`) is one that it may tell (`May`).
   abbrev pub TellsOnly : (May Told : StoreFault → Type 0) → Image → Ended D g → Type 0
   TellsOnly May Told from ended = HadCleanDisk ended → (IsNothing ended → ⊥) → (before : Tables) → HoldsStore from before
       → (fault : StoreFault) → Told fault → May fault
@@ -109,17 +110,18 @@ module _ {D : Type 0} {g : disk.Ghosts D} where
   abbrev pub KeepsEarlier : Image → Ended D g → Type 0
   KeepsEarlier from ended = (before : Tables) → HoldsEarlier from before → Keeps from ended (λ left. ∥ HoldsEarlier left before ∥₁)
 
-  -- A run of `init` that could not open the files, or one of `check`. A database stays as it is, tree by tree, and so a store of either version does.
-  -- Where there is none yet, there is none afterwards, or one that has no tables.
+  -- A run of `init` that could not open the files, or one of `check`. A database stays as it is, tree by tree, and so a
+  -- store of either version does. If there is none yet, there is none afterwards, or one that has no tables.
   pub record KeepsFound (from : Image) (ended : Ended D g) : Type 0 where
     pub stays : (trees : Trees) → HoldsDatabase from trees → Keeps from ended (HoldTrees (λ now. now ≡ trees))
     pub begins : sqlite.IsNothing from → Keeps from ended (λ left. sqlite.IsNothing left ⊎ HoldTrees HasNoTables left)
     pub store : KeepsTables from ended
     pub earlier : KeepsEarlier from ended
 
-  -- A run of `init` over a database, wherever it ends. It stays as it is, tree by tree, or, where it has no tables, it is a store
-  -- with the callers of the callers file and nothing else. So a store of either version stays. Where no database was there yet, there
-  -- is none, or one that has no tables, or that store. Once the run has done what it was for, it is that store.
+  -- A run of `init` over a database, wherever it ends. The database stays as it is, tree by tree; or, if it has no tables,
+  -- it is a store with the callers of the callers file and nothing else. So a store of either version stays. If no database
+  -- was there yet, there is none, or one that has no tables, or that store. Once the run has done what it was for, it is
+  -- that store.
   pub record KeepsMade (from : Image) (source : List ℕ) (outcome : Option AnyFault) (ended : Ended D g) : Type 0 where
     pub found : Keeps from ended (HoldTrees (λ now. AreFoundIn from now ⊎ AreMadeFor source now))
     pub stays : (trees : Trees) → HoldsDatabase from trees

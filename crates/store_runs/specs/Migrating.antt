@@ -1,4 +1,4 @@
--- What `migrate` prints, why it ends, and what it leaves of a database.
+-- The output of `migrate`, why it ends, and what it leaves of a database.
 use Rattle.std.specs.Prelude.{◌≡◌, ◌⊎◌, ℕ, IsTrue, List, codes, false, Option, Some, None}
 use Rattle.std.specs.Io.KnownBytes.{Appends, Keeps}
 use Rattle.faults.specs.declared.any.AnyFault.{AnyFault}
@@ -25,8 +25,8 @@ use Rattle.run_parts.specs.declared.fault.ProgramFault.TheVariants.{NotWritten}
 abbrev pub migrated_text : List ℕ
 migrated_text = codes "MIGRATED VERSION 2\n"
 
--- What standard output gets: the line where the store is of version 2 now; a front part of it where that can't be written; or
--- nothing, where the store stays as it was.
+-- Standard output gets the line if the store is of version 2 now; a front part of it if that can't be written; or nothing,
+-- if the store stays as it was.
 abbrev pub IsMigrateOutput : Option AnyFault → Option (List ℕ) → Option (List ℕ) → Type 0
 IsMigrateOutput None old new = Appends old new migrated_text
 IsMigrateOutput (Some fault) old new =
@@ -47,7 +47,7 @@ HasMigrated before after = HasCleanDisk after → HasVersion (Some 1) before.com
     × HasTables before.committed.schema × CanMakeConditions before.committed.schema
     × (IsOfVersion1 before.committed → IsMigratedTo before after)
 
--- What is left of the database of a connection: version 2 with the same tables, also where only the line couldn't be written;
+-- What is left of the database of a connection: version 2 with the same tables, also if only the line couldn't be written;
 -- else what was there. Unless the device failed, a stop leaves what was there too (`LeavesUntouched`).
 abbrev pub IsMigrateLeft : Option AnyFault → State → State → Type 0
 IsMigrateLeft None before after = HasMigrated before after

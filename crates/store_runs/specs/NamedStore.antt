@@ -36,7 +36,7 @@ module _ (files : List ℕ → KnownFile) (asked asked_after : Asked) (from : Im
     pub kept : KeepsMade from source made.outcome ended
     pub asks : AsksOnce asked asked_after name true from (λ fault. made.outcome ≡ Some (of_store fault)) ended
 
-  -- no connection to the store's files can be made, which is told
+  -- no connection to the store's files can be made, and the fault is told
   pub record IsNotMade (name : List ℕ) (outputs : Outputs) (status : ℕ) (ended : Ended D g) : Type 0 where
     pub fault : StoreFault
     pub refused : IsRefused true from fault ended
@@ -44,7 +44,7 @@ module _ (files : List ℕ → KnownFile) (asked asked_after : Asked) (from : Im
     pub told : IsToldAlone (of_store fault) outputs status
     pub asks : AsksOnce asked asked_after name true from (λ told. told ≡ fault) ended
 
-  -- `init STORE CALLERS`. What is wrong with the callers file may be told before the store is asked for.
+  -- `init STORE CALLERS`. A fault of the callers file may be told before the store is asked for.
   abbrev pub IsInit : List ℕ → List ℕ → Outputs → ℕ → Ended D g → Type 0
   IsInit name callers outputs status ended =
       IsMade name callers outputs status ended ⊎ IsNotMade name outputs status ended

@@ -1,4 +1,4 @@
-//! `callers`: a store gets the callers of a callers file.
+//! `callers`: giving a store the callers of a callers file.
 ghost use Rattle.std.specs.Prelude.{◌≡◌, ◌++◌, decimal, false, IfErr, IfOk, OnOk};
 ghost use Rattle.std.specs.Io.KnownBytes.{Appends};
 ghost use Rattle.run_parts.specs.Outputs.{fault_in, outputs_of};
@@ -23,8 +23,8 @@ use transfer::RETRIES;
 /// Gives the store in the database of a connection these callers, and no others, and prints how many there are and
 /// how many came and went. Returns the exit status, and the connection.
 ///
-/// A fault is told on `errors` alone. Where the line can't be written (72), or memory runs out for it (74), the
-/// store has the callers.
+/// A fault goes to `errors` alone. If the line can't be written (72), or memory runs out for it (74), the store has the
+/// callers.
 pub fn run_callers<S: Alter + Drop, W: Write, E: Write>(
     alloc: Global,
     conn: Connection<S>,
@@ -92,7 +92,7 @@ fn print_counts<W: Write>(
     printed(writer, line.as_slice())
 }
 
-// The line that tells how many callers there are, and how many came and went.
+// The line with the numbers of callers, and of those that came and went.
 fn callers_line(alloc: Global, counts: &CallerCounts) -> Result<Vec<u8>, ProgramFault>
     ensures text { IfOk result (λ line. line.items ≡ callers_text counts.now) }
     ensures fault { IfErr result (λ fault. fault ≡ Memory) }
@@ -106,7 +106,7 @@ fn callers_line(alloc: Global, counts: &CallerCounts) -> Result<Vec<u8>, Program
     Ok(line)
 }
 
-// A word with a number after it.
+// Appends a word with a number after it.
 fn push_count(line: &mut Vec<u8>, word: &[u8], number: u64) -> Result<(), ProgramFault>
     ensures text { OnOk result (line.new.items ≡ line.old.items ++ word.now ++ decimal number) }
     ensures fault { IfErr result (λ fault. fault ≡ Memory) }
@@ -116,8 +116,8 @@ fn push_count(line: &mut Vec<u8>, word: &[u8], number: u64) -> Result<(), Progra
     Ok(())
 }
 
-/// Gives the store in the file `store` the callers that stand in the file `callers`. A file that isn't there is not
-/// made. Returns the exit status, and what is left of the store's files.
+/// Gives the store in the file `store` the callers in the file `callers`. It makes no file that isn't there. Returns
+/// the exit status, and what is left of the store's files.
 ///
 /// A fault of the callers file is told before the store is asked for.
 pub fn callers_file<F: Files, S: Stores, D: Start, O: Write, E: Write>(
@@ -148,7 +148,7 @@ pub fn callers_file<F: Files, S: Stores, D: Start, O: Write, E: Write>(
     }
 }
 
-// The callers that stand in a file.
+// Reads the callers of a file.
 fn callers_of_file<F: Files>(
     files: &F,
     alloc: Global,

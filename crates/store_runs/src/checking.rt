@@ -1,4 +1,4 @@
-//! `check`: a store is looked through.
+//! `check`: looking through a store.
 ghost use Rattle.std.specs.Prelude.{◌≡◌, ◌≢◌, false, IfErr, IfOk, OnErr, OnOk};
 ghost use Rattle.std.specs.Io.KnownBytes.{Appends};
 ghost use Rattle.bureau_sql.specs.SqlView.{IsAtRest};
@@ -30,17 +30,16 @@ use sqlite::{Alter, Connection, FileFrom, Start};
 use std::alloc::Global;
 use std::io::{self, Write};
 
-/// Why a check ends with a fault, and the table with a wrong row, where that is why.
+/// Why a check ends with a fault, and the table with a wrong row, if that is why.
 #[derive(Clone, Copy, Debug)]
 pub struct CheckFault {
     pub fault: AnyFault,
     pub table: Option<StoreTable>,
 }
 
-/// Looks the store in the database of a connection through, and prints how much it has. Returns the exit status.
+/// Looks through the store in the database of a connection, and prints how much it has. Returns the exit status.
 ///
-/// Nothing is written to the database. A fault is told on `errors` alone, with the name of the table that has a
-/// wrong row.
+/// It writes nothing to the database. A fault goes to `errors` alone, with the name of the table that has a wrong row.
 pub fn run_check<S: Alter, W: Write, E: Write>(
     alloc: Global,
     conn: &mut Connection<S>,
@@ -61,8 +60,8 @@ pub fn run_check<S: Alter, W: Write, E: Write>(
     told_in(errors, outcome)
 }
 
-/// The same of the store that a file has. A file that isn't there is not made. Returns the exit status, and what is
-/// left of the files.
+/// The same for the store that a file has. It makes no file that isn't there. Returns the exit status, and what is left
+/// of the files.
 pub fn check_file<S: Stores, D: Start, W: Write, E: Write>(
     stores: &mut S,
     alloc: Global,
@@ -85,7 +84,7 @@ pub fn check_file<S: Stores, D: Start, W: Write, E: Write>(
     }
 }
 
-// Looks the store through, where a desk would serve it, and prints how much it has.
+// Looks through the store, if a desk would serve it, and prints how much it has.
 fn check_and_print<S: Alter, W: Write>(
     alloc: Global,
     conn: &mut Connection<S>,
@@ -106,7 +105,7 @@ fn check_and_print<S: Alter, W: Write>(
     }
 }
 
-// The text that tells how much a store has, where it is whole.
+// The text of how much a store has, if it is whole.
 fn look<S: Alter>(alloc: Global, conn: &mut Connection<S>) -> Result<Vec<u8>, CheckFault>
     requires rest { conn.old.in_transaction ≡ false }
     ensures mode { conn.new.in_transaction ≡ false }
@@ -125,7 +124,7 @@ fn look<S: Alter>(alloc: Global, conn: &mut Connection<S>) -> Result<Vec<u8>, Ch
     }
 }
 
-// What is told of a store that isn't whole.
+// The fault for a store that isn't whole.
 fn wrong(found: Finding) -> CheckFault
     requires { found ≢ finding.Whole }
     ensures { IsToldAs found result }
@@ -140,7 +139,7 @@ fn wrong(found: Finding) -> CheckFault
     }
 }
 
-// What is told where a read is refused.
+// The fault for a read that is refused.
 fn unread(fault: ReadFault) -> CheckFault
     ensures { IsToldOfRead fault result }
 {
@@ -150,7 +149,7 @@ fn unread(fault: ReadFault) -> CheckFault
     }
 }
 
-// The text that tells how much a store has.
+// The text of how much a store has.
 fn tally<S: Alter>(alloc: Global, conn: &mut Connection<S>) -> Result<Vec<u8>, ReadFault>
     requires rest { conn.old.in_transaction ≡ false }
     ensures mode { conn.new.in_transaction ≡ false }
@@ -192,7 +191,7 @@ fn in_no_table(fault: AnyFault) -> CheckFault
     CheckFault { fault, table: None }
 }
 
-// Tells how a check ended, where that is with a fault, and gives the exit status.
+// Writes how a check ended, if it ended with a fault, and returns the exit status.
 fn told_in<E: Write>(errors: &mut E, outcome: Result<(), CheckFault>) -> u8
     ensures told { IsCheckTold (check_fault_in outcome) (E.contents errors.old) (E.contents errors.new) }
     ensures status { result ≡ check_status (check_fault_in outcome) }
@@ -206,7 +205,7 @@ fn told_in<E: Write>(errors: &mut E, outcome: Result<(), CheckFault>) -> u8
     }
 }
 
-// Tells a fault, with the name of the table that it is in.
+// Writes a fault, with the name of its table.
 fn tell_check<E: Write>(errors: &mut E, told: CheckFault) -> io::Result<()>
     ensures { AppendsFront (E.contents errors.old) (E.contents errors.new) (check_line told told.table) }
 {

@@ -1,4 +1,4 @@
-//! A store is made in a database, or opened there.
+//! Making a store in a database, or opening one there.
 ghost use Rattle.std.specs.Prelude.{◌≡◌, false, IfErr, IfOk, OnOk};
 ghost use Rattle.run_parts.specs.Files.{IsContent};
 ghost use Rattle.run_parts.specs.Outputs.{fault_in, outputs_of};
@@ -25,7 +25,7 @@ use transfer::RETRIES;
 /// Makes the tables of a store that has the callers of a callers file and nothing else, and prints how many there are.
 /// Returns the exit status.
 ///
-/// The line is made before the tables, so that they stand where it can't be written (72). A fault is told on `errors`
+/// It makes the line before the tables, so that they are there if it can't be written (72). A fault goes to `errors`
 /// alone.
 pub fn run_init<S: Alter, W: Write, E: Write>(
     alloc: Global,
@@ -73,7 +73,7 @@ fn make_and_print<S: Alter, W: Write>(
     }
 }
 
-// The callers of a file, and the line that tells how many they are.
+// The callers of a file, and the line with their number.
 fn callers_and_line(alloc: Global, source: &[u8]) -> Result<(Vec<CallerRow>, Vec<u8>), AnyFault>
     ensures rows { IfOk result (λ both. AreRowsOf source.now both.0.items) }
     ensures line { IfOk result (λ both. both.1.items ≡ init_text both.0.items) }
@@ -96,17 +96,17 @@ pub fn callers_in(alloc: Global, source: &[u8]) -> Result<Vec<CallerRow>, AnyFau
     Ok(callers(alloc, source)?)
 }
 
-/// What is told of a fault of the store.
+/// The fault of a run for that of the store.
 pub fn of_store(fault: StoreFault) -> AnyFault
     ensures { result ≡ of_store fault }
 {
     AnyFault::from(fault)
 }
 
-/// Makes a store in the file `store`, with the callers that stand in the file `callers`. Returns the exit status,
-/// and what is left of the store's files.
+/// Makes a store in the file `store`, with the callers in the file `callers`. Returns the exit status, and what is left
+/// of the store's files.
 ///
-/// A file that isn't there is made. Where it isn't, a fault of the callers file is told before.
+/// It makes a file that isn't there. If it would make one, a fault of the callers file is told before.
 pub fn do_init<F: Files, S: Stores, D: Start, O: Write, E: Write>(
     files: &F,
     stores: &mut S,
@@ -136,8 +136,8 @@ pub fn do_init<F: Files, S: Stores, D: Start, O: Write, E: Write>(
     }
 }
 
-// What stands in the callers file. Where the file of the store isn't there, a fault of the callers file is found before
-// one is made.
+// Reads the callers file. If the file of the store isn't there, a fault of the callers file is found before one is
+// made.
 fn read_callers<F: Files>(
     files: &F,
     alloc: Global,
@@ -175,7 +175,7 @@ pub(crate) fn open<S: Alter>(
     }
 }
 
-/// The store in the database of a connection; or the exit status, where a fault was told, and the connection, at rest.
+/// The store in the database of a connection; or the exit status, if a fault was told, and the connection, at rest.
 #[tactic(auto, using(crate::proofs::DeskFacts::open_refused))]
 pub fn run_open<S: Alter + Drop, E: Write>(
     alloc: Global,

@@ -1,10 +1,10 @@
-//! The files of a store, where a run of the program ends.
+//! The files of a store when a run of the program ends.
 ghost use Rattle.store_runs.specs.Ended.{IsCopied, IsCopiedEnd, IsEndOf};
 
 use sqlite::{Connection, FileStore, Leftover};
 use sqlite_disk::Disk;
 
-/// The files of a store, where a run ends.
+/// The files of a store when a run ends.
 #[derive(Drop)]
 pub enum Ended<D: Disk> {
     /// None were opened.
@@ -29,7 +29,7 @@ impl<D: Disk + Drop> Ended<D> {
     }
 }
 
-// Copies the log into the database's file, where that can be done.
+// Copies the log into the database's file, if that can be done.
 fn copy_log<D: Disk + Drop>(mut store: FileStore<D>) -> FileStore<D>
     ensures { IsCopied store result }
 {

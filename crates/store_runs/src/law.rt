@@ -1,4 +1,4 @@
-//! What the files hold after an `init` that was stopped, as a law.
+//! A law on the files after an `init` that was stopped.
 ghost use Rattle.std.specs.Prelude.{◌≡◌, ℕ, List};
 ghost use Rattle.sqlite.specs.Effect.{Database, IsDatabase};
 ghost use Rattle.sqlite.specs.Files.{HoldsDatabase};

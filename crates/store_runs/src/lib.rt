@@ -1,16 +1,16 @@
-//! The runs of the program over a store in a file: a store is made, opened, made one of version 2, gets other
-//! callers, or is looked through, and what its files hold wherever a run ends.
+//! The runs of the program over a store in a file: they make a store, open it, make it one of version 2, give it
+//! other callers, or look through it. It also says what the files hold wherever a run ends.
 //!
 //! - [`Stores`]: connections to the databases in files
-//! - [`do_init`], [`migrate_file`], [`callers_file`]: `init`, `migrate` and `callers`, of stores by the names of
+//! - [`do_init`], [`migrate_file`], [`callers_file`]: `init`, `migrate` and `callers`, for stores by the names of
 //!   their files
-//! - [`run_init`], [`run_open`], [`run_migrate`], [`run_callers`]: a store is made, opened, made one of version 2,
-//!   or gets other callers, over a connection
+//! - [`run_init`], [`run_open`], [`run_migrate`], [`run_callers`]: make a store, open it, make it one of version
+//!   2, or give it other callers, over a connection
 //! - [`check_file`], [`run_check`]: `check`, by the name of a file or over a connection; [`CheckFault`]: why it
 //!   ends with a fault
 //! - [`law`]: what an `init` that was stopped leaves, for the next run
-//! - [`callers_in`]: the callers of a callers file; [`of_store`]: what is told of a fault of a store
-//! - [`Ended`]: the files of a store, where a run ends; [`end`]: a connection is ended
+//! - [`callers_in`]: the callers of a callers file; [`of_store`]: the fault of a run for that of a store
+//! - [`Ended`]: the files of a store when a run ends; [`end`]: ends a connection
 #![tactic(auto)]
 
 mod callers;

@@ -1,4 +1,4 @@
-//! `migrate`: a store of version 1 in a file becomes one of version 2.
+//! `migrate`: making a store of version 1 in a file one of version 2.
 ghost use Rattle.std.specs.Prelude.{◌≡◌, false};
 ghost use Rattle.run_parts.specs.Outputs.{fault_in, outputs_of};
 ghost use Rattle.store_runs.specs.Migrating.{IsMigrateLeft, IsMigrateOutput, IsMigrateRun};
@@ -22,7 +22,7 @@ use std::io::Write;
 /// Makes a store of version 1 in the database of a connection one of version 2, with all that it has, and prints that
 /// this is done. Returns the exit status.
 ///
-/// A fault is told on `errors` alone. Where the line can't be written (72), the store is of version 2.
+/// A fault goes to `errors` alone. If the line can't be written (72), the store is of version 2.
 pub fn run_migrate<S: Alter, W: Write, E: Write>(
     conn: &mut Connection<S>,
     writer: &mut W,
@@ -62,7 +62,7 @@ fn migrate_and_print<S: Alter, W: Write>(
     }
 }
 
-/// The same of the store that a file has. A file that isn't there is not made. Returns the exit status, and what is
+/// The same for the store that a file has. It makes no file that isn't there. Returns the exit status, and what is
 /// left of the files.
 pub fn migrate_file<S: Stores, D: Start, W: Write, E: Write>(
     stores: &mut S,

@@ -10,20 +10,20 @@ use sqlite::{Connection, FileFrom, FileStore, Start};
 
 /// Connections to the databases in files, by the names of these.
 ///
-/// A run has it as an argument of its own, so one that doesn't get it asks for no store. Those of a system don't tell
-/// what was asked for. What is proved of every `Stores` says which store a run asks for, and that it asks once.
+/// A run has it as an argument of its own, so a run that doesn't get it asks for no store. A system's stores don't
+/// tell what was asked for. A proof about every `Stores` says which store a run asks for, and that it asks once.
 pub trait Stores {
-    /// Which stores were asked for, the oldest first, as far as they are known.
+    /// The stores that were asked for, the oldest first, as far as they are known.
     ghost asked: { Self → Asked };
 
-    /// A connection to the database in the file of this name, at rest. A file that isn't there is made, where that is
-    /// asked for. What the files held stands as a `Start`, since no code can read it.
+    /// Connects to the database in the file of this name, and leaves it at rest. It makes a file that isn't there, if
+    /// that is asked for. What the files held stands as a `Start`, since no code can read it.
     ///
     /// # Errors
     ///
-    /// `Shape` where the file isn't there and isn't to be made; `Memory` where memory ran out; `Device` where the
-    /// name is no file's, where the file may not be opened or another has it open, where a call on it failed, or
-    /// where it is no database, or one as long as a database may be. With it comes what is left of the files.
+    /// `Shape` if the file isn't there and should not be made; `Memory` if memory ran out. `Device` if the name is no
+    /// file's, or the file may not be opened, or another has it open. `Device` also if a call on it failed, or if it
+    /// is no database, or one as long as a database may be. With the fault comes what is left of the files.
     fn connect<D: Start>(
         &mut self,
         name: &str,

@@ -1,4 +1,4 @@
--- Which of the SYSMODs that resolve a hold is chosen (IBM z/OS SMP/E Reference, `++VER`, operand SUP).
+-- Choosing one of the SYSMODs that resolve a hold (IBM z/OS SMP/E Reference, `++VER`, operand SUP).
 use Rattle.std.specs.Prelude.{ℕ, ◌&&◌, Bool, true, false, not, List, [], ◌∷◌, Option, filter, length, map, ◌-◌}
 use Rattle.std.specs.List.{list_any, slice_get}
 use Rattle.catalogue.specs.Content.{Content}
@@ -21,7 +21,7 @@ same_status Held Lack = false
 same_status Lack Good = false
 same_status Lack Held = false
 
--- those of a list that were kept, or all where none was
+-- those of a list that were kept, or all if none was
 abbrev pub or_all : {A : Type 0} → List A → List A → List A
 or_all [] all = all
 or_all (first ∷ more) all = first ∷ more
@@ -33,7 +33,7 @@ last_of ids = slice_get ids (length ids - 1)
 abbrev pub greatest_of : List (List ℕ) → Option (List ℕ)
 greatest_of ids = last_of (in_order ids)
 
--- of some resolvers those of a kind; of these those that the client has received, or all where it has received none
+-- those of some resolvers that are of a kind; only those that the client has received, if it has received any
 abbrev pub of_status : Status → List Resolver → List Resolver
 of_status status resolvers = filter (λ resolver. same_status resolver.status status) resolvers
 
@@ -44,7 +44,7 @@ received_or_all resolvers = or_all (filter (λ resolver. resolver.received) reso
 abbrev pub is_given : Content → List (List ℕ) → List ℕ → Bool
 is_given content ids id = list_any (λ other. not (same_id other id) && gives content other id) ids
 
--- of some SYSMODs those that no other of them gives, or all where each is given
+-- those of some SYSMODs that no other of them gives, or all if each is given
 abbrev pub on_top : Content → List (List ℕ) → List (List ℕ)
 on_top content ids = or_all (filter (λ id. not (is_given content ids id)) ids) ids
 

@@ -24,7 +24,7 @@ lists_of lists = map (λ list. list.items) lists
 abbrev pub list_at : List (List (List ℕ)) → ℕ → List (List ℕ)
 list_at lists p = slice_index_or lists p []
 
--- what gives some SYSMODs is known
+-- the givers of some SYSMODs are known
 abbrev pub AreKnown : Content → List ZoneRow → List (List ℕ) → List (Vec Id) → Type 0
 AreKnown content rows ids lists = lists_of lists ≡ map (known_givers content rows) ids
 
@@ -35,18 +35,18 @@ is_given_by list ids id = list_any (λ giver. not (same_id giver id) && has ids 
 abbrev pub not_given : (List ℕ → List (List ℕ)) → List (List ℕ) → List (List ℕ) → List (List ℕ)
 not_given f among ids = filter (λ id. not (is_given_by (f id) among id)) ids
 
--- it is known what gives each resolver of a hold, and what is said of each is so
+-- the givers of each resolver of a hold are known, and the status of each is right
 abbrev pub MayPlace : Content → List ZoneRow → List (List ℕ) → HoldLists → Type 0
 MayPlace content rows known hold =
     (resolver : Resolver) → Contains hold.resolvers resolver → (has known resolver.id ≡ true) × (resolver.status ≡ status_of (verdict_of content rows resolver.id))
 
--- the index of a member that is left and stands among some givers
+-- the index of a member that is left and is among some givers
 pub record IsLeftAmong (ids : List (List ℕ)) (left : List Bool) (givers : List (List ℕ)) (q : ℕ) : Type 0 where
   pub within : q < length ids
   pub marked : IsMarked left q
   pub listed : Contains givers (id_at ids q)
 
--- a need of which it is known what gives it, with the index of a member that is left and does
+-- a need whose givers are known, with the index of a member that is left and gives it
 pub record IsGivenIndex (f : List ℕ → Option (List (List ℕ))) (ids : List (List ℕ)) (left : List Bool) (needs : List (List ℕ)) (q : ℕ) : Type 0 where
   pub need : List ℕ
   pub needed : Contains needs need
@@ -54,19 +54,19 @@ pub record IsGivenIndex (f : List ℕ → Option (List (List ℕ))) (ids : List 
   pub answer : f need ≡ Some givers
   pub gives : IsLeftAmong ids left givers q
 
--- the indices of the members that are left and give what is needed
+-- the indices of the members that are left and give a need
 pub record AreGivenIndices (f : List ℕ → Option (List (List ℕ))) (ids : List (List ℕ)) (left : List Bool) (needs : List (List ℕ)) (indices : List ℕ) : Type 0 where
   pub given : (q : ℕ) → Contains indices q → IsGivenIndex f ids left needs q
   pub whole : (q : ℕ) → IsGivenIndex f ids left needs q → Contains indices q
 
--- what is read of the member at an index
+-- the needs of the member at an index, as they were read
 abbrev pub needs_at : List ReadingLists → ℕ → List (List ℕ)
 needs_at readings p = slice_index_or (map (λ reading. reading.needs) readings) p []
 
 abbrev pub AreGiven : (List ℕ → Option (List (List ℕ))) → List (List ℕ) → List Bool → List ReadingLists → List (List ℕ) → Type 0
 AreGiven f ids left readings rows = RowsAre (λ p indices. AreGivenIndices f ids left (needs_at readings p) indices) (length readings) rows
 
--- the indices of what is left among some givers are added
+-- the indices of the members that are left among some givers are added
 pub record ArePushed (ids : List (List ℕ)) (left : List Bool) (givers : List (List ℕ)) (old new : List ℕ) : Type 0 where
   pub keeps : (q : ℕ) → Contains old q → Contains new q
   pub given : (q : ℕ) → Contains new q → Contains old q ⊎ IsLeftAmong ids left givers q
@@ -122,6 +122,6 @@ pub record AreReachedFrom (needs : List (List ℕ)) (starts members : List Bool)
 abbrev pub ids_of_steps : List (List ℕ) → List (List ℕ) → List (List (List ℕ))
 ids_of_steps ids steps = map (λ step. map (id_at ids) step) steps
 
--- what stands in a row is the index of an id
+-- each entry of a row is the index of an id
 abbrev pub AreWithin : List (List ℕ) → List (List ℕ) → Type 0
 AreWithin ids rows = (k p : ℕ) → k < length rows → Contains (slice_index_or rows k []) p → p < length ids

@@ -1,4 +1,4 @@
--- What is to be installed in a zone so that holds are resolved, and in which order (IBM z/OS SMP/E Reference, `++VER`,
+-- The SYSMODs to install in a zone so that holds are resolved, and in which order (IBM z/OS SMP/E Reference, `++VER`,
 -- operands PRE, REQ and SUP).
 use Rattle.std.specs.Prelude.{◌≡◌, ◌++◌, ◌&&◌, ◌||◌, ℕ, zero, suc, Bool, not, List, [], ◌∷◌, filter, length, Contains}
 use Rattle.std.specs.List.{flat_map, list_any}
@@ -107,10 +107,9 @@ zone_steps_of content rows chosen =
 
 -- ---- what is so of them
 
--- The steps in which is installed what some chosen resolvers want: those of the function. All members
--- together are a plan; for each chosen resolver
--- there is a member that gives it; no member is there without a cause, or comes of no chosen plan; and no member gives
--- another one, itself or through others.
+-- The steps that install what some chosen resolvers want: those of the function. All members together are a plan. For each
+-- chosen resolver there is a member that gives it. No member is there without a cause, or comes of no chosen plan. No member
+-- gives another one, itself or through others.
 pub record AreZoneSteps (content : Content) (rows : List ZoneRow) (chosen : List (List ℕ)) (steps : List (List (List ℕ))) : Type 0 where
   pub are : steps ≡ zone_steps_of content rows chosen
   pub order : AreStepsAfter content rows (joined steps) [] steps

@@ -22,7 +22,7 @@ use Rattle.zone_plans.specs.declared.placing.Fate.{Fate}
 use Rattle.zone_plans.specs.declared.placing.Fate.TheVariants.{Resolved, Held, Unresolved}
 use Rattle.zone_plans.specs.declared.placing.Placed.{Placed}
 
--- what becomes of a hold: the resolver that is GOOD and chosen, or else the one that is HELD, or neither
+-- the fate of a hold: the resolver that is GOOD and chosen, or else the one that is HELD, or neither
 abbrev pub fate_by : Option (List ℕ) → Option (List ℕ) → Fate
 fate_by (Some id) held = Resolved id
 fate_by None (Some id) = Held id
@@ -47,7 +47,7 @@ resolver_by Unresolved = None
 abbrev pub chosen_in : List Placed → List (List ℕ)
 chosen_in holds = in_order (filter_map (λ one. resolver_by one.fate) holds)
 
--- the holds of which a resolver is GOOD, each with the one that is chosen
+-- the holds with a GOOD resolver, each with the chosen one
 abbrev pub if_resolved : HoldOn → Fate → Option ChosenResolver
 if_resolved hold (Resolved id) = Some (record { hold = hold; resolver = id })
 if_resolved hold (Held id) = None
@@ -56,7 +56,7 @@ if_resolved hold Unresolved = None
 abbrev pub resolved_in : List Placed → List ChosenResolver
 resolved_in holds = filter_map (λ one. if_resolved one.hold one.fate) holds
 
--- the holds of which none is GOOD and one is HELD, each with the one that is chosen
+-- the holds without a GOOD resolver that have one that is HELD, each with the chosen one
 abbrev pub if_held : HoldOn → Fate → Option ChosenResolver
 if_held hold (Resolved id) = None
 if_held hold (Held id) = Some (record { hold = hold; resolver = id })
@@ -65,7 +65,7 @@ if_held hold Unresolved = None
 abbrev pub held_in : List Placed → List ChosenResolver
 held_in holds = filter_map (λ one. if_held one.hold one.fate) holds
 
--- the holds of which none is GOOD or HELD
+-- the holds without a resolver that is GOOD or HELD
 abbrev pub if_unresolved : HoldOn → Fate → Option HoldOn
 if_unresolved hold (Resolved id) = None
 if_unresolved hold (Held id) = None
@@ -78,7 +78,7 @@ unresolved_in holds = filter_map (λ one. if_unresolved one.hold one.fate) holds
 abbrev pub resolvers_of : List ChosenResolver → List (List ℕ)
 resolvers_of holds = map (λ one. one.resolver) holds
 
--- what is said of the resolvers is so: the status of each is that of its verdict
+-- the status of each resolver is that of its verdict
 abbrev pub AreTold : Content → List ZoneRow → List HoldLists → Type 0
 AreTold content rows holds =
     (hold : HoldLists) (resolver : Resolver) → Contains holds hold → Contains hold.resolvers resolver
@@ -95,7 +95,7 @@ pub record PlanLists : Type 0 where
   pub held : List ChosenResolver
   pub blocked : List BlockedNeed
 
--- by what becomes of each hold
+-- by the fate of each hold
 abbrev pub plan_with : Content → List ZoneRow → List Placed → PlanLists
 plan_with content rows holds = record {
   steps = zone_steps_of content rows (chosen_in holds);
@@ -106,9 +106,9 @@ plan_with content rows holds = record {
   blocked = blocked_needs_of content rows (resolvers_of (held_in holds));
 }
 
--- The plan for the holds of a report: the steps that install what the resolvers want that are chosen of those that are GOOD;
--- the holds that are resolved so, those without a resolver that is GOOD or HELD, and those of which none is GOOD; and what
--- blocks the resolvers that are chosen of these. With it goes what was found of what the chosen plans have together.
+-- The plan for the holds of a report. It has the steps that install what the chosen GOOD resolvers want; the holds that are
+-- resolved so, those without a resolver that is GOOD or HELD, and those without a GOOD one; the needs that block the chosen
+-- resolvers of these; and the findings on the members of the chosen plans.
 abbrev pub plan_of : Content → List ZoneRow → List HoldLists → PlanLists
 plan_of content rows holds = plan_with content rows (map (placed content) holds)
 
@@ -117,9 +117,9 @@ abbrev pub AreGood : Content → List ZoneRow → List Placed → Type 0
 AreGood content rows holds =
     (id : List ℕ) → Contains (chosen_in holds) id → status_of (verdict_of content rows id) ≡ status.Good
 
--- What is so of the plan. Its steps install what the chosen resolvers want, which are GOOD, and a member gives each of these: so for
--- each hold of which a resolver is GOOD there is a member that gives the one that is chosen. The table of blocked needs has a row of each
--- resolver that is chosen of those that are HELD.
+-- The plan is right. Its steps install what the chosen resolvers want, which are GOOD, and a member gives each of these. So
+-- for each hold with a GOOD resolver there is a member that gives the chosen one. The table of blocked needs has a row of
+-- each chosen resolver that is HELD.
 pub record IsZonePlan (content : Content) (rows : List ZoneRow) (holds : List HoldLists) (plan : PlanLists) : Type 0 where
   pub are : plan ≡ plan_of content rows holds
   pub good : AreGood content rows (map (placed content) holds)
@@ -134,7 +134,7 @@ pub record IsZonePlan (content : Content) (rows : List ZoneRow) (holds : List Ho
 abbrev pub resolvers_named : List HoldLists → List (List ℕ)
 resolvers_named holds = in_order (flat_map (λ hold. map (λ resolver. resolver.id) hold.resolvers) holds)
 
--- a plan by what becomes of each hold
+-- a plan by the fate of each hold
 pub record IsPlanFor (content : Content) (rows : List ZoneRow) (holds : List Placed) (plan : PlanLists) : Type 0 where
   pub are : plan ≡ plan_with content rows holds
   pub steps : AreZoneSteps content rows (chosen_in holds) plan.steps

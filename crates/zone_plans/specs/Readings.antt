@@ -1,5 +1,5 @@
--- What is read of each member of a plan (IBM z/OS SMP/E Reference, `++VER`, operands FMID, PRE and REQ, `++IF`, operands FMID and REQ,
--- and `++HOLD`, operand REASON).
+-- The reading of each member of a plan (IBM z/OS SMP/E Reference, `++VER`, operands FMID, PRE and REQ, `++IF`, operands FMID
+-- and REQ, and `++HOLD`, operand REASON).
 use Rattle.std.specs.Prelude.{◌++◌, ℕ, List, [], Option}
 use Rattle.std.specs.List.{flat_map}
 use Rattle.holddata.specs.declared.hold.Hold.{Hold}
@@ -11,7 +11,7 @@ use Rattle.catalogue.specs.declared.sysmod.Sysmod.{Sysmod}
 use Rattle.supersede.specs.Giving.{conds_of, fmids_of, needs_where, requisites_of}
 use Rattle.reports.specs.ChainText.{reasons_in}
 
--- What is read of a SYSMOD: its functions, what it needs in the zone, and the reasons of the SYSTEM and USER holds on it.
+-- The reading of a SYSMOD: its functions, its needs in the zone, and the reasons of the SYSTEM and USER holds on it.
 pub record ReadingLists : Type 0 where
   pub fmids : List (List ℕ)
   pub needs : List (List ℕ)
@@ -34,6 +34,6 @@ reading_of content rows id = reading_from rows (record_of content id) (holds_on 
 abbrev pub nothing_read : ReadingLists
 nothing_read = record { fmids = []; needs = []; system = []; user = [] }
 
--- all that is needed, ascending, each once
+-- all needs, ascending, each once
 abbrev pub all_needs : List ReadingLists → List (List ℕ)
 all_needs readings = in_order (flat_map (λ reading. reading.needs) readings)

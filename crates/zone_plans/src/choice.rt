@@ -1,4 +1,4 @@
-//! Which of the SYSMODs that resolve a hold is chosen.
+//! Choosing one of the SYSMODs that resolve a hold.
 ghost use Rattle.std.specs.Prelude.{◌≡◌, ◌&&◌, ◌++◌, ◌∷◌, [], List, ℕ, true, filter, map, not, Contains, IfOk, OnOk, if◌then◌else◌};
 ghost use Rattle.zone_lists.specs.declared.zones.ZoneRow.{ZoneRow};
 ghost use Rattle.catalogue.specs.Content.{Content};
@@ -15,7 +15,7 @@ use std::alloc::Global;
 use std::collections::BTreeSet;
 use verdicts::{Status, listed};
 
-/// The resolver of a kind that is chosen for a hold, by what gives each resolver.
+/// The resolver of a kind that is chosen for a hold, by the givers of each resolver.
 pub(crate) fn choice(
     alloc: Global,
     known: &[Id],
@@ -33,7 +33,7 @@ pub(crate) fn choice(
     greatest(alloc, &top)
 }
 
-// The resolvers of a kind, those that were received where there are any.
+// The resolvers of a kind; only the received ones if there are any.
 fn candidates(alloc: Global, status: Status, resolvers: &[Resolver]) -> Result<Vec<Id>, NoMemory>
     ensures { IfOk result (λ ids. ids.items
         ≡ map (λ resolver. resolver.id) (received_or_all (of_status status resolvers.now))) }
@@ -94,7 +94,7 @@ fn ids_of(alloc: Global, resolvers: &[Resolver]) -> Result<Vec<Id>, NoMemory>
     Ok(ids)
 }
 
-// Those of some ids that no other of them gives, or all where each is given.
+// Those of some ids that no other of them gives, or all if each is given.
 fn tops(alloc: Global, known: &[Id], lists: &[Vec<Id>], ids: Vec<Id>) -> Result<Vec<Id>, NoMemory>
     requires { Ascend known.now }
     ensures { IfOk result (λ top. (f : List ℕ → List (List ℕ)) → lists_of lists.now ≡ map f known.now
@@ -106,7 +106,7 @@ fn tops(alloc: Global, known: &[Id], lists: &[Vec<Id>], ids: Vec<Id>) -> Result<
     Ok(or_all(top, ids))
 }
 
-// Those that were kept, or all where none was.
+// Those that were kept, or all if none was.
 fn or_all(kept: Vec<Id>, all: Vec<Id>) -> Vec<Id>
     ensures { result.items ≡ or_all kept.items all.items }
 {
@@ -148,7 +148,7 @@ fn push_if(ids: &mut Vec<Id>, keep: bool, id: &Id) -> Result<(), NoMemory>
     Ok(())
 }
 
-// Whether no other one among some gives an id, by what is known.
+// Whether no other one among some gives an id, by the known lists.
 fn is_kept(known: &[Id], lists: &[Vec<Id>], other: &Vec<Id>, among: &[Id], id: &Id) -> bool
     requires known { Ascend known.now }
     requires among { Ascend among.now }
@@ -188,7 +188,7 @@ fn ordered(alloc: Global, ids: &[Id]) -> Result<Vec<Id>, NoMemory>
     listed(alloc, found)
 }
 
-// The greatest of some ids, in whatever order they stand.
+// The greatest of some ids, in whatever order they are.
 fn greatest(alloc: Global, ids: &[Id]) -> Result<Option<Id>, NoMemory>
     ensures { IfOk result (λ greatest. greatest ≡ greatest_of ids.now) }
 {

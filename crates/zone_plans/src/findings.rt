@@ -1,4 +1,4 @@
-//! What is found of the SYSMODs that chosen plans have together.
+//! The findings on the SYSMODs that chosen plans have together.
 ghost use Rattle.std.specs.Prelude.{◌≡◌, ℕ, List, Some, IfOk, map, true};
 ghost use Rattle.std.specs.List.{slice_get};
 ghost use Rattle.catalogue.specs.Ids.{Ascend};
@@ -20,9 +20,9 @@ use std::marker::Model;
 use supersede::{Zone, index_among};
 use verdicts::Judge;
 
-/// What is found of the SYSMODs that chosen plans have together, before those are left out that another one gives: what
-/// is read of each, what gives it, and what gives the needs of all (IBM z/OS SMP/E Reference, `++VER`, operands FMID,
-/// PRE, REQ and SUP, and `++HOLD`).
+/// The findings on the SYSMODs that chosen plans have together, before each one that another gives is left out: the
+/// reading of each, its givers, and the givers of all needs (IBM z/OS SMP/E Reference, `++VER`, operands FMID, PRE, REQ
+/// and SUP, and `++HOLD`).
 #[derive(Debug, Drop)]
 pub struct Findings {
     pub(crate) ids: Vec<Id>,
@@ -61,7 +61,7 @@ impl Findings {
     ghost use Rattle.zone_plans.specs.Findings.{AreFindings, known_givers};
     ghost use Rattle.zone_plans.specs.Readings.{reading_of};
 
-    /// What was read of one of the SYSMODs, or what is handed for another. It takes no memory.
+    /// The reading of `id`; `other` if it isn't among the SYSMODs.
     pub fn reading<'a>(&'a self, other: &'a Reading, id: &Id) -> &'a Reading
         ensures { (content : Content) (rows : List ZoneRow) → AreFindings content rows self.now
             → Contains self.now.ids id.now → result.now ≡ reading_of content rows id.now }
@@ -69,8 +69,8 @@ impl Findings {
         reading_among(&self.ids, &self.readings, other, id)
     }
 
-    /// Those that give one of the SYSMODs, itself or through others, all candidates among them, or what is handed for
-    /// another. It takes no memory.
+    /// The SYSMODs that give `id`, itself or through others, all candidates among them; `other` if it isn't among the
+    /// SYSMODs.
     pub fn givers<'a>(&'a self, other: &'a Vec<Id>, id: &Id) -> &'a Vec<Id>
         ensures { (content : Content) (rows : List ZoneRow) → AreFindings content rows self.now
             → Contains self.now.ids id.now → result.now.items ≡ known_givers content rows id.now }
@@ -78,8 +78,7 @@ impl Findings {
         list_among(&self.ids, &self.givers, other, id)
     }
 
-    /// The candidates that give something that one of the SYSMODs needs, or `None` where it is there; or what is handed
-    /// for another. It takes no memory.
+    /// The candidates that give `need`, or `None` if it is there; `other` if none of the SYSMODs needs it.
     pub fn answer<'a>(&'a self, other: &'a Option<Vec<Id>>, need: &Id) -> &'a Option<Vec<Id>>
         ensures { (content : Content) (rows : List ZoneRow) → AreFindings content rows self.now
             → Contains self.now.asked need.now
@@ -114,7 +113,7 @@ fn reading_at<'a>(readings: &'a [Reading], other: &'a Reading, at: usize) -> &'a
     }
 }
 
-/// What is found of the SYSMODs that the chosen plans of some resolvers have together.
+/// Finds what there is of the SYSMODs that the chosen plans of some resolvers have together.
 pub(crate) fn find<P: Published, J: Judge<P>>(
     alloc: Global,
     source: &mut P,

@@ -1,4 +1,4 @@
-//! What gives each member.
+//! The givers of each member.
 ghost use Rattle.std.specs.Prelude.{◌≡◌, List, Option, ℕ, IfOk, map, option_map};
 ghost use Rattle.catalogue.specs.Ids.{Ascend};
 ghost use Rattle.catalogue.specs.View.{MayAsk, Tells};
@@ -36,7 +36,7 @@ pub(crate) fn givers_of_all<P: Published, J: Judge<P>>(
     givers_by(alloc, source, ids, &answers)
 }
 
-// By what was answered for each, or by all that give it where it is there.
+// The answer for each, or all that give it if it is there.
 fn givers_by<P: Published>(
     alloc: Global,
     source: &mut P,
@@ -76,7 +76,7 @@ fn givers_at<P: Published>(
     }
 }
 
-/// The same ids once more.
+/// Copies ids.
 pub(crate) fn copied(ids: &Vec<Id>) -> Result<Vec<Id>, NoMemory>
     ensures { IfOk result (λ copy. copy.items ≡ ids.now.items) }
 {

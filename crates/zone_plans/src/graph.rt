@@ -1,4 +1,4 @@
-//! Members by their indices: what gives each, and what gives what it needs.
+//! Members by their indices: the givers of each, and of its needs.
 ghost use Rattle.std.specs.Prelude.{◌≡◌, ◌<◌, ◌∷◌, [], ℕ, List, Option, true, Contains, IfOk, OnOk, length, map, option_map};
 ghost use Rattle.catalogue.specs.Ids.{Ascend};
 ghost use Rattle.supersede.specs.Reach.{has};
@@ -14,10 +14,10 @@ use requisites::{Rows, is_marked};
 use std::alloc::Global;
 use verdicts::{index_of, put_indices};
 
-/// What is answered for a need: the candidates that give it, ascending, unless it is there.
+/// The answer for a need: the candidates that give it, ascending, unless it is there.
 pub(crate) type Answer = Option<Vec<Id>>;
 
-/// By index, which members each list has.
+/// By index, the members in each list.
 pub(crate) fn member_rows(alloc: Global, ids: &[Id], lists: &[Vec<Id>]) -> Result<Rows, NoMemory>
     requires { Ascend ids.now }
     ensures { IfOk result (λ rows. RowsAre
@@ -58,7 +58,7 @@ pub(crate) fn need_rows(
     Ok(rows)
 }
 
-// Makes a list that of the indices of the members that are left and give what is needed.
+// Turns a list into that of the indices of the members that are left and give a need.
 fn put_given(
     indices: &mut Vec<usize>,
     ids: &[Id],

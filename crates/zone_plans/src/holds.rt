@@ -11,8 +11,8 @@ pub struct HoldOn {
     pub reason: Id,
 }
 
-/// A hold of a report, with the one that is chosen of the SYSMODs that resolve it: the received before the others, then
-/// one that no other of them supersedes, then the greatest id.
+/// A hold of a report, with the resolver that is chosen for it: the received ones come before the others, then one that
+/// no other resolver supersedes, then the greatest id.
 #[derive(Clone, Copy, Debug, PartialEq, Eq)]
 pub struct ChosenResolver {
     /// The hold.

@@ -1,10 +1,11 @@
-//! One plan for a zone: what is to be installed so that the holds of a report are resolved, and in which order
-//! (IBM z/OS SMP/E Reference, `++VER`, operands PRE, REQ and SUP).
+//! One plan for a zone: the SYSMODs to install so that the holds of a report are resolved, and in which order (IBM z/OS
+//! SMP/E Reference, `++VER`, operands PRE, REQ and SUP).
 //!
 //! - [`err_plan`], [`missing_plan`]: the plans for the two reports, as a [`ZonePlan`]
-//! - [`zone_plan`]: the plan for some holds of a report, each with what resolves it
-//! - [`Steps`]: what is to be installed, step by step
-//! - [`Findings`]: what was found of the SYSMODs that the chosen plans have together; [`Reading`]: what was read of one
+//! - [`zone_plan`]: the plan for some holds of a report, each with its resolvers
+//! - [`Steps`]: the SYSMODs to install, step by step
+//! - [`Findings`]: what was found of the SYSMODs that the chosen plans have together; [`Reading`]: one SYSMOD as it was
+//!   read
 //! - [`HoldOn`]: a hold by its SYSMOD and its reason; [`ChosenResolver`]: a hold with the resolver that is chosen for
 //!   it
 //!

@@ -11,7 +11,7 @@ use reports::is_among;
 use requisites::{has_source, is_marked};
 use std::alloc::Global;
 
-/// Which of some ids stand among others.
+/// Marks those of some ids that are among others.
 pub(crate) fn marks_among(alloc: Global, ids: &[Id], others: &[Id]) -> Result<Vec<bool>, NoMemory>
     requires { Ascend others.now }
     ensures { IfOk result (λ marks. marks.items ≡ map (has others.now) ids.now) }
@@ -23,7 +23,7 @@ pub(crate) fn marks_among(alloc: Global, ids: &[Id], others: &[Id]) -> Result<Ve
     Ok(marks)
 }
 
-/// Which nodes have a source.
+/// Marks the nodes that have a source.
 pub(crate) fn sourced(alloc: Global, sources: &[Option<usize>]) -> Result<Vec<bool>, NoMemory>
     ensures { IfOk result (λ marks. AreSourced sources.now marks.items) }
 {
@@ -34,7 +34,7 @@ pub(crate) fn sourced(alloc: Global, sources: &[Option<usize>]) -> Result<Vec<bo
     Ok(marks)
 }
 
-/// Which of the nodes that are left have a source.
+/// Marks the nodes that are left and have a source.
 pub(crate) fn left_and_sourced(
     alloc: Global,
     left: &[bool],

@@ -1,4 +1,4 @@
-//! What becomes of each hold.
+//! The fate of each hold.
 ghost use Rattle.std.specs.Prelude.{◌≡◌, ◌++◌, ◌∷◌, [], List, Contains, IfOk, OnOk, map};
 ghost use Rattle.std.specs.List.{cons_option};
 ghost use Rattle.zone_lists.specs.declared.zones.ZoneRow.{ZoneRow};
@@ -23,7 +23,7 @@ use std::collections::BTreeSet;
 use supersede::Zone;
 use verdicts::{Judge, Status, listed};
 
-/// What becomes of a hold.
+/// The fate of a hold.
 #[derive(Clone, Copy)]
 pub(crate) enum Fate {
     /// This resolver is chosen.
@@ -34,14 +34,14 @@ pub(crate) enum Fate {
     Unresolved,
 }
 
-/// A hold, with what becomes of it.
+/// A hold with its fate.
 #[derive(Clone, Copy)]
 pub(crate) struct Placed {
     pub(crate) hold: HoldOn,
     pub(crate) fate: Fate,
 }
 
-/// What becomes of each hold, in their order. What gives the resolvers is asked for once, of all holds.
+/// Finds the fate of each hold, in their order. It asks for the givers of the resolvers once, for all holds.
 pub(crate) fn place_all<P: Published, J: Judge<P>>(
     alloc: Global,
     source: &mut P,
@@ -83,7 +83,7 @@ fn put_resolvers(ids: &mut BTreeSet<Id>, resolvers: &[Resolver]) -> Result<(), N
     Ok(())
 }
 
-// What becomes of each hold, by what gives the resolvers.
+// The fate of each hold, by the givers of the resolvers.
 fn placed_by(
     alloc: Global,
     known: &[Id],
@@ -164,7 +164,7 @@ fn put_chosen(ids: &mut BTreeSet<Id>, fate: Fate) -> Result<(), NoMemory>
     Ok(())
 }
 
-/// The holds of a report by what becomes of them.
+/// The holds of a report by their fates.
 #[derive(Debug, Drop)]
 pub(crate) struct PlacedHolds {
     pub(crate) resolved: Vec<ChosenResolver>,
@@ -172,7 +172,7 @@ pub(crate) struct PlacedHolds {
     pub(crate) held: Vec<ChosenResolver>,
 }
 
-/// The holds by what becomes of them, each list in their order.
+/// The holds by their fates, each list in their order.
 pub(crate) fn placed_holds(alloc: Global, holds: &[Placed]) -> Result<PlacedHolds, NoMemory>
     ensures resolved { IfOk result (λ lists. lists.resolved.items ≡ Plans.resolved_in holds.now) }
     ensures unresolved { IfOk result (λ lists. lists.unresolved.items ≡ Plans.unresolved_in holds.now) }
@@ -185,7 +185,7 @@ pub(crate) fn placed_holds(alloc: Global, holds: &[Placed]) -> Result<PlacedHold
     })
 }
 
-// The holds of which a resolver is GOOD, each with the one that is chosen.
+// The holds with a GOOD resolver, each with the chosen one.
 fn resolved_in(alloc: Global, holds: &[Placed]) -> Result<Vec<ChosenResolver>, NoMemory>
     ensures { IfOk result (λ found. found.items ≡ Plans.resolved_in holds.now) }
 {
@@ -202,7 +202,7 @@ fn if_resolved(one: &Placed) -> Option<ChosenResolver>
     }
 }
 
-// The holds of which no resolver is GOOD and one is HELD, each with the one that is chosen.
+// The holds without a GOOD resolver that have one that is HELD, each with the chosen one.
 fn held_in(alloc: Global, holds: &[Placed]) -> Result<Vec<ChosenResolver>, NoMemory>
     ensures { IfOk result (λ found. found.items ≡ Plans.held_in holds.now) }
 {
@@ -228,7 +228,7 @@ fn with_resolver(one: &Placed, resolver: Id) -> ChosenResolver
     }
 }
 
-// The holds of which no resolver is GOOD or HELD.
+// The holds without a resolver that is GOOD or HELD.
 fn unresolved_in(alloc: Global, holds: &[Placed]) -> Result<Vec<HoldOn>, NoMemory>
     ensures { IfOk result (λ found. found.items ≡ Plans.unresolved_in holds.now) }
 {

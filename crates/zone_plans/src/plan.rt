@@ -41,21 +41,21 @@ impl Model for ZonePlan {
 }
 
 impl ZonePlan {
-    /// What is to be installed, step by step.
+    /// The SYSMODs to install, step by step.
     pub fn steps(&self) -> &Steps
         ensures { result.now ≡ self.now.steps }
     {
         &self.steps
     }
 
-    /// What was found of the SYSMODs that the chosen plans have together: of each member and of each chosen resolver.
+    /// The findings on the SYSMODs that the chosen plans have together: on each member and each chosen resolver.
     pub fn findings(&self) -> &Findings
         ensures { result.now ≡ self.now.findings }
     {
         &self.findings
     }
 
-    /// The holds of which a resolver is GOOD, each with the one that is chosen.
+    /// The holds with a GOOD resolver, each with the chosen one.
     pub fn resolved(&self) -> &[ChosenResolver]
         ensures { result.now ≡ self.now.resolved }
     {
@@ -69,14 +69,15 @@ impl ZonePlan {
         self.holds.unresolved.as_slice()
     }
 
-    /// The holds of which no resolver is GOOD and one is HELD, each with the one that is chosen.
+    /// The holds without a GOOD resolver that have one that is HELD, each with the chosen one.
     pub fn held(&self) -> &[ChosenResolver]
         ensures { result.now ≡ self.now.held }
     {
         self.holds.held.as_slice()
     }
 
-    /// What blocks the resolvers that are HELD, and those that would give that, ascending by SYSMOD, each once.
+    /// The needs that block the resolvers that are HELD, and the SYSMODs that would give them, ascending by SYSMOD,
+    /// each once.
     pub fn blocked(&self) -> &[BlockedNeed]
         ensures { result.now ≡ self.now.blocked }
     {
@@ -84,17 +85,17 @@ impl ZonePlan {
     }
 }
 
-/// The plan for the holds of a report on a zone (IBM z/OS SMP/E Commands, REPORT ERRSYSMODS and REPORT
+/// Makes the plan for the holds of a report on a zone (IBM z/OS SMP/E Commands, REPORT ERRSYSMODS and REPORT
 /// MISSINGFIX).
 ///
-/// For each hold one resolver is chosen: of those that are GOOD the received before the others, then one that no
-/// other of them gives, then the greatest id. What their chosen plans have is to be installed, but for what
-/// another member gives and for what nothing needs then. Holds without such a resolver are named, with what
-/// blocks them.
+/// It chooses one resolver for each hold: of those that are GOOD the received ones come before the others, then one
+/// that no other of them gives, then the greatest id. The members of their chosen plans are to be installed, except
+/// those that another member gives and those that nothing needs then. Holds without such a resolver are named, with
+/// the needs that block them.
 ///
 /// # Errors
 ///
-/// `Memory` where memory ran out, `Device` where the source failed.
+/// `Memory` if memory ran out, `Device` if the source failed.
 pub fn zone_plan<P: Published, J: Judge<P>>(
     alloc: Global,
     source: &mut P,
@@ -113,7 +114,7 @@ pub fn zone_plan<P: Published, J: Judge<P>>(
     plan_for(alloc, source, judge, zone, &placed)
 }
 
-// The plan, by what becomes of each hold.
+// The plan, by the fate of each hold.
 fn plan_for<P: Published, J: Judge<P>>(
     alloc: Global,
     source: &mut P,

@@ -1,4 +1,4 @@
-//! What is read of the members.
+//! Reading the members.
 ghost use Rattle.std.specs.Prelude.{◌≡◌, ◌++◌, Some, IfOk, OnOk, map};
 ghost use Rattle.catalogue.specs.Ids.{Ascend};
 ghost use Rattle.catalogue.specs.View.{MayAsk, Tells};
@@ -18,8 +18,8 @@ use std::marker::Model;
 use supersede::Zone;
 use verdicts::listed;
 
-/// What is read of a SYSMOD: its functions, what it needs in a zone, and the reasons of the SYSTEM and USER holds on
-/// it (IBM z/OS SMP/E Reference, `++VER`, operands FMID, PRE and REQ, `++IF`, and `++HOLD`).
+/// The parts of a SYSMOD that a plan needs: its functions, its needs in a zone, and the reasons of the SYSTEM and USER
+/// holds on it (IBM z/OS SMP/E Reference, `++VER`, operands FMID, PRE and REQ, `++IF`, and `++HOLD`).
 #[derive(Debug, Drop)]
 pub struct Reading {
     fmids: Vec<Id>,
@@ -45,7 +45,7 @@ impl Reading {
     ghost use Rattle.std.specs.Prelude.{◌≡◌};
     ghost use Rattle.zone_plans.specs.Readings.{nothing_read};
 
-    /// Nothing was read. It takes no memory.
+    /// Nothing was read.
     pub fn nothing(alloc: Global) -> Self
         ensures { result ≡ nothing_read }
     {
@@ -64,7 +64,7 @@ impl Reading {
         self.fmids.as_slice()
     }
 
-    /// What it needs in the zone: its PRE and REQ, the reasons of the ERROR holds on it, and the needs of those of its
+    /// Its needs in the zone: its PRE and REQ, the reasons of the ERROR holds on it, and the needs of those of its
     /// requisites under a condition whose function is installed.
     pub fn needs(&self) -> &[Id]
         ensures { result.now ≡ self.now.needs }
@@ -72,7 +72,7 @@ impl Reading {
         self.needs.as_slice()
     }
 
-    /// The reasons of the SYSTEM holds on it, which its installer is to heed.
+    /// The reasons of the SYSTEM holds on it, which its installer should heed.
     pub fn system(&self) -> &[Id]
         ensures { result.now ≡ self.now.system }
     {
@@ -87,7 +87,7 @@ impl Reading {
     }
 }
 
-/// What is read of each of some SYSMODs, in their order.
+/// Reads some SYSMODs, in their order.
 pub(crate) fn readings<P: Published>(
     alloc: Global,
     source: &mut P,
@@ -149,7 +149,7 @@ fn reading_from(
     })
 }
 
-// What a SYSMOD needs in the zone.
+// The needs of a SYSMOD in the zone.
 fn needs_in(alloc: Global, zone: &Zone, sysmod: &Sysmod, held: &[Id]) -> Result<Vec<Id>, NoMemory>
     ensures { IfOk result (λ needs. needs.items
         ≡ requisites_of (Some sysmod.now) ++ held.now ++ needs_where zone.now sysmod.now.conds) }
@@ -186,7 +186,7 @@ fn push_where(needs: &mut Vec<Id>, zone: &Zone, conds: &[CondNeed]) -> Result<()
     Ok(())
 }
 
-/// All that was read as a need, ascending, each once.
+/// All needs that were read, ascending, each once.
 pub(crate) fn needs_of_all(alloc: Global, readings: &[Reading]) -> Result<Vec<Id>, NoMemory>
     ensures needs { IfOk result (λ needs. needs.items ≡ all_needs readings.now) }
     ensures ascend { IfOk result (λ needs. Ascend needs.items) }

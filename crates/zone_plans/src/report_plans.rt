@@ -16,12 +16,12 @@ use supersede::Zone;
 use verdicts::Judge;
 use zone_lists::Pattern;
 
-/// The plan for the exception SYSMOD report on a zone, from the ERROR holds on the SYSMODs that are installed in it.
-/// `received` are the SYSMODs that the client has received.
+/// Makes the plan for the exception SYSMOD report on a zone, from the ERROR holds on the SYSMODs that are installed
+/// in it. `received` are the SYSMODs that the client has received.
 ///
 /// # Errors
 ///
-/// `Memory` where memory ran out, `Device` where the source failed.
+/// `Memory` if memory ran out, `Device` if the source failed.
 pub fn err_plan<P: Published, J: Judge<P>>(
     alloc: Global,
     source: &mut P,
@@ -43,8 +43,8 @@ pub fn err_plan<P: Published, J: Judge<P>>(
     zone_plan(alloc, source, judge, zone, &held)
 }
 
-/// The plan for the missing fix report on a zone, from the FIXCAT holds on the SYSMODs that are installed in it, of
-/// the categories that a pattern matches.
+/// Makes the plan for the missing fix report on a zone, from the FIXCAT holds on the SYSMODs that are installed in
+/// it, for the categories that a pattern matches.
 ///
 /// # Errors
 ///

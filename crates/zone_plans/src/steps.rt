@@ -48,7 +48,7 @@ impl Model for Steps {
 impl Steps {
     ghost use Rattle.std.specs.Prelude.{◌≡◌, ◌<◌, [], IfOk, length, slice_index_or};
 
-    /// How many steps there are.
+    /// The number of steps.
     pub fn len(&self) -> usize
         ensures { result ≡ length self.now }
     {
@@ -59,7 +59,7 @@ impl Steps {
     ///
     /// # Errors
     ///
-    /// `NoMemory` where memory ran out.
+    /// `NoMemory` if memory ran out.
     pub fn step(&self, alloc: Global, index: usize) -> Result<Vec<Id>, NoMemory>
         requires { index < length self.now }
         ensures { IfOk result (λ ids. ids.items ≡ slice_index_or self.now index []) }
@@ -68,7 +68,7 @@ impl Steps {
     }
 }
 
-// The ids that stand at indices.
+// The ids at indices.
 fn ids_at(alloc: Global, ids: &[Id], indices: &[usize]) -> Result<Vec<Id>, NoMemory>
     requires { (p : ℕ) → Contains indices.now p → p < length ids.now }
     ensures { IfOk result (λ found. found.items ≡ map (Indices.id_at ids.now) indices.now) }
@@ -87,8 +87,8 @@ fn id_at(ids: &[Id], index: usize) -> Id
     ids[index]
 }
 
-/// The steps in which is installed what the chosen plans of some resolvers have, by what was found of it: what another
-/// member gives is left out, and what nothing needs then.
+/// Finds the steps that install the members of the chosen plans of some resolvers, by the findings on them. Each that
+/// another member gives is left out, and so is each that nothing needs then.
 pub(crate) fn zone_steps(
     alloc: Global,
     findings: &Findings,

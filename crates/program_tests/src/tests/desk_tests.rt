@@ -1,5 +1,5 @@
-//! A desk of a publisher and two clients, from the bytes of connections to the bytes of replies: worked requests,
-//! where the connection is cut after any byte and where the output takes any part of the replies.
+//! A desk of a publisher and two clients, from the bytes of connections to the bytes of replies: worked requests, a
+//! connection that is cut after any byte, and an output that takes any part of the replies.
 use bureau_program::run_replay;
 use std::alloc::Global;
 use std::fmt::Debug;
@@ -23,7 +23,7 @@ const BOTH: &str = "SYSMOD,STATE\nHBB7790,APPLIED\nUA10001,APPLIED\n";
 
 const FUNCTION: &str = "SYSMOD,STATE\nHBB7790,APPLIED\n";
 
-// A publication, zones, and what each client is told before and after the next publication.
+// A publication, zones, and the answers to each client before and after the next publication.
 static SCRIPT: [Exchange; 10] = [
     (
         (PUBLISHER, "POST /publish", FIRST, BASE),
@@ -82,7 +82,7 @@ const ONLY_GET: Told = (
     "METHOD NOT ALLOWED\n",
 );
 
-// What stands after the first two requests of the script, and after BETA's zone TGT2.
+// Requests after the first two of the script, and after BETA's zone TGT2.
 static REQUESTS: [Exchange; 15] = [
     (
         (BETA, "PUT /zones/TGT2", FIRST, FUNCTION),
@@ -153,7 +153,7 @@ const NONE_MISSING_JSON: &str =
 const NO_PLAN_JSON: &str = "{\"blocked\":[],\"held\":[],\"members\":[],\"report\":\"missingfix\",\
 \"resolved\":[],\"unresolved\":[],\"zone\":\"TGT1\"}";
 
-// What asks for JSON, after the first two requests of the script.
+// Requests for JSON, after the first two requests of the script.
 static JSON_REQUESTS: [Exchange; 7] = [
     (
         (ALPHA, "GET /zones.json", "", ""),
@@ -200,7 +200,7 @@ fn push_exchange(
     Ok(())
 }
 
-// What a run over connections leaves: its status, and what it wrote.
+// The status and the output of a run over connections.
 fn run_over<W: Write>(
     alloc: Global,
     keys: RandomState,
@@ -214,7 +214,7 @@ fn run_over<W: Write>(
     (status, errors)
 }
 
-// These connections have this on standard output, and nothing fails. A failure says the case.
+// Checks that these connections have this on standard output, and that nothing fails. A failure says the case.
 fn assert_replayed<P: Debug + Copy + Drop>(
     case: P,
     alloc: Global,
@@ -243,7 +243,7 @@ fn files_of(alloc: Global, texts: &[&[u8]]) -> Result<Vec<Vec<u8>>, Fail> {
     Ok(files)
 }
 
-// A connection and the next one have these replies.
+// Checks that a connection and the next one have these replies.
 fn assert_both_replayed<P: Debug + Copy + Drop>(
     case: P,
     alloc: Global,
@@ -256,7 +256,7 @@ fn assert_both_replayed<P: Debug + Copy + Drop>(
     assert_replayed(case, alloc, keys, 1_024, files, wanted)
 }
 
-// After these whole requests a further one is cut after any byte, and no byte of a reply to it is written.
+// Cuts a further request after any byte, after these whole ones, and checks that no byte of a reply to it is written.
 fn cut_one_anywhere(
     alloc: Global,
     keys: RandomState,
@@ -275,7 +275,8 @@ fn cut_one_anywhere(
     Ok(())
 }
 
-// A connection that is cut after any byte has the replies of the requests that stand whole in it, and no other byte.
+// Cuts a connection after any byte, and checks that it has the replies of the requests that are whole in it, and no
+// other byte.
 fn cut_anywhere(
     alloc: Global,
     keys: RandomState,
@@ -317,7 +318,7 @@ fn output_that_takes_a_part(rt: HostRuntime) -> Result<(), Fail> {
     Ok(())
 }
 
-// The output has room for the first bytes of the replies, and takes them.
+// Checks that an output with room for the first bytes of the replies takes them.
 fn assert_part_taken(
     alloc: Global,
     keys: RandomState,

@@ -17,7 +17,7 @@ const SOURCE: &str =
 
 const ONE_HOLD: &str = "UA10001  ERROR   AA20002  HBB7790  PE       12045  -        -\nROWS 1\n";
 
-// What a run gives: the status, standard output and standard error.
+// The outcome of a run: the status, standard output and standard error.
 #[derive(Drop)]
 struct Run {
     status: u8,
@@ -35,7 +35,7 @@ fn run_of<R: Read>(alloc: Global, reader: &mut R) -> Run {
     }
 }
 
-// What a run gives is this. A failure says the case.
+// Checks the outcome of a run. A failure says the case.
 fn assert_run<P: Debug + Copy + Drop>(
     case: P,
     run: &Run,
@@ -48,7 +48,7 @@ fn assert_run<P: Debug + Copy + Drop>(
     assert_equal_at(case, str::from_utf8(run.errors.as_slice()), Ok(errors))
 }
 
-// A reader of the source, which is interrupted so often first, and fails at the end where it isn't whole.
+// A reader of the source, which is interrupted so often first, and fails at the end if it isn't whole.
 fn reader_of(piece: usize, interruptions: u32, is_whole: bool) -> Pieces<'static> {
     let failures = Failures::interruptions(interruptions);
     let mut reader = Pieces::new(SOURCE.as_bytes(), piece, failures);
@@ -58,7 +58,7 @@ fn reader_of(piece: usize, interruptions: u32, is_whole: bool) -> Pieces<'static
     reader
 }
 
-// The piece, the interruptions, whether the source is whole, the status, and what is written to standard error.
+// The piece, the interruptions, whether the source is whole, the status, and the text on standard error.
 static READERS: [(usize, u32, bool, u8, &str); 5] = [
     (7, 0, true, 0, ""),
     (1000, 64, true, 0, ""),
@@ -79,8 +79,8 @@ fn readers_that_are_interrupted_or_fail(rt: HostRuntime) -> Result<(), Fail> {
     Ok(())
 }
 
-// The piece, the interruptions, the room, whether a write fails where there is none, the status, how many bytes are
-// taken, and what is written to standard error.
+// The piece, the interruptions, the room, whether a write fails if there is none, the status, the number of bytes
+// that are taken, and the text on standard error.
 type Writing = (usize, u32, usize, bool, u8, usize, &'static str);
 
 static WRITERS: [Writing; 6] = [
@@ -101,7 +101,7 @@ fn writers_that_are_interrupted_or_fail(rt: HostRuntime) -> Result<(), Fail> {
     Ok(())
 }
 
-// A run over the source writes the first bytes of this whole text.
+// Checks that a run over the source writes the first bytes of this whole text.
 fn assert_written(rt: &impl Abort, alloc: Global, row: &Writing, whole: &[u8]) -> Result<(), Fail> {
     let (piece, interruptions, room, is_failing, status, taken, errors) = *row;
     let case = (piece, interruptions, room);

@@ -8,7 +8,7 @@ use std::str;
 use std::test::Fail;
 use testing::assert_equal_at;
 
-// The words of a run, how often each file is interrupted, its status, and what it writes to standard error.
+// The words of a run, the interruptions of each file, its status, and the text on standard error.
 type Row = (&'static [&'static str], u32, u8, &'static str);
 
 // 64 retries serve all files of a run.
@@ -57,7 +57,7 @@ fn files_that_are_interrupted_and_the_name_of_a_store(rt: HostRuntime) -> Result
     Ok(())
 }
 
-// The run ends so, and writes nothing to standard output.
+// Checks that the run ends so, and writes nothing to standard output.
 fn assert_ended(alloc: Global, keys: RandomState, row: &Row) -> Result<(), Fail> {
     let (words, interruptions, status, told) = *row;
     let case = (words, interruptions);

@@ -38,14 +38,14 @@ fn fresh(alloc: Global) -> Result<Connection<FileStore<Memory>>, Fail>
     connected(alloc, Memory::new(alloc))
 }
 
-// A status, and what was written to standard output and standard error.
+// A status, and the texts on standard output and standard error.
 fn told(alloc: Global, status: u8, output: &[u8], errors: &[u8]) -> Result<String, Fail> {
     let output = str::from_utf8(output).ok().ok_or("a text")?;
     let errors = str::from_utf8(errors).ok().ok_or("a text")?;
     Ok(format!(in alloc; "{status} {output}{errors}")?)
 }
 
-// What `init` tells.
+// The output of `init`.
 fn init<S: Alter>(alloc: Global, conn: &mut Connection<S>, callers: &[u8]) -> Result<String, Fail>
     requires { conn.old.in_transaction ≡ false }
     ensures { conn.new.in_transaction ≡ false }
@@ -55,7 +55,7 @@ fn init<S: Alter>(alloc: Global, conn: &mut Connection<S>, callers: &[u8]) -> Re
     told(alloc, status, &output, &errors)
 }
 
-// What `serve` tells over a new store in this file, where so many connections are served, and what it tells of a fault.
+// The output of `serve` over a new store in this file, with so many connections, and its text on a fault.
 fn served<S: Alter + Drop>(
     around: &mut Around<'_>,
     alloc: Global,
@@ -129,14 +129,14 @@ fn repeated(alloc: Global, text: &[u8], times: u32) -> Result<Vec<u8>, Fail> {
     Ok(all)
 }
 
-// A client gets this, and then its end.
+// Checks that a client gets this, and then its end.
 fn assert_received(alloc: Global, client: &mut TcpStream, wanted: &[u8]) -> Result<(), Fail> {
     let mut got = Vec::new(alloc);
     client.read_to_end(&mut got)?;
     assert_equal(str::from_utf8(got.as_slice()), str::from_utf8(wanted))
 }
 
-// How many lines of a log have this after the time, and before the last word.
+// The number of lines of a log that have this after the time, and before the last word.
 fn lines_with(log: &[u8], wanted: &str) -> Result<u32, Fail> {
     let mut count = 0u32;
     for line in str::from_utf8(log)?.lines() {
@@ -156,8 +156,8 @@ fn hasty() -> Patience {
     patience
 }
 
-// Two clients, of which one sends half of a head and no more. None closes its side. By the desk's clock five
-// seconds pass at each look, of which a round with a log has two, so that it needs no minute to let them go.
+// Two clients, of which one sends half of a head and no more. None closes its side. By the desk's clock five seconds
+// pass at each look. A round with a log has two looks, so it needs no minute to let them go.
 #[test]
 fn a_desk_answers_beside_a_silent_client_and_lets_both_go(rt: HostRuntime) -> Result<(), Fail> {
     let alloc = rt.alloc();

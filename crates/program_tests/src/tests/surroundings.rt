@@ -1,4 +1,4 @@
-//! What surrounds a run of a test, and stores that can't be opened.
+//! The surroundings of a run of a test, and stores that can't be opened.
 use super::desk_tests::CALLERS;
 use bureau_program::Surroundings;
 use bureau_store::StoreFault;
@@ -29,14 +29,15 @@ pub(crate) enum PortHas<'a> {
     Passers(u64),
 }
 
-/// Words, files that are interrupted so often, and what each port has.
+/// Words, files that are interrupted so often, and the connections of each port.
 #[derive(Drop)]
 pub(crate) struct Around<'a> {
     words: &'static [&'static str],
     interruptions: u32,
     /// What each port has.
     pub(crate) port_has: PortHas<'a>,
-    /// The port that was asked for, how many were to be open at once, and whether a log was to be kept.
+    /// The port that was asked for, the most connections that were to be open at once, and whether a log was
+    /// to be kept.
     pub(crate) asked: (u16, u32, bool),
     keys: RandomState,
 }
@@ -113,7 +114,8 @@ impl Rounds for Around<'_> {
     }
 }
 
-// Connections that come and end, as many as are to come, but not more than so many at a time. How many did.
+// Lets connections come and end, as many as are to come, but at most so many at a time. Returns the number of
+// them.
 fn pass(left: u32, told: &mut Vec<Event>) -> Result<u32, RoundFault> {
     let count = left.min(1000);
     for _ in 0..count {
@@ -141,7 +143,7 @@ impl Files for Around<'_> {
     }
 }
 
-/// Memory runs out where a store may be made, and there is none where it may not. A store of another name than
+/// Memory runs out if a store may be made, and there is none if it may not. A store of another name than
 /// [`STORE`] can't be opened.
 #[derive(Drop)]
 pub(crate) struct NoStores;
