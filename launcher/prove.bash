@@ -17,7 +17,7 @@ tell_failed_proof() {
 }
 
 prove_all() {
-    tell "the program is proved and built, which takes some 60 minutes on four processors, once"
+    tell "the program is proved and built, which takes some 50 minutes on four processors, once"
     doing=
     progress() { progress_of_proofs; }
     TMPDIR=$room/tmp run_beside env -C "$room/sources" rt ci || tell_failed_proof
