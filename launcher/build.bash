@@ -190,5 +190,7 @@ build_program() { # any|proved
         end_if_stopped
     fi
     trap - INT TERM HUP PIPE
+    # what was begun beside, and has not closed it yet, keeps no other use waiting
+    flock -u 9
     exec 9>&-
 }
