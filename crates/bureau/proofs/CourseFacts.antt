@@ -1,13 +1,13 @@
 -- A course of calls and of other callers, one stage after the other.
-use Rattle.std.proofs.Common.{◌≡◌, ◌⊎◌, ◌∙◌, ◌&&◌, ◌||◌, ℕ, not, Bool, true, false, List, [], ◌∷◌, ◌++◌, ap, append-nil, refl, subst, sym, if◌then◌else◌}
+use Rattle.std.proofs.Common.{◌≡◌, ◌⊎◌, ◌∙◌, ◌&&◌, ◌||◌, ℕ, not, Bool, true, false, List, [], ◌∷◌, ◌++◌, ap, append-nil, map, refl, subst, sym, if◌then◌else◌}
 use Rattle.bureau_store.specs.SetCallers.{comes_or_goes, has_name, name_of, with_callers}
 use Rattle.bureau_store.specs.Tables.{AreInOrder, Tables, no_change}
 use Rattle.bureau_store.specs.declared.caller.Caller.{Caller}
 use Rattle.bureau_store.specs.declared.caller.Caller.TheVariants.{Publisher, Client}
 use Rattle.bureau_store.specs.declared.caller.CallerRow.{CallerRow}
 use Rattle.bureau.specs.Alone.{opening_of, own_history}
-use Rattle.bureau.specs.Course.{Called, Callers, IsAloneWhereItStays, IsCourse, IsInBoth, Stays, Stage, calls_in, opening_of_newcomer}
-use Rattle.bureau.specs.Joint.{CallBy, IsStep}
+use Rattle.bureau.specs.Course.{Called, Callers, IsAloneWhereItStays, IsCourse, IsInBoth, Stays, Stage, callers_after, calls_in, opening_of_newcomer}
+use Rattle.bureau.specs.Joint.{CallBy, IsRun, IsStep}
 use Rattle.bureau.specs.Outcome.{no_room}
 use Rattle.bureau.specs.Own.{Accepted, Asked, Opening, accepted_in, own_answer}
 use Rattle.bureau.proofs.AgreesFacts.{Agrees, Reached, agrees_at_first, call_agrees, call_alone, history_after, history_more, with_call}
@@ -21,7 +21,7 @@ stays_so true true here there = refl
 stays_so true false here there = cc
 stays_so false b here there = cc
 
-stays : (caller : Caller) (callers rows : List CallerRow) → IsInBoth caller callers rows → comes_or_goes callers rows (name_of caller) ≡ false
+pub stays : (caller : Caller) (callers rows : List CallerRow) → IsInBoth caller callers rows → comes_or_goes callers rows (name_of caller) ≡ false
 stays caller callers rows both = stays_so (has_name callers (name_of caller)) (has_name rows (name_of caller)) both.0 both.1
 
 -- what the tables show to the publisher and to a caller who stays is as it was
@@ -40,6 +40,31 @@ callers_agree viewer opening changes now rows publisher own agrees = record {
     named name is = ap (λ caller. comes_or_goes now.callers rows (name_of caller)) (sym is) ∙ stays viewer now.callers rows own
 
 -- ---- a course
+
+-- a run is a course
+pub course_of : (calls : List CallBy) (a b : Tables) → IsRun a calls b → IsCourse a (map Called calls) b
+course_of [] a b run = run
+course_of (call_by ∷ calls) a b run = (run.0, run.1, course_of calls run.0 b run.2)
+
+-- two courses, one after the other
+pub join_courses : (a b c : Tables) (xs ys : List Stage) → IsCourse a xs b → IsCourse b ys c → IsCourse a (xs ++ ys) c
+join_courses a b c [] ys first second = subst (λ at. IsCourse at ys c) first second
+join_courses a b c (x ∷ xs) ys first second = (first.0, first.1, join_courses first.0 b c xs ys first.2 second)
+
+pub split_course : (before rest : List Stage) (old new : Tables) → IsCourse old (before ++ rest) new → (at : Tables) × IsCourse old before at × IsCourse at rest new
+split_course [] rest old new course = (old, refl, course)
+split_course (stage ∷ before) rest old new course =
+    let more = split_course before rest course.0 new course.2 in (more.0, (course.0, course.1, more.1), more.2)
+
+-- the callers that there are after it
+pub course_callers : (stages : List Stage) (old new : Tables) → IsCourse old stages new → new.callers ≡ callers_after old.callers stages
+course_callers [] old new course = ap (λ (this : Tables). this.callers) course
+course_callers (Called call_by ∷ stages) old new course =
+    course_callers stages course.0 new course.2 ∙ ap (λ rows. callers_after rows stages) (step_callers old course.0 call_by course.1)
+course_callers (Callers rows ∷ stages) old new course =
+    course_callers stages course.0 new course.2 ∙ ap (λ (this : Tables). callers_after this.callers stages) course.1
+
+-- ---- alone
 
 reached : (viewer : Caller) (opening : Opening) (stages : List Stage) (before : List CallBy) (history : List Asked) (now closing : Tables) (call_by : CallBy) (after : List CallBy)
     → Agrees viewer opening (accepted_in opening history) now → Stays Publisher now.callers stages → Stays viewer now.callers stages → IsCourse now stages closing

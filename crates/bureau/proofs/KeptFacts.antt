@@ -1,13 +1,13 @@
 -- Runs in which what is told as accepted is kept.
 use Rattle.std.proofs.Common.{◌≡◌, ◌++◌, ◌∙◌, List, [], ◌∷◌, inl, inr, refl, sym, ap, subst, arith}
-use Rattle.std.specs.Prelude.{ℕ, ◌⊎◌, false, zero, suc}
+use Rattle.std.specs.Prelude.{ℕ, ◌≤◌, ◌⊎◌, false, length, zero, suc}
 use Rattle.catalogue.specs.View.{IsOpen, View}
 use Rattle.catalogue.proofs.SourceFacts.{goes_on, was_open}
 use Rattle.bureau_store.specs.Tables.{Tables}
 use Rattle.bureau_store.specs.declared.caller.Caller.{Caller}
 use Rattle.bureau_store.specs.declared.caller.Caller.TheVariants.{Publisher, Client}
 use Rattle.bureau.specs.Joint.{CallBy, IsRun, IsStep, tables_left}
-use Rattle.bureau.specs.Kept.{Idles, IsKeptRun, IsKeptStep, IsToldOfNoTables, MayBeLeft, Rests, TellNothing, tables_with}
+use Rattle.bureau.specs.Kept.{Idles, IsKeptRun, IsKeptStep, IsToldOfNoTables, IsWithLastRefused, MayBeLeft, Rests, TellNothing, tables_with}
 use Rattle.bureau.specs.Outcome.{Answer, Outcome, answered, accepted, answer_of, may_ask, no_room, outcome}
 use Rattle.bureau.specs.View.{view_of}
 
@@ -20,7 +20,7 @@ pub not_503 : ◌≡◌ {A = ℕ} 200 503 → ⊥
 not_503 same = omega (arith, same)
 
 -- what tells nothing from the tables leaves them
-told_nothing : (this next : Tables) (call_by : CallBy) → IsToldOfNoTables call_by → IsStep this call_by next → next ≡ this
+pub told_nothing : (this next : Tables) (call_by : CallBy) → IsToldOfNoTables call_by → IsStep this call_by next → next ≡ this
 told_nothing this next call_by told (inl none) = none.1
 told_nothing this next call_by (inl no_room_told) (inr made) = made.1 ∙ by (outcome (view_of call_by.caller this) call_by.call) (sym made.0 ∙ no_room_told)
   where
@@ -30,7 +30,7 @@ told_nothing this next call_by (inl no_room_told) (inr made) = made.1 ∙ by (ou
 told_nothing this next call_by (inr not_allowed) (inr made) = made.1 ∙ not_asked call_by.caller call_by this refl not_allowed
 
 -- a count is 0 or not
-open_or_closed : (count : ℕ) → (count ≡ 0) ⊎ (count ≡ 0 → ⊥)
+pub open_or_closed : (count : ℕ) → (count ≡ 0) ⊎ (count ≡ 0 → ⊥)
 open_or_closed zero = inl refl
 open_or_closed (suc count) = inr (λ is. absurd (cc is))
 
@@ -111,7 +111,7 @@ module _ {Desk : Type 0} (view : View Desk Tables) where
       by left (inr h) = absurd (closed h.0)
 
   -- a desk that is closed tells nothing from the tables, and stays closed
-  told_closed : (old new : Desk) (this : Tables) (calls : List CallBy) (next : Tables) → (IsOpen view old → ⊥) → IsKeptRun view old new this calls next
+  pub told_closed : (old new : Desk) (this : Tables) (calls : List CallBy) (next : Tables) → (IsOpen view old → ⊥) → IsKeptRun view old new this calls next
       → TellNothing calls × (IsOpen view new → ⊥)
   told_closed old new this [] next closed kept = (tt, λ is_open. closed (was_open kept.1.goes is_open))
   told_closed old new this (call_by ∷ calls) next closed kept =
@@ -154,3 +154,27 @@ module _ {Desk : Type 0} (view : View Desk Tables) where
   loses_nothing old new this (call_by ∷ calls) next kept is_open rests left h =
       left_after old new this call_by calls next kept is_open rests left h (λ still.
       loses_nothing kept.0 new kept.1 calls next kept.3 still (kept.2.rests rests) left h)
+
+  -- a desk rests after a run, if it did before
+  rests_after : (old new : Desk) (this : Tables) (calls : List CallBy) (next : Tables) → IsKeptRun view old new this calls next → Rests view old this → Rests view new next
+  rests_after old new this [] next kept rests = λ is_open left may. rests (was_open kept.1.goes is_open) left (kept.1.leaves left may) ∙ sym kept.0
+  rests_after old new this (call_by ∷ calls) next kept rests = rests_after kept.0 new kept.1 calls next kept.3 (kept.2.rests rests)
+
+  -- If only the last call was asked of a desk that may be closed by its end, a stop leaves the tables of all, or those with its change.
+  pub last_left : (old between new : Desk) (this mid next : Tables) (earlier last : List CallBy) → IsKeptRun view old between this earlier mid → IsOpen view between
+      → IsKeptRun view between new mid last next → length last ≤ 1 → Rests view old this → (left : Tables) → view.may_leave new left
+      → (left ≡ next) ⊎ IsWithLastRefused next (earlier ++ last) left
+  last_left old between new this mid next earlier [] first is_open second few rests left may =
+      by (loses_nothing between new mid [] next second is_open (rests_after old between this earlier mid first rests) left may)
+    where
+      by : MayBeLeft view new [] next left → (left ≡ next) ⊎ IsWithLastRefused next (earlier ++ []) left
+      by (inl same) = inl same
+      by (inr refused) = absurd refused.1
+  last_left old between new this mid next earlier (call_by ∷ []) first is_open second few rests left may =
+      by (loses_nothing between new mid (call_by ∷ []) next second is_open (rests_after old between this earlier mid first rests) left may)
+    where
+      by : MayBeLeft view new (call_by ∷ []) next left → (left ≡ next) ⊎ IsWithLastRefused next (earlier ++ call_by ∷ []) left
+      by (inl same) = inl same
+      by (inr (closed, inl refused)) = inr (earlier, call_by, refl, refused.0, refused.2)
+      by (inr (closed, inr none)) = absurd none
+  last_left old between new this mid next earlier (call_by ∷ other ∷ more) first is_open second few rests left may = absurd (omega (arith, few))

@@ -16,3 +16,5 @@ pub mod RepeatFacts
 pub mod KeptFacts
 pub mod RunFacts
 pub mod CourseFacts
+pub mod AgainFacts
+pub mod SilentFacts

@@ -13,7 +13,7 @@ use Rattle.bureau.specs.Call.{Call, publish, put_zone, drop_zone, put_received, 
 use Rattle.bureau.specs.Joint.{CallBy, IsRun, IsStep, tables_left}
 use Rattle.bureau_store.specs.Store.{greatest_number}
 use Rattle.bureau.specs.Outcome.{Answer, Outcome, answered, accepted, answer_of, bad_number, by_number, forbidden, gap, has_room, in_turn, may_ask, no_room, of_zone, outcome, outcome_allowed, plain, refused, said, stale, told}
-use Rattle.bureau.specs.Repeat.{ActsOnce, GoesStale, IsChange, IsLater, IsRunWithout, KeepsReply, StaysStale, number_of}
+use Rattle.bureau.specs.Repeat.{ActsOnce, IsChange, IsLater, IsToldAgain, IsToldStale, StaysStale, number_of}
 use Rattle.bureau.specs.View.{View, view_of}
 use Rattle.bureau.proofs.NamesFacts.{own_caller, same_caller}
 use Rattle.bureau.proofs.AgreesFacts.{view_caller}
@@ -79,7 +79,7 @@ call_in_turn old call_by n is =
 
 -- ---- by its number
 
-abbrev in_range : ℕ → Bool
+abbrev pub in_range : ℕ → Bool
 in_range n = nat_lt 0 n && nat_le n greatest_number
 
 -- what comes of a number that may be taken, and of any other
@@ -215,16 +215,16 @@ last_goes old new call_by (inr made) other = comes (outcome (view_of call_by.cal
     comes (accepted effect text) e = by (is_caller call_by.caller other) effect text e refl
 
 -- the number is a caller's last one, with this reply, or below
-abbrev IsLast : Caller → ℕ → List ℕ → Tables → Type 0
+abbrev pub IsLast : Caller → ℕ → List ℕ → Tables → Type 0
 IsLast caller n reply tables = (n ≡ (tables.last caller).number) × (reply ≡ (tables.last caller).reply)
 
-abbrev IsPassed : Caller → ℕ → Tables → Type 0
+abbrev pub IsPassed : Caller → ℕ → Tables → Type 0
 IsPassed caller n tables = n < (tables.last caller).number
 
-abbrev IsTaken : Caller → ℕ → List ℕ → Tables → Type 0
+abbrev pub IsTaken : Caller → ℕ → List ℕ → Tables → Type 0
 IsTaken caller n reply tables = IsPassed caller n tables ⊎ IsLast caller n reply tables
 
-passed_step : (caller : Caller) (n : ℕ) (old new : Tables) (call_by : CallBy) → IsStep old call_by new → IsPassed caller n old → IsPassed caller n new
+pub passed_step : (caller : Caller) (n : ℕ) (old new : Tables) (call_by : CallBy) → IsStep old call_by new → IsPassed caller n old → IsPassed caller n new
 passed_step caller n old new call_by step low = by (last_goes old new call_by step caller)
   where
     by : (new.last caller ≡ old.last caller) ⊎ Accepts old new call_by caller → IsPassed caller n new
@@ -244,11 +244,11 @@ split_run (call_by ∷ before) rest old new run =
 -- ---- the first time
 
 -- what a change leaves that was told 200
-record IsToldTaken (n : ℕ) (first : CallBy) (new : Tables) : Type 0 where
-  reply : List ℕ
-  range : in_range n ≡ true
-  told_is : first.answer ≡ plain 200 reply
-  taken : IsLast first.caller n reply new
+pub record IsToldTaken (n : ℕ) (first : CallBy) (new : Tables) : Type 0 where
+  pub reply : List ℕ
+  pub range : in_range n ≡ true
+  pub told_is : first.answer ≡ plain 200 reply
+  pub taken : IsLast first.caller n reply new
 
 no_status : {A : Type 0} (answer : Answer) (a b : ℕ) → answer.status ≡ a → answer.status ≡ b → (a ≡ b → ⊥) → A
 no_status answer a b p q differ = absurd (differ (sym p ∙ q))
@@ -293,7 +293,7 @@ stood_taken old new first n found change refuses range is answers leaves ok (is_
     let e : found ≡ answered (gap (old.last first.caller).number) = is ∙ gap_taken (old.last first.caller) n change over in
     no_status first.answer 409 200 (ap (λ (a : Answer). a.status) answers ∙ ap (λ o. (answer_of o).status) e) ok (λ same. omega (arith, same))
 
-first_taken : (old new : Tables) (first : CallBy) (n : ℕ) → IsStep old first new → IsChange n first → first.answer.status ≡ 200 → IsToldTaken n first new
+pub first_taken : (old new : Tables) (first : CallBy) (n : ℕ) → IsStep old first new → IsChange n first → first.answer.status ≡ 200 → IsToldTaken n first new
 first_taken old new first n (inl none) is ok = no_status first.answer 503 200 (ap (λ (a : Answer). a.status) none.0) ok (λ same. omega (arith, same))
 first_taken old new first n (inr made) is ok = by (in_range n) refl
   where
@@ -330,24 +330,33 @@ is_later : (caller : Caller) (n : ℕ) (old new : Tables) (call_by : CallBy) →
 is_later caller n old new call_by is made = record { by = made.by; number = (old.last caller).number + 1; is = made.is; later = omega (arith, is); accepted = made.told_is }
 
 -- no later change of the caller was accepted, and its last one is the same; or one was, and the number is below the last one
-abbrev Passes : Caller → ℕ → Tables → List CallBy → Tables → Type 0
+abbrev pub Passes : Caller → ℕ → Tables → List CallBy → Tables → Type 0
 Passes caller n old calls new =
     (All (λ call_by. IsLater caller n call_by → ⊥) calls × (new.last caller ≡ old.last caller)) ⊎ (Any (IsLater caller n) calls × IsPassed caller n new)
 
-passes : (caller : Caller) (n : ℕ) (old new : Tables) (calls : List CallBy) → IsRun old calls new → n ≡ (old.last caller).number → Passes caller n old calls new
-passes caller n old new [] run is = inl (All-nil (λ call_by. IsLater caller n call_by → ⊥), ap (λ (t : Tables). t.last caller) run)
-passes caller n old new (call_by ∷ calls) run is = by (passes caller n run.0 new calls run.2) (last_goes old run.0 call_by run.1 caller)
+-- with one call more before them
+pub passes_more : (caller : Caller) (n : ℕ) (old mid new : Tables) (call_by : CallBy) (calls : List CallBy) → IsStep old call_by mid → n ≡ (old.last caller).number
+    → (IsPassed caller n mid → IsPassed caller n new) → (n ≡ (mid.last caller).number → Passes caller n mid calls new) → Passes caller n old (call_by ∷ calls) new
+passes_more caller n old mid new call_by calls step is goes more = by (last_goes old mid call_by step caller)
   where
-    rest : run.0.last caller ≡ old.last caller → Passes caller n run.0 calls new → Passes caller n old (call_by ∷ calls) new
-    rest same (inl none) = inl (All-cons (λ call_by. IsLater caller n call_by → ⊥) call_by calls (none_later caller n old run.0 call_by run.1 is same) none.0, none.1 ∙ same)
+    rest : mid.last caller ≡ old.last caller → Passes caller n mid calls new → Passes caller n old (call_by ∷ calls) new
+    rest same (inl none) = inl (All-cons (λ call_by. IsLater caller n call_by → ⊥) call_by calls (none_later caller n old mid call_by step is same) none.0, none.1 ∙ same)
     rest same (inr passed) = inr (any_there (IsLater caller n) call_by calls passed.0, passed.1)
 
-    by : (n ≡ (run.0.last caller).number → Passes caller n run.0 calls new) → (run.0.last caller ≡ old.last caller) ⊎ Accepts old run.0 call_by caller
-        → Passes caller n old (call_by ∷ calls) new
-    by more (inl same) = rest same (more (is ∙ ap (λ (last : LastChange). last.number) (sym same)))
-    by more (inr made) =
+    by : (mid.last caller ≡ old.last caller) ⊎ Accepts old mid call_by caller → Passes caller n old (call_by ∷ calls) new
+    by (inl same) = rest same (more (is ∙ ap (λ (last : LastChange). last.number) (sym same)))
+    by (inr made) =
         let next = made.next in
-        inr (any_here (IsLater caller n) call_by calls (is_later caller n old run.0 call_by is made), kept_by_run (IsPassed caller n) (λ old new call_by. passed_step caller n old new call_by) run.0 new calls run.2 (omega (arith, next, is)))
+        inr (any_here (IsLater caller n) call_by calls (is_later caller n old mid call_by is made), goes (omega (arith, next, is)))
+
+pub passes_none : (caller : Caller) (n : ℕ) (old new : Tables) → new ≡ old → Passes caller n old [] new
+passes_none caller n old new same = inl (All-nil (λ call_by. IsLater caller n call_by → ⊥), ap (λ (t : Tables). t.last caller) same)
+
+passes : (caller : Caller) (n : ℕ) (old new : Tables) (calls : List CallBy) → IsRun old calls new → n ≡ (old.last caller).number → Passes caller n old calls new
+passes caller n old new [] run is = passes_none caller n old new run
+passes caller n old new (call_by ∷ calls) run is =
+    passes_more caller n old run.0 new call_by calls run.1 is
+    (kept_by_run (IsPassed caller n) (λ old new call_by. passed_step caller n old new call_by) run.0 new calls run.2) (passes caller n run.0 new calls run.2)
 
 -- ---- and again
 
@@ -389,7 +398,7 @@ stale_below old first n found change refuses e answers is (is_below low) = low
 stale_below old first n found change refuses e answers is (is_above over) =
     gap_stale first (old.last first.caller).number (answers ∙ ap answer_of (e ∙ gap_taken (old.last first.caller) n change over)) is
 
-first_stale : (old new : Tables) (first : CallBy) (n : ℕ) → IsStep old first new → IsChange n first → first.answer ≡ stale → (in_range n ≡ true) × IsPassed first.caller n old
+pub first_stale : (old new : Tables) (first : CallBy) (n : ℕ) → IsStep old first new → IsChange n first → first.answer ≡ stale → (in_range n ≡ true) × IsPassed first.caller n old
 first_stale old new first n (inl none) is told_stale = no_stale first.answer no_room 503 told_stale none.0 refl (λ same. omega (arith, same))
 first_stale old new first n (inr made) is told_stale = by (in_range n) refl
   where
@@ -420,6 +429,38 @@ again_leaves old new again n reply (inr made) is range taken = by taken
     by (inr last) =
         made.1 ∙ ap (λ o. tables_left again.caller o old) (turned.is ∙ ranged (old.last again.caller) n turned.change range ∙ again_taken (old.last again.caller) n turned.change last.0)
 
+-- what is told when a change comes again after these calls, and that it leaves the tables as they are
+pub told_again : (at now new : Tables) (first again : CallBy) (n : ℕ) (between : List CallBy) → IsToldTaken n first at → Passes first.caller n at between now → IsStep now again new
+    → again.caller ≡ first.caller → IsChange n again → IsToldAgain n first between again × (new ≡ now)
+told_again at now new first again n between took passed step caller is = by passed
+  where
+    leaves : IsTaken first.caller n took.reply now → new ≡ now
+    leaves taken = again_leaves now new again n took.reply step is took.range (subst (λ who. IsTaken who n took.reply now) (sym caller) taken)
+
+    by : Passes first.caller n at between now → IsToldAgain n first between again × (new ≡ now)
+    by (inl none) =
+        let last : IsLast first.caller n took.reply now =
+        (took.taken.0 ∙ ap (λ (last : LastChange). last.number) (sym none.1), took.taken.1 ∙ ap (λ (last : LastChange). last.reply) (sym none.1)) in (
+          elim (again_kept now new again n took.reply step is took.range (subst (λ who. IsLast who n took.reply now) (sym caller) last)) [
+            | inl none_left ↦ inl none_left
+            | inr same ↦ inr (inl (none.0, same ∙ sym took.told_is))
+          ],
+          leaves (inr last),
+        )
+    by (inr later) = (
+      elim (again_stale now new again n step is took.range (subst (λ who. IsPassed who n now) (sym caller) later.1)) [
+        | inl none_left ↦ inl none_left
+        | inr gone ↦ inr (inr (later.0, gone))
+      ],
+      leaves (inl later.1),
+    )
+
+pub stale_again : (now new : Tables) (first again : CallBy) (n : ℕ) → in_range n ≡ true → IsPassed first.caller n now → IsStep now again new
+    → again.caller ≡ first.caller → IsChange n again → IsToldStale again × (new ≡ now)
+stale_again now new first again n range passed step caller is =
+    let own = subst (λ who. IsPassed who n now) (sym caller) passed in
+    (again_stale now new again n step is range own, again_leaves now new again n [] step is range (inl own))
+
 pub run_join : (a b c : Tables) (xs ys : List CallBy) → IsRun a xs b → IsRun b ys c → IsRun a (xs ++ ys) c
 run_join a b c [] ys first more = subst (λ (t : Tables). IsRun t ys c) first more
 run_join a b c (x ∷ xs) ys first more = (first.0, first.1, run_join first.0 b c xs ys first.2 more)
@@ -432,7 +473,11 @@ without opening at mid now closing before first between after run step more rest
 -- ---- over a run
 
 pub acts_once : (opening closing : Tables) (calls : List CallBy) → IsRun opening calls closing → ActsOnce opening calls closing
-acts_once opening closing calls run first again comes ok = by (passes first.caller n at.2.0 later.0 comes.between later.1 took.taken.0)
+acts_once opening closing calls run first again comes ok = (
+  told_is.0,
+  without opening at.0 at.2.0 later.0 closing comes.before first comes.between comes.after at.1 at.2.1 later.1
+      (subst (λ (t : Tables). IsRun t comes.after closing) told_is.1 later.2.2),
+)
   where
     n : ℕ
     n = comes.number
@@ -446,30 +491,10 @@ acts_once opening closing calls run first again comes ok = by (passes first.call
     later : (now : Tables) × IsRun at.2.0 comes.between now × IsRun now (again ∷ comes.after) closing
     later = split_run comes.between _ at.2.0 closing at.2.2
 
-    left : IsTaken first.caller n took.reply later.0 → IsRunWithout opening comes closing
-    left taken =
-        without opening at.0 at.2.0 later.0 closing comes.before first comes.between comes.after at.1 at.2.1 later.1
-        (subst (λ (t : Tables). IsRun t comes.after closing)
-        (again_leaves later.0 later.2.0 again n took.reply later.2.1 comes.again_is took.range (subst (λ caller. IsTaken caller n took.reply later.0) (sym comes.caller) taken)) later.2.2)
-
-    by : Passes first.caller n at.2.0 comes.between later.0
-        → ((again.answer ≡ no_room) ⊎ (KeepsReply comes ⊎ GoesStale comes)) × IsRunWithout opening comes closing
-    by (inl none) =
-        let last : IsLast first.caller n took.reply later.0 =
-        (took.taken.0 ∙ ap (λ (last : LastChange). last.number) (sym none.1), took.taken.1 ∙ ap (λ (last : LastChange). last.reply) (sym none.1)) in (
-          elim (again_kept later.0 later.2.0 again n took.reply later.2.1 comes.again_is took.range (subst (λ caller. IsLast caller n took.reply later.0) (sym comes.caller) last)) [
-            | inl none_left ↦ inl none_left
-            | inr same ↦ inr (inl (none.0, same ∙ sym took.told_is))
-          ],
-          left (inr last),
-        )
-    by (inr passed) = (
-      elim (again_stale later.0 later.2.0 again n later.2.1 comes.again_is took.range (subst (λ caller. IsPassed caller n later.0) (sym comes.caller) passed.1)) [
-        | inl none_left ↦ inl none_left
-        | inr gone ↦ inr (inr (passed.0, gone))
-      ],
-      left (inl passed.1),
-    )
+    told_is : IsToldAgain n first comes.between again × (later.2.0 ≡ later.0)
+    told_is =
+        told_again at.2.0 later.0 later.2.0 first again n comes.between took (passes first.caller n at.2.0 later.0 comes.between later.1 took.taken.0) later.2.1
+        comes.caller comes.again_is
 
 pub stays_stale : (opening closing : Tables) (calls : List CallBy) → IsRun opening calls closing → StaysStale opening calls closing
 stays_stale opening closing calls run first again comes is =
@@ -479,9 +504,8 @@ stays_stale opening closing calls run first again comes is =
     let later = split_run comes.between _ at.2.0 closing at.2.2 in
     let after = passed_step first.caller comes.number at.0 at.2.0 first at.2.1 found.1 in
     let kept = kept_by_run (IsPassed first.caller comes.number) (λ old new call_by. passed_step first.caller comes.number old new call_by) at.2.0 later.0 comes.between later.1 after in
-    let passed = subst (λ caller. IsPassed caller comes.number later.0) (sym comes.caller) kept in
-    let leaves = again_leaves later.0 later.2.0 again comes.number [] later.2.1 comes.again_is found.0 (inl passed) in (
-      again_stale later.0 later.2.0 again comes.number later.2.1 comes.again_is found.0 passed,
+    let told_is = stale_again later.0 later.2.0 first again comes.number found.0 kept later.2.1 comes.caller comes.again_is in (
+      told_is.0,
       without opening at.0 at.2.0 later.0 closing comes.before first comes.between comes.after at.1 at.2.1 later.1
-          (subst (λ (t : Tables). IsRun t comes.after closing) leaves later.2.2),
+          (subst (λ (t : Tables). IsRun t comes.after closing) told_is.1 later.2.2),
     )

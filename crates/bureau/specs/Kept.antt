@@ -1,5 +1,5 @@
 -- Calls and runs of a desk that may fail: what is told as accepted is kept, and what a stop may leave.
-use Rattle.std.specs.Prelude.{◌≡◌, ◌⊎◌, false, List, [], ◌∷◌}
+use Rattle.std.specs.Prelude.{◌≡◌, ◌⊎◌, ◌++◌, false, List, [], ◌∷◌}
 use Rattle.catalogue.specs.View.{Goes, IsOpen, View}
 use Rattle.bureau_store.specs.Tables.{Tables}
 use Rattle.bureau.specs.Joint.{CallBy, IsStep, tables_left}
@@ -53,6 +53,11 @@ abbrev pub IsWithOneRefused : Tables → List CallBy → Tables → Type 0
 IsWithOneRefused this [] left = ⊥
 IsWithOneRefused this (call_by ∷ calls) left =
     ((call_by.answer ≡ no_room) × TellNothing calls × (left ≡ tables_with call_by this)) ⊎ IsWithOneRefused this calls left
+
+-- the tables with the change of the last of these calls, to which the answer was that there is no room
+abbrev pub IsWithLastRefused : Tables → List CallBy → Tables → Type 0
+IsWithLastRefused this calls left =
+    (earlier : List CallBy) × (last : CallBy) × (calls ≡ earlier ++ last ∷ []) × (last.answer ≡ no_room) × (left ≡ tables_with last this)
 
 -- What a stop may leave after a run: the tables after it; or, if the desk is closed, those with the change of a call that
 -- was told 503, after which nothing was told from the tables.

@@ -47,22 +47,30 @@ pub record IsLater (caller : Caller) (n : ℕ) (call_by : CallBy) : Type 0 where
   pub accepted : call_by.answer.status ≡ 200
 
 -- no later change of its caller was accepted before it came again, and it is told the same
-abbrev pub KeepsReply : {calls : List CallBy} → {first again : CallBy} → ComesAgain calls first again → Type 0
-KeepsReply {calls} {first} {again} comes = All (λ call_by. IsLater first.caller comes.number call_by → ⊥) comes.between × (again.answer ≡ first.answer)
+abbrev pub KeepsReply : ℕ → CallBy → List CallBy → CallBy → Type 0
+KeepsReply number first between again = All (λ call_by. IsLater first.caller number call_by → ⊥) between × (again.answer ≡ first.answer)
 
 -- a later change of its caller was accepted before it came again, and it is told STALE
-abbrev pub GoesStale : {calls : List CallBy} → {first again : CallBy} → ComesAgain calls first again → Type 0
-GoesStale {calls} {first} {again} comes = Any (IsLater first.caller comes.number) comes.between × (again.answer ≡ stale)
+abbrev pub GoesStale : ℕ → CallBy → List CallBy → CallBy → Type 0
+GoesStale number first between again = Any (IsLater first.caller number) between × (again.answer ≡ stale)
 
--- A change that was told 200 is told the same when it comes again, as long as no later change of its caller was accepted,
--- and STALE from then on; unless there is no room. The tables are those that there are without its second coming.
+-- A change that was told 200 comes again: it is told the same, as long as no later change of its caller was accepted, and STALE
+-- from then on; unless there is no room.
+abbrev pub IsToldAgain : ℕ → CallBy → List CallBy → CallBy → Type 0
+IsToldAgain number first between again = (again.answer ≡ no_room) ⊎ (KeepsReply number first between again ⊎ GoesStale number first between again)
+
+-- a change that was told STALE comes again: it is told so, unless there is no room
+abbrev pub IsToldStale : CallBy → Type 0
+IsToldStale again = (again.answer ≡ no_room) ⊎ (again.answer ≡ stale)
+
+-- A change that was told 200 acts once. The tables are those that there are without its second coming.
 abbrev pub ActsOnce : Tables → List CallBy → Tables → Type 0
 ActsOnce opening calls closing =
     (first again : CallBy) → (comes : ComesAgain calls first again) → first.answer.status ≡ 200 →
-    ((again.answer ≡ no_room) ⊎ (KeepsReply comes ⊎ GoesStale comes)) × IsRunWithout opening comes closing
+    IsToldAgain comes.number first comes.between again × IsRunWithout opening comes closing
 
--- A change that was told STALE is told so from then on, unless there is no room, and changes nothing.
+-- A change that was told STALE stays so, and changes nothing.
 abbrev pub StaysStale : Tables → List CallBy → Tables → Type 0
 StaysStale opening calls closing =
     (first again : CallBy) → (comes : ComesAgain calls first again) → first.answer ≡ stale →
-    ((again.answer ≡ no_room) ⊎ (again.answer ≡ stale)) × IsRunWithout opening comes closing
+    IsToldStale again × IsRunWithout opening comes closing

@@ -1,7 +1,7 @@
 //! Laws of every run. No code runs here.
 ghost use Rattle.std.specs.Prelude.{◌≡◌, ℕ, true, false, List};
 ghost use Rattle.bureau.specs.Alone.{AreAnsweredAlike, IsAlone, opening_of};
-ghost use Rattle.bureau.specs.Course.{IsAloneWhereItStays, IsCourse, IsInBoth, Stage, opening_of_newcomer};
+ghost use Rattle.bureau.specs.Course.{ActsOnceIn, IsAloneWhereItStays, IsCourse, IsInBoth, Stage, StaysStaleIn, opening_of_newcomer};
 ghost use Rattle.bureau.specs.Joint.{CallBy, IsRun};
 ghost use Rattle.bureau.specs.Repeat.{ActsOnce, StaysStale};
 ghost use Rattle.bureau_store.specs.SetCallers.{has_name, with_callers};
@@ -25,17 +25,22 @@ pub fn isolation()
         opening_of viewer opening ≡ opening_of viewer opening2 → AreAnsweredAlike viewer calls calls2 }
 {}
 
-/// Isolation over several runs, between which the bureau may get other callers, whatever calls come in them.
+/// Laws over several runs, between which the bureau may get other callers, whatever calls come in them.
 ///
 /// `alone`: for each caller who stays it is as if nothing had happened. Its answers, other than 503, are those of
 /// a bureau that received the publisher's calls and that caller's alone. `newcomer`: a new client finds the
-/// published content, and nothing of its own, whoever had its name before.
+/// published content, and nothing of its own, whoever had its name before. `once` and `stale`: a change acts once,
+/// in whichever runs it comes again, as [`repeats`] says of one run, as long as its caller stays.
 pub fn other_callers()
     ensures alone { (opening closing : Tables) (stages : List Stage) →
         AreInOrder opening → IsCourse opening stages closing → IsAloneWhereItStays opening stages }
     ensures newcomer { (rows : List CallerRow) (this : Tables) (name : List ℕ) →
         IsInBoth Publisher this.callers rows → has_name this.callers name ≡ false → has_name rows name ≡ true →
         opening_of (Client name) (with_callers rows this) ≡ opening_of_newcomer this }
+    ensures once { (opening closing : Tables) (stages : List Stage) →
+        IsCourse opening stages closing → ActsOnceIn opening stages closing }
+    ensures stale { (opening closing : Tables) (stages : List Stage) →
+        IsCourse opening stages closing → StaysStaleIn opening stages closing }
 {}
 
 /// Repeats, a law of every run of the bureau: a change acts once, however often it is sent.

@@ -14,6 +14,7 @@ use Rattle.bureau.specs.Kept.{IsToldOfNoTables, IsWithOneRefused, TellNothing}
 use Rattle.bureau.specs.Outcome.{Answer, Outcome, accepted, answer_of, answered, forbidden, may_ask, no_room, outcome, outcome_allowed}
 use Rattle.bureau.specs.View.{view_of}
 use Rattle.bureau.proofs.AgreesFacts.{view_caller}
+use Rattle.bureau.proofs.CourseFacts.{course_of, join_courses}
 use Rattle.bureau.proofs.KeptFacts.{not_503}
 use Rattle.bureau.proofs.RepeatFacts.{split_run, run_join}
 use Rattle.connections.specs.Rounds.{Log}
@@ -34,16 +35,6 @@ use Rattle.bureau_program.proofs.StayingFacts.{all_have, has_the_publisher, publ
 
 abbrev pub Isolation : Type 0
 Isolation = (opening closing : Tables) (stages : List Stage) → AreInOrder opening → IsCourse opening stages closing → IsAloneWhereItStays opening stages
-
--- a run is a course
-course_of : (calls : List CallBy) (a b : Tables) → IsRun a calls b → IsCourse a (stages_of calls) b
-course_of [] a b run = run
-course_of (call_by ∷ calls) a b run = (run.0, run.1, course_of calls run.0 b run.2)
-
--- two courses, one after the other
-join_courses : (a b c : Tables) (xs ys : List Stage) → IsCourse a xs b → IsCourse b ys c → IsCourse a (xs ++ ys) c
-join_courses a b c [] ys first second = subst (λ at. IsCourse at ys c) first second
-join_courses a b c (x ∷ xs) ys first second = (first.0, first.1, join_courses first.0 b c xs ys first.2 second)
 
 not_asked : (caller : Caller) (call : Call) (this : Tables) → may_ask caller call ≡ false → outcome (view_of caller this) call ≡ answered forbidden
 not_asked caller call this refused =
