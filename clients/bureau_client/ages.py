@@ -5,6 +5,7 @@ import os
 from http.client import HTTPException
 
 from .changes import Changes
+from .run import visible
 
 NAME = "publication.json"  # what a publisher keeps beside the page of a front
 OLD = 7  # days from which on something is old
@@ -22,7 +23,7 @@ def published_at(desk):
         newest, number = told.get("newest"), told.get("number")
     except (OSError, ValueError, AttributeError, RecursionError, HTTPException):
         return "", 0
-    return newest if isinstance(newest, str) else "", number if isinstance(number, int) else 0
+    return visible(newest) if isinstance(newest, str) else "", number if isinstance(number, int) else 0
 
 
 def sent_on(desk, zone):

@@ -11,7 +11,7 @@ from http.client import HTTPConnection, HTTPException, HTTPSConnection, InvalidU
 from urllib.parse import unquote, urlsplit
 
 from . import faults
-from .run import ID, Stop, refused, say
+from .run import ID, Stop, refused, say, visible, visible_lines
 
 GREATEST = 9223372036854775807
 PIECE = 1 << 16
@@ -51,10 +51,20 @@ def fits(value, form):
     return isinstance(value, form) if isinstance(form, (type, tuple)) else value == form
 
 
+def visible_in(value):
+    """A value of JSON whose texts are visible."""
+    if isinstance(value, dict):
+        return {key: visible_in(each) for key, each in value.items()}
+    if isinstance(value, list):
+        return [visible_in(each) for each in value]
+    return visible(value) if isinstance(value, str) else value
+
+
 def in_form(data, form, fault):
-    """What JSON has, which has to be of a form."""
+    """What JSON has, which has to be of a form. Its texts are visible."""
     try:
         value = json.loads(data)
+        value = visible_in(value) if b"\\" in data else value  # no control character stands in JSON without a backslash
     except (ValueError, RecursionError):
         raise fault() from None
     if not fits(value, form):
@@ -89,7 +99,8 @@ def login(header, parts):
 
 
 class Desk:
-    """A desk as this run speaks to it. `status` and `reply` are those of the last answer, and the status is 0 if none came whole."""
+    """A desk as this run speaks to it. `status` and `reply` are those of the last answer, and the status is 0 if none came whole.
+    The lines of `reply` are visible."""
 
     def __init__(self, url, settings):
         self.url, self.settings = url, settings
@@ -152,7 +163,8 @@ class Desk:
         pause = self.settings.pause
         for tried in itertools.count(1):
             try:
-                self.status, self.reply = self.exchange(method, path, number, body)
+                self.status, reply = self.exchange(method, path, number, body)
+                self.reply = visible_lines(reply)
             except (ssl.SSLCertVerificationError, InvalidURL, ValueError) as fault:  # another try won't help
                 raise Stop(3, f"no answer from {self.url}: {why(fault)}") from None
             except (OSError, HTTPException) as fault:

@@ -6,6 +6,7 @@ from contextlib import contextmanager, suppress
 from pathlib import Path
 
 ID = re.compile("[A-Z0-9@#$]{1,7}")
+CONTROLS = re.compile("[\x00-\x1f\x7f-\x9f\udc80-\udcff]")  # the last are bytes that are no UTF-8: a terminal may obey them too
 
 name = "bureau-client"
 worst = 0  # the status of a run that goes on to its end
@@ -45,10 +46,22 @@ def put(number, data):
         data = data[os.write(number, data) :]
 
 
+def visible(text):
+    """A text in which each control character stands as what it is, such as \\x1b. What another machine sends could else paint over the
+    terminal of whoever reads it."""
+    return CONTROLS.sub(lambda found: "\\x%02x" % (ord(found[0]) & 0xFF), text)
+
+
+def visible_lines(data):
+    """Bytes of UTF-8 whose lines are visible. A CR at the end of a line is left out."""
+    lines = data.decode("utf-8", "surrogateescape").split("\n")
+    return "\n".join(visible(line.removesuffix("\r")) for line in lines).encode()
+
+
 def say(text):
-    """Tells the user something, on standard error."""
+    """Tells the user something, on standard error, in one line."""
     with suppress(OSError):  # nobody listens
-        put(2, os.fsencode("%s: %s\n" % (name, text)))
+        put(2, os.fsencode("%s: %s\n" % (name, visible(text))))
 
 
 def ends_with(status):

@@ -6,7 +6,7 @@ import csv
 from http.client import HTTPException
 
 from . import run
-from .run import Stop, csv_line
+from .run import Stop, csv_line, visible
 
 COLUMNS = ("SYSMOD", "REASON", "DATE", "CHGDT", "SYMP", "FIX")  # of the file
 JOINED = COLUMNS[2:]  # what a row of a report gets of it
@@ -33,7 +33,7 @@ class Symptoms:
                     self.put([each.removeprefix("'") for each in record])
 
     def put(self, record):
-        self.known[tuple(record[:2])] = record[2:]
+        self.known[tuple(record[:2])] = list(map(visible, record[2:]))
 
     def fields(self, sysmod, reason):
         """DATE, CHGDT, SYMP and FIX of a hold, which are empty where nothing is known of it."""
