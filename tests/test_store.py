@@ -335,7 +335,7 @@ again = os.path.join(room, "again")
 run("init", again, listed)
 desk = Served(again)
 lines = list(curl_lines())
-check("the page has lines for curl", len(lines) >= 10, len(lines))
+check("the page has lines for curl", len(lines) >= 8, len(lines))
 for line, sent, shown in lines:
     for name in re.findall(r"@(\S+)", line):
         write(os.path.join(room, name), sent)
