@@ -6,17 +6,16 @@
 A desk is drawn from a seed (fuzz_desks.py): callers, and what they send on each connection. PROGRAM serves it over a file, and
 once more in each of these ways (fuzz_checks.py), in which each reply has to be the same, byte for byte:
 
-    by `replay`, with room for 1, 2 and 1,024 frames          each connection cut into pieces
-    the desk ended or killed between connections              each change sent again between connections
+    by `replay`, with room for 1, 2 and 1,024 frames          each change sent again between connections
     the requests in other connections                         the publisher alone, with no other caller known
-    the publisher and one client alone, for each client       the requests in connections that are open at once, in pieces that
-                                                              come mixed
+    the publisher and one client alone, for each client
     over lists, judged by `Whole` and with room for 1 and 16 frames, by the program that desks.sh makes (where it is given)
 
 Its replies are those of a second desk in plain Python (tests/plain_desk.py). None is 503, and each is well formed. The first desk
 has the seed S (1), the next one S + 1. It ends after N seconds (60), after N desks, or at the Nth failure (5). A failure prints its
 seed, with the line that tries it again; --keep keeps its files in FOLDER. A check whose name has CHECK in it is skipped.
-`fuzz_lies.py` shows that each of these is seen where it is wrong. Python 3.9.
+`fuzz_lies.py` shows that each of these is seen where it is wrong. Connections side by side, pieces, pauses and kills are drawn by
+tests/test_simulation.py. Python 3.9.
 """
 import argparse
 import os

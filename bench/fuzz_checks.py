@@ -2,11 +2,9 @@
 seen, and compares the replies with those of the first run. The one compares these with what a second desk tells."""
 import os
 import re
-import signal
 import socket
 import subprocess
 import sys
-import time
 from collections import namedtuple
 
 sys.path.append(os.path.join(os.path.dirname(os.path.abspath(__file__)), "..", "tests"))
@@ -16,8 +14,6 @@ from fuzz_desks import PUBLISHER, list_of_callers
 
 # A request with the bytes of its reply; of a tail, with all that was written behind the replies before it.
 Told = namedtuple("Told", "item reply")
-# The same, and whether its connection ends with it.
-Row = namedtuple("Row", "item reply ends")
 REPLY = re.compile(rb"HTTP/1\.1 (\d{3}) [A-Za-z ]+\r\n(?:[a-z-]+: [^\r\n]*\r\n)*?content-length: (\d+)\r\n(?:[a-z-]+: [^\r\n]*\r\n)*\r\n")
 STATUSES = {200, 400, 401, 403, 404, 405, 409, 411, 413, 422, 431}
 
@@ -67,19 +63,11 @@ class Runner:
             raise Difference("init ended with %d: %r %r" % (done.returncode, done.stdout, done.stderr))
         return store
 
-    def served(self, tokens, connections, dice=None, options=(), lives=None):
-        """What a desk over a file writes to each connection. With `dice`, each is sent in pieces. `lives` says how many
-        connections each life of the desk serves; every other life ends by a kill."""
-        store, written = self.store(tokens), []
-        for life, count in enumerate(lives or [len(connections)]):
-            here = connections[len(written) : len(written) + count]
-            killed = lives is not None and life % 2
-            with Life(self.program, store, count + (1 if killed else 0), options) as desk:
-                written += [desk.exchange(sent, dice) for sent in here]
-                if killed:
-                    desk.process.send_signal(signal.SIGKILL)
-                else:
-                    desk.see_end()
+    def served(self, tokens, connections):
+        """What a desk over a file writes to each connection."""
+        with Life(self.program, self.store(tokens), len(connections)) as desk:
+            written = [desk.exchange(sent) for sent in connections]
+            desk.see_end()
         for name in os.listdir(self.room):
             if name.startswith("store"):
                 os.remove(os.path.join(self.room, name))
@@ -89,11 +77,11 @@ class Runner:
 class Life:
     """A desk in service, from its start to its end."""
 
-    def __init__(self, program, store, count, options):
+    def __init__(self, program, store, count):
         for _ in range(20):
             self.port = free_port()
             self.process = subprocess.Popen(
-                [program, "serve", "--port", str(self.port), "--connections", str(count), *options, store],
+                [program, "serve", "--port", str(self.port), "--connections", str(count), store],
                 stdout=subprocess.PIPE, stderr=subprocess.PIPE,
             )
             if self.process.stdout.readline() == b"LISTENING 127.0.0.1:%d\n" % self.port:
@@ -125,14 +113,11 @@ class Life:
         if self.process.returncode or output or errors:
             raise Difference("the desk ended with %d: %r %r" % (self.process.returncode, output, errors))
 
-    def exchange(self, sent, dice=None):
+    def exchange(self, sent):
         """Sends a connection's bytes, and gives all that is written to it."""
         with self.connect() as connection:
             try:
-                for piece in pieces(sent, dice):
-                    connection.sendall(piece)
-                    if dice:
-                        time.sleep(0.0003)
+                connection.sendall(sent)
                 connection.shutdown(socket.SHUT_WR)
             except OSError:
                 pass  # the desk may have ended the connection
@@ -143,60 +128,6 @@ class Life:
             except OSError as fault:
                 raise Difference("a connection ended with %r" % fault)
             return written
-
-
-class Lane:
-    """A connection that is open beside others, with the requests that it has to carry."""
-
-    def __init__(self, connection):
-        self.connection, self.due, self.sent = connection, [], 0
-
-    def send_some(self, dice):
-        """Sends a piece of the next request, but never all of it. What ends its connection comes at once."""
-        if self.due and not self.due[0].ends and len(self.due[0].item.sent) > self.sent + 1:
-            self.send_up_to(dice.randrange(self.sent + 1, len(self.due[0].item.sent)))
-
-    def send_up_to(self, end):
-        self.connection.sendall(self.due[0].item.sent[self.sent : end])
-        self.sent = end
-
-    def exchange(self):
-        """Sends what is left of the next request, and gives what is written then."""
-        row = self.due[0]
-        try:
-            self.send_up_to(len(row.item.sent))
-            if row.ends:
-                self.connection.shutdown(socket.SHUT_WR)
-        except OSError:
-            pass  # the desk may have ended the connection
-        self.due.pop(0)
-        self.sent = 0
-        return self.read(None if row.ends else len(row.reply))
-
-    def end(self):
-        """What is written once the client has ended its side."""
-        self.connection.shutdown(socket.SHUT_WR)
-        return self.read(None)
-
-    def read(self, count):
-        """So many bytes, or all until the end."""
-        written = b""
-        try:
-            while count is None or len(written) < count:
-                piece = self.connection.recv(1 << 16)
-                if not piece:
-                    break
-                written += piece
-        except OSError as fault:
-            raise Difference("a connection ended with %r" % fault)
-        return written
-
-
-def pieces(sent, dice):
-    if dice is None or not sent:
-        return [sent]
-    cuts = sorted(dice.randrange(len(sent)) for _ in range(dice.choice([1, 2, 5, 40])))
-    return [sent[begin:end] for begin, end in zip([0] + cuts, cuts + [len(sent)]) if begin < end]
 
 
 def sent_by(items):
@@ -251,8 +182,6 @@ class Checks:
             yield "replay with room for %d frames" % capacity, lambda: self.replayed("--cache", str(capacity))
         for judge in ("whole", "1", "16") if self.runner.lists else ():
             yield "over lists, judge %s" % judge, lambda: self.over_lists(judge)
-        yield "requests cut into pieces, and another capacity", self.cut
-        yield "the desk ended or killed between connections", self.restarted
         yield "each change sent again", self.repeated
         yield "requests in other connections", self.regrouped
         yield "the publisher alone", lambda: self.alone({PUBLISHER})
@@ -260,7 +189,6 @@ class Checks:
             if client != PUBLISHER:
                 yield "the publisher and %s alone" % client, lambda: self.alone({PUBLISHER, client})
         yield "the plain desk", self.plain
-        yield "requests in connections that are open at once", self.beside
 
     def plain(self):
         """What is told is what a desk in plain Python tells."""
@@ -273,18 +201,6 @@ class Checks:
 
     def over_lists(self, judge):
         see_same(self.runner.run_over([self.runner.lists, judge], self.desk.tokens, self.sent), b"".join(self.written))
-
-    def cut(self):
-        capacity = str(self.dice.choice([1, 3, 65536]))
-        got = self.runner.served(self.desk.tokens, self.sent, self.dice, ("--cache", capacity))
-        see_same(b"".join(got), b"".join(self.written))
-
-    def restarted(self):
-        lives, left = [], len(self.sent)
-        while left:
-            lives.append(self.dice.randint(1, min(left, 5)))
-            left -= lives[-1]
-        see_same(b"".join(self.runner.served(self.desk.tokens, self.sent, lives=lives)), b"".join(self.written))
 
     def alone(self, names):
         """The replies to these callers are those of a desk that nobody else uses, or knows."""
@@ -306,37 +222,6 @@ class Checks:
                 connections.append([])
         got = self.runner.replay(self.desk.tokens, [sent_by(items) for items in connections])
         see_same(got, wanted)
-
-    def beside(self):
-        """The same requests, over connections that are all open at once, each request of any caller over any of them. Pieces of
-        several come mixed. The last byte of one comes once the one before it has its reply, so that their order is known."""
-        rows = [Row(*each, bool(each.item.tail) or b"\r\nconnection: close\r\n" in each.reply)
-                for connection in self.told for each in connection]
-        places, open_ones, count = [], [], 0
-        for row in rows:
-            if not open_ones or self.dice.random() < 0.1:
-                open_ones.append(count)
-                count += 1
-            place = self.dice.choice(open_ones)
-            places.append(place)
-            if row.ends:
-                open_ones.remove(place)
-        with Life(self.runner.program, self.runner.store(self.desk.tokens), max(count, 1), ()) as desk:
-            lanes = [Lane(desk.connect()) for _ in range(max(count, 1))]
-            for place, row in zip(places, rows):
-                lanes[place].due.append(row)
-            for place, row in zip(places, rows):
-                for lane in self.dice.sample(lanes, min(len(lanes), 3)):
-                    lane.send_some(self.dice)
-                see_same(lanes[place].exchange(), row.reply)
-                if row.ends:
-                    lanes[place].connection.close()
-                    lanes[place] = Lane(None)
-            for lane in lanes:
-                if lane.connection:
-                    see_same(lane.end(), b"")
-                    lane.connection.close()
-            desk.see_end()
 
     def repeated(self):
         """Between connections each caller sends its last change again, or another one under its number, or a number that is

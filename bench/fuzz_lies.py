@@ -14,7 +14,6 @@ import sqlite3
 import subprocess
 import sys
 import tempfile
-import threading
 
 HERE = os.path.dirname(os.path.abspath(__file__))
 HEAD = re.compile(rb"(?:GET|PUT|POST|DELETE) [^\n]*HTTP/1\.[01]\r?\n(?:[^\r\n]+\r?\n)*")
@@ -27,13 +26,12 @@ class Truth:
 
     seen_by = None
     is_over_lists = False
-    is_beside = False  # whether it lies where several connections are open
 
-    def __init__(self, tokens, words, life):
-        self.tokens, self.words, self.life = tokens, words, life
+    def __init__(self, tokens, words):
+        self.tokens, self.words = tokens, words
         self.clients = [token for name, token in sorted(tokens.items()) if name != "PUBLISH"]
 
-    def sent(self, connection, first=None):
+    def sent(self, connection):
         return connection
 
     def written(self, reply):
@@ -45,7 +43,7 @@ class Leaks(Truth):
 
     seen_by = "alone"
 
-    def sent(self, connection, first=None):
+    def sent(self, connection):
         if len(self.clients) < 2:
             return connection
         one, other = (token.encode() for token in self.clients[:2])
@@ -61,7 +59,7 @@ class ActsAgain(Truth):
         super().__init__(*words)
         self.seen = set()
 
-    def sent(self, connection, first=None):
+    def sent(self, connection):
         def again(head):
             number = NUMBER.search(head[0])
             token = next((token for token in self.tokens.values() if token.encode() in head[0]), None)
@@ -80,24 +78,6 @@ class ForgetsInSmallCache(Truth):
 
     def written(self, reply):
         return reply.replace(b'"status":"GOOD"', b'"status":"HELD"') if "--cache 1 " in " ".join(self.words) + " " else reply
-
-
-class ForgetsAtStart(Truth):
-    """After a second start the zones have other sizes."""
-
-    seen_by = "ended or killed"
-
-    def written(self, reply):
-        return reply.replace(b"ROWS 0\n", b"ROWS 1\n") if self.life > 1 else reply
-
-
-class CutsHeads(Truth):
-    """A head that comes in two reads is refused."""
-
-    seen_by = "cut into pieces"
-
-    def sent(self, connection, first=None):
-        return b"\0" + connection if first is not None and first < len(connection) and b"\n" not in connection[:first] else connection
 
 
 class HasNoRoom(Truth):
@@ -132,7 +112,7 @@ class CountsRequests(Truth):
 
     seen_by = "other connections"
 
-    def sent(self, connection, first=None):
+    def sent(self, connection):
         heads = [head for head in HEAD.finditer(connection) if head[0].startswith(b"GET")]
         if len(heads) < 3:
             return connection
@@ -179,21 +159,8 @@ class ForgetsOverLists(Truth):
         return reply.replace(b'"status":"GOOD"', b'"status":"HELD"') if self.words[0] == "16" else reply
 
 
-class Mixes(Truth):
-    """Where several connections are open, one gets the reply that another one got before it."""
-
-    seen_by = "open at once"
-    is_beside = True
-    last = b""
-
-    def written(self, reply, open_ones=1):
-        last, self.last = self.last, reply
-        return last if open_ones > 1 and last else reply
-
-
 LIES_OVER_LISTS = [KnowsLists, ForgetsOverLists]
-LIES = [Leaks, ActsAgain, ForgetsInSmallCache, ForgetsAtStart, CutsHeads, HasNoRoom, CountsClients, KnowsTheStore, CountsRequests, IsWrong,
-        TellsAnotherDay, Mixes]
+LIES = [Leaks, ActsAgain, ForgetsInSmallCache, HasNoRoom, CountsClients, KnowsTheStore, CountsRequests, IsWrong, TellsAnotherDay]
 
 
 def replay(lie, program, words):
@@ -224,16 +191,13 @@ def serve(lie, program, words):
         desk = subprocess.Popen([program, *words], stdout=subprocess.PIPE, preexec_fn=end_with_parent)
         desk.stdout.readline()
         print("LISTENING 127.0.0.1:%d" % port, flush=True)
-        if lie.is_beside:
-            return serve_beside(lie, listener, behind, count) or desk.wait()
         for _ in range(count):
             client, _ = listener.accept()
-            taken, first = b"", None
+            taken = b""
             while piece := client.recv(1 << 16):
                 taken += piece
-                first = first or len(piece)
             with socket.create_connection(("127.0.0.1", behind)) as connection:
-                connection.sendall(lie.sent(taken, first))
+                connection.sendall(lie.sent(taken))
                 connection.shutdown(socket.SHUT_WR)
                 reply = b""
                 while piece := connection.recv(1 << 16):
@@ -243,39 +207,10 @@ def serve(lie, program, words):
         return desk.wait()
 
 
-def serve_beside(lie, listener, behind, count):
-    """Hands on what comes as it comes, over connections that are open at once."""
-    open_ones, ends = [], []
-
-    def back(client, desk):
-        while piece := desk.recv(1 << 16):
-            client.sendall(lie.written(piece, len(open_ones)))
-        open_ones.remove(client)
-        client.shutdown(socket.SHUT_WR)
-
-    def on(client, desk):
-        while piece := client.recv(1 << 16):
-            desk.sendall(piece)
-        desk.shutdown(socket.SHUT_WR)
-
-    for _ in range(count):
-        client, _ = listener.accept()
-        desk = socket.create_connection(("127.0.0.1", behind))
-        open_ones.append(client)
-        for end in (on, back):
-            ends.append(threading.Thread(target=end, args=(client, desk), daemon=True))
-            ends[-1].start()
-    for end in ends:
-        end.join(10)
-
-
 def tell(name, program, words):
     """Runs the program behind a lie."""
-    life, store, tokens = 0, words[-1], {}
+    store, tokens = words[-1], {}
     if words[0] == "serve":
-        with open(store + ".lives", "ab") as lives:
-            lives.write(b".")
-            life = lives.tell()
         conn = sqlite3.connect(store)
         tokens = dict(conn.execute("SELECT name, token FROM caller"))
         conn.close()
@@ -284,7 +219,7 @@ def tell(name, program, words):
             tokens = dict(line.strip().split(",") for line in file.readlines()[1:])
     if words[0] == "init":
         return subprocess.run([program, *words]).returncode
-    lie = next(lie for lie in LIES + LIES_OVER_LISTS if lie.__name__ == name)(tokens, words, life)
+    lie = next(lie for lie in LIES + LIES_OVER_LISTS if lie.__name__ == name)(tokens, words)
     return serve(lie, program, words) if words[0] == "serve" else replay(lie, program, words)
 
 
@@ -300,9 +235,7 @@ def main():
                 out.write('#!/bin/sh\nexec %s %s --as %s %s "$@"\n' % (sys.executable, os.path.abspath(__file__), lie.__name__, behind))
             os.chmod(liar, 0o755)
             words = [program, "--lists", liar] if lie.is_over_lists else [liar]
-            # the plain desk sees each of them; and in front of all but one stands a proxy of one connection at a time
-            for check in ("plain desk", Mixes.seen_by):
-                words += ["--skip", check] if check not in lie.seen_by else []
+            words += ["--skip", "plain desk"] if "plain desk" not in lie.seen_by else []  # which sees each of them
             done = subprocess.run(
                 [sys.executable, os.path.join(HERE, "fuzz.py"), *words, "--desks", "60", "--seconds", "600", "--failures", "1"],
                 capture_output=True, text=True)
