@@ -1,12 +1,13 @@
 #!/usr/bin/env python3
 """A desk in service, drawn from one seed: clients, pauses, cuts, kills, full disks, want of memory and descriptors, slow readers of the log.
 
-    test_simulation.py [--steps N] [--seeds N] [--seed S] [--of N]
+    test_simulation.py [--steps N] [--seeds N] [--seed S] [--of N] [--times N] [--long]
 
 Each reply is compared, byte for byte, with what a plain desk (plain_desk.py) answers, in some order of the requests that were sent at
 once. After each stop the store has what was acknowledged. A seed has N steps (500), which are requests and what befalls the desk. It
 tries seeds from S (1) on, until there are so many steps in all (10,000) or so many seeds. A failure prints the line that tries it again.
-test_simulation_lies.py shows that it sees what is wrong.
+What the system does with time is not drawn: a failure may want the same seed several times (--times). With --long some pauses take 25
+seconds. test_simulation_lies.py shows that it sees what is wrong.
 """
 import argparse
 import sys
@@ -14,13 +15,17 @@ import time
 from collections import Counter
 
 from service import PROGRAM, check, finish
+from simulation.drawing import EVENTS
 from simulation.lanes import Difference
 from simulation.world import Simulation
 
 
-def try_seed(seed, steps, lie=None):
+ALL = [*EVENTS, "200", "400", "401", "403", "404", "405", "409", "422", "503", "ends with 42"]  # what comes in so many steps
+
+
+def try_seed(seed, steps, lie=None, is_long=False):
     """Runs a seed. Gives the simulation, and the difference that it found, or None."""
-    simulation = Simulation(PROGRAM, seed, lie)
+    simulation = Simulation(PROGRAM, seed, lie, is_long)
     try:
         simulation.run(steps)
         return simulation, None
@@ -36,6 +41,8 @@ def read_words():
     reader.add_argument("--seeds", type=int)
     reader.add_argument("--seed", type=int, default=1)
     reader.add_argument("--of", type=int, default=500)
+    reader.add_argument("--times", type=int, default=1)
+    reader.add_argument("--long", action="store_true")
     return reader.parse_args()
 
 
@@ -43,14 +50,17 @@ def main():
     words, counts, steps, began = read_words(), Counter(), 0, time.monotonic()
     seed = words.seed
     while seed < words.seed + words.seeds if words.seeds else steps < words.steps:
-        simulation, difference = try_seed(seed, words.of)
-        again = f"\nagain: tests/test_simulation.py --seeds 1 --seed {seed} --of {words.of}"
-        check(f"seed {seed}", difference is None, f"turn {simulation.turn} of run {simulation.runs}: {difference}{again}")
-        counts += simulation.counts
-        steps += simulation.steps
+        for _ in range(words.times):
+            simulation, difference = try_seed(seed, words.of, None, words.long)
+            again = f"\nagain: tests/test_simulation.py --seeds 1 --seed {seed} --of {words.of} --times 10"
+            check(f"seed {seed}", difference is None, f"turn {simulation.turn} of run {simulation.runs}: {difference}{again}")
+            counts += simulation.counts
+            steps += simulation.steps
         seed += 1
     told = ", ".join(f"{name} {count}" for name, count in sorted(counts.items()))
     print(f"simulation: {steps} steps of seeds {words.seed} to {seed - 1} in {time.monotonic() - began:.0f} seconds: {told}")
+    if steps >= 10000:
+        check("all of it came", all(counts[each] for each in ALL), counts)
     finish("simulation")
 
 

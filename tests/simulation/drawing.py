@@ -1,7 +1,7 @@
 """What is drawn from a seed: the callers of a desk, runs of the desk, and turns. In a turn several connections send at once, and
 something may befall the desk meanwhile.
 
-Each turn has dice of its own. So the same seed draws the same turns, whatever the system made of an earlier one.
+Each turn has dice of its own, so that what the system made of an earlier one shifts no later one.
 """
 import random
 from collections import namedtuple
@@ -13,6 +13,7 @@ from .lanes import Request
 LANES = [1, 1, 1, 2, 2, 3, 4, 6]
 ENDINGS = ["keep"] * 6 + ["close", "half", "half"]
 CUTS = ["cut", "reset", "cut inside", "reset inside", "half inside"]
+LONG = 25  # seconds, which is more than a desk waits for a head
 NAMES = ["ALPHA", "BETA", "GAMMA", "D#4", "EPS"]
 
 # What is sent over one connection in a turn: `kept` is which of the open connections it is, or None for a new one.
@@ -22,6 +23,7 @@ Event = namedtuple("Event", "kind after much")
 # A run of the desk.
 Run = namedtuple("Run", "options reading descriptors")
 
+MUCH = b"\n" * 50000  # lines that say nothing, behind a publication or a list
 EVENTS = {"none": 60, "pause": 8, "kill": 9, "term": 3, "full": 6, "memory": 6, "device": 2}
 
 
@@ -36,10 +38,15 @@ class TurnDrawing(Drawing):
         self.dice, self.tokens, self.seed = dice, tokens, 0
         self.clients = [name for name in tokens if name != PUBLISHER]
         self.last, self.zones = dict(last), {name: set(each) for name, each in zones.items()}
-        self.unsure, self.closing = set(), False
+        self.unsure, self.closing, self.is_large = set(), False, False
 
     def shape(self):
         return ""  # long chains are slow to answer in plain Python
+
+    def sure(self, caller):
+        """A change that is accepted. Where memory is scarce it may be a large one."""
+        method, path, body = super().sure(caller)
+        return method, path, body + MUCH if self.is_large and self.dice.random() < 0.5 else body
 
     def requests_of(self, caller, count):
         """Requests of one caller, one after the other."""
@@ -70,12 +77,13 @@ class TurnDrawing(Drawing):
 
 
 class Turn:
-    """What happens in a turn. OPEN is how many connections are open, AGAIN the changes that had no reply, and LIMITED says whether
-    descriptors are few."""
+    """What happens in a turn. OPEN_ONES is how many connections are open, AGAIN the changes that had no reply; CAN_FILL says whether the
+    disk can be filled, and IS_LONG whether a pause may be longer than a desk's patience."""
 
-    def __init__(self, dice, drawing, open_ones, again, can_fill):
+    def __init__(self, dice, drawing, open_ones, again, can_fill, is_long):
         self.dice, self.drawing = dice, drawing
-        self.event = self.draw_event(can_fill)
+        self.event = self.draw_event(can_fill, is_long)
+        drawing.is_large = self.event.kind == "memory"
         self.loads = []
         kept = list(range(open_ones))
         dice.shuffle(kept)
@@ -85,12 +93,12 @@ class Turn:
             self.add_tail()
         self.pace = random.Random(dice.random())
 
-    def draw_event(self, can_fill):
+    def draw_event(self, can_fill, is_long):
         kind = self.dice.choices(list(EVENTS), EVENTS.values())[0]
         if kind == "full" and not can_fill:
             kind = "device"
         much = {
-            "pause": self.dice.choice([0.001, 0.005, 0.02, 0.05]), "kill": self.dice.random() ** 3 * 0.02, "term": self.dice.random() ** 3 * 0.02,
+            "pause": self.dice.choice([0.001, 0.005, 0.02, 0.05, *[LONG] * is_long]), "kill": self.dice.random() ** 3 * 0.02, "term": self.dice.random() ** 3 * 0.02,
             "full": self.dice.choice([0, 4096, 8192, 20000]), "memory": self.dice.choice([0, 0, 4096, 100000]),
             "device": self.dice.choice([0, 2000, 5000, 20000]), "none": 0}[kind]
         return Event(kind, self.dice.choice([0, 0, 1, 2, 4, 8]), much)

@@ -27,8 +27,8 @@ FEW = 60  # connections that are held open where descriptors are few
 class Simulation:
     """All of a seed: the desk, what it may have in its store, and the connections that are open."""
 
-    def __init__(self, program, seed, lie=None):
-        self.program, self.seed, self.lie = program, seed, lie or Truth()
+    def __init__(self, program, seed, lie=None, is_long=False):
+        self.program, self.seed, self.lie, self.is_long = program, seed, lie or Truth(), is_long
         self.steps, self.turn, self.runs, self.counts = 0, 0, 0, Counter()
         self.scarce = False  # whether a turn may have no room
         self.clock = itertools.count().__next__
@@ -66,6 +66,7 @@ class Simulation:
         dice = drawing.dice_of(self.seed, "end", self.runs)
         self.close_lanes()
         self.life.see_end(may_fail, self.lie)
+        self.counts["ends with 42"] += not self.life.was_stopped
         self.lie.ended(self)
         self.worlds = settled(self.model, self.worlds, True)
         if dice.random() < 0.25:
@@ -120,7 +121,7 @@ class Simulation:
         self.lie.turned(self)
         self.lanes = [lane for lane in self.lanes if time.monotonic() < lane.used + IDLE or lane.end()]
         drawn = drawing.TurnDrawing(dice, self.tokens, *self.known(state))
-        turn = drawing.Turn(dice, drawn, len(self.lanes), self.again, self.disk.is_mounted)
+        turn = drawing.Turn(dice, drawn, len(self.lanes), self.again, self.disk.is_mounted, self.is_long)
         open_ones = list(self.lanes)
         lanes = [self.lane_for(load, open_ones) for load in turn.loads]
         self.go_through(lanes, turn.event, turn.pace)
