@@ -1,11 +1,10 @@
 """What the tests of the page share: what is entered, clicked and shown."""
 import json
 import os
-import sys
 
 from service import check, same
 
-PICTURES = sys.argv[1] if len(sys.argv) > 1 else None
+PICTURES = os.environ.get("BUREAU_PICTURES")
 NORTH, SOUTH, PUBLISHER = "north-token", "south-token", "publisher-token"
 # the date comes later than the rest, and is looked at by itself, as boxes are
 LINES = """[...document.querySelectorAll('.report tbody tr:not(.space)')].map(

@@ -1,6 +1,7 @@
-"""What the tests of the service share: a desk on a port, the client, and the count of what passed."""
+"""What the tests of the service share: a desk on a port, the client, what is compared, and the run of a file by unittest."""
 import atexit
 import http.client
+import itertools
 import os
 import re
 import shutil
@@ -9,6 +10,7 @@ import subprocess
 import sys
 import tempfile
 import threading
+import unittest
 import urllib.request
 
 HERE = os.path.dirname(os.path.abspath(__file__))
@@ -17,14 +19,11 @@ CLIENT = os.path.join(TOP, "clients", "bureau-client")
 PROGRAM = os.environ.get("BUREAU_PROGRAM") or os.path.join(TOP, "crates", "bureau_main", "out", "bureau_main")
 SAMPLE = os.path.join(TOP, "examples", "desk")
 
-results = []
-
 
 def check(name, good, shown=""):
-    """Counts one check, and says where it failed."""
-    results.append(bool(good))
+    """Fails the test that runs, where something is not so."""
     if not good:
-        print("service: %s ... FAILED\n%s" % (name, shown), flush=True)
+        raise AssertionError("%s\n%s" % (name, shown))
     return good
 
 
@@ -32,10 +31,29 @@ def same(name, got, wanted):
     return check(name, got == wanted, "   got: %r\nwanted: %r" % (got, wanted))
 
 
-def finish(name):
-    """The last line of each test, which run-service-tests reads."""
-    print("%s: %d passed, %d failed" % (name, sum(results), len(results) - sum(results)))
-    sys.exit(0 if all(results) else 1)
+def numbers(*usual):
+    """The numbers at the front of the command line, which are taken off it, or the usual ones."""
+    given = list(itertools.takewhile(str.isdigit, sys.argv[1 : 1 + len(usual)]))
+    del sys.argv[1 : 1 + len(given)]
+    return (*map(int, given), *usual[len(given) :])
+
+
+class InOrder(unittest.TestLoader):
+    """The tests of a class in the order in which they stand there."""
+
+    def getTestCaseNames(self, case):
+        order = list(vars(case))
+        return sorted(super().getTestCaseNames(case), key=lambda name: order.index(name) if name in order else -1)
+
+
+def main(name):
+    """Runs the tests of a file by unittest, whose words it takes: [-v] [CLASS.TEST..]. The last line is what run-service-tests reads."""
+    result = unittest.main(exit=False, testLoader=InOrder(), warnings="ignore").result
+    failed, skipped = len(result.failures) + len(result.errors), len(result.skipped)
+    for test, why in result.skipped:
+        print("%s: %s was not tried: %s" % (name, test.id().split(".")[-1], why))
+    print("%s: %d passed, %d failed" % (name, max(0, result.testsRun - failed - skipped), failed))
+    sys.exit(int(failed > 0))
 
 
 def folder():

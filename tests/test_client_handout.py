@@ -15,7 +15,7 @@ import subprocess
 import sys
 import unittest
 
-from service import CLIENT, TOP, Client, folder, write
+from service import CLIENT, TOP, Client, folder, main, write
 from stand_in import StandIn
 
 NORTH, MARKED = "north-token", 'IBM.<b>"&amp;'
@@ -232,7 +232,4 @@ class Reports(unittest.TestCase):
 
 
 if __name__ == "__main__":
-    result = unittest.main(exit=False).result
-    failed = len(result.failures) + len(result.errors)
-    print("client's report: %d passed, %d failed" % (result.testsRun - failed, failed))
-    sys.exit(1 if failed else 0)
+    main("client's report")

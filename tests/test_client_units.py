@@ -19,6 +19,7 @@ sys.dont_write_bytecode = True
 
 from bureau_client import changes, desk, faults, holddata, jobs, lists, reports, run, statements, zone_csv
 from bureau_client import words as command_line
+from service import main
 
 
 class Checksums(unittest.TestCase):
@@ -357,7 +358,4 @@ class Completion(unittest.TestCase):
 
 
 if __name__ == "__main__":
-    result = unittest.main(exit=False).result
-    failed = len(result.failures) + len(result.errors)
-    print("client's parts: %d passed, %d failed" % (result.testsRun - failed, failed))
-    sys.exit(1 if failed else 0)
+    main("client's parts")

@@ -15,14 +15,13 @@ import signal
 import socket
 import struct
 import subprocess
-import sys
 import threading
 import time
+import unittest
 
-from service import CLIENT, SAMPLE, Client, Desk, check, finish, folder, same, write
+from service import CLIENT, SAMPLE, Client, Desk, check, folder, main, numbers, same, write
 
-CHANGES = int(sys.argv[1]) if len(sys.argv) > 1 else 1000
-SEED = int(sys.argv[2]) if len(sys.argv) > 2 else 20261123
+CHANGES, SEED = numbers(1000, 20261123)
 RESET = struct.pack("ii", 1, 0)
 NORTH, PUBLISHER = "north-token", "publisher-token"
 
@@ -139,57 +138,58 @@ def publications(desk, proxy, dice, count):
             same("it is kept", file.read().split("(")[1][:7], "UK%05d" % serial)
 
 
-def main():
-    dice = random.Random(SEED)
-    desk, site = Desk(os.path.join(SAMPLE, "callers.csv")), folder()
-    # a hold on each SYSMOD, so that a zone's report tells the whole list, and whether each was received
-    desk.ask(
-        "POST",
-        "/publish",
-        "publisher-token",
-        1,
-        b"++PTF(UJ99999).\n++VER(Z038).\n"
-        + b"".join(b"++HOLD(UJ%05d) ERROR REASON(AJ%05d).\n" % (i, i) for i in range(200)),
-    )
-    proxy = Proxy(desk.port, random.Random(SEED + 1))
-    north = Client("http://127.0.0.1:%d" % proxy.port, NORTH, BUREAU_SECONDS="5", BUREAU_TRIES="4")
-    wanted, changes, serial, killed, unanswered = {}, 0, 0, 0, 0
-    while changes < CHANGES:
-        changes, serial = changes + lists(site, dice, serial, wanted), serial + 1
-        if dice.random() < 0.2:
-            killed += 1
-            killed_run(north, ("sync", site), dice.random() * 0.3)
-        status = 3
-        while status == 3:
-            status, _, err = north.run("sync", site)
-            unanswered += status == 3
-        if not check("sync %d" % serial, status == 0, err):
-            break
-    same("each change has one number", desk.last(NORTH), changes)
-    rows = "".join(
-        "%-9s%d\n" % (zone, len(ids)) for zone, ids in sorted(wanted.items()) if zone != "received"
-    )
-    same(
-        "each zone is there",
-        desk.ask("GET", "/zones", NORTH)[1].decode(),
-        "ZONE     SYSMODS\n%sROWS %d\n" % (rows, rows.count("\n")),
-    )
-    for zone in sorted(wanted):
-        if zone != "received":
-            report = desk.ask("GET", "/zones/%s/errsysmods" % zone, NORTH)[1].decode()
-            same(
-                "the rows of " + zone,
-                [line.split()[1] for line in report.splitlines()[2:-1]],
-                ["UJ%05d" % i for i in wanted[zone]],
-            )
-    publications(desk, proxy, dice, CHANGES // 20)
-    check("connections were cut", proxy.cuts > CHANGES / 10, proxy.cuts)
-    print(
-        "cuts: %d changes in %d runs, %d of them killed; %d runs had no answer; %d connections cut, %d whole"
-        % (changes, serial, killed, unanswered, proxy.cuts, proxy.whole)
-    )
-    desk.end()
-    finish("client, connections cut")
+class Cuts(unittest.TestCase):
+    def test_each_change_is_made_once(self):
+        dice = random.Random(SEED)
+        desk, site = Desk(os.path.join(SAMPLE, "callers.csv")), folder()
+        # a hold on each SYSMOD, so that a zone's report tells the whole list, and whether each was received
+        desk.ask(
+            "POST",
+            "/publish",
+            "publisher-token",
+            1,
+            b"++PTF(UJ99999).\n++VER(Z038).\n"
+            + b"".join(b"++HOLD(UJ%05d) ERROR REASON(AJ%05d).\n" % (i, i) for i in range(200)),
+        )
+        proxy = Proxy(desk.port, random.Random(SEED + 1))
+        north = Client("http://127.0.0.1:%d" % proxy.port, NORTH, BUREAU_SECONDS="5", BUREAU_TRIES="4")
+        wanted, changes, serial, killed, unanswered = {}, 0, 0, 0, 0
+        while changes < CHANGES:
+            changes, serial = changes + lists(site, dice, serial, wanted), serial + 1
+            if dice.random() < 0.2:
+                killed += 1
+                killed_run(north, ("sync", site), dice.random() * 0.3)
+            status = 3
+            while status == 3:
+                status, _, err = north.run("sync", site)
+                unanswered += status == 3
+            if not check("sync %d" % serial, status == 0, err):
+                break
+        same("each change has one number", desk.last(NORTH), changes)
+        rows = "".join(
+            "%-9s%d\n" % (zone, len(ids)) for zone, ids in sorted(wanted.items()) if zone != "received"
+        )
+        same(
+            "each zone is there",
+            desk.ask("GET", "/zones", NORTH)[1].decode(),
+            "ZONE     SYSMODS\n%sROWS %d\n" % (rows, rows.count("\n")),
+        )
+        for zone in sorted(wanted):
+            if zone != "received":
+                report = desk.ask("GET", "/zones/%s/errsysmods" % zone, NORTH)[1].decode()
+                same(
+                    "the rows of " + zone,
+                    [line.split()[1] for line in report.splitlines()[2:-1]],
+                    ["UJ%05d" % i for i in wanted[zone]],
+                )
+        publications(desk, proxy, dice, CHANGES // 20)
+        check("connections were cut", proxy.cuts > CHANGES / 10, proxy.cuts)
+        print(
+            "cuts: %d changes in %d runs, %d of them killed; %d runs had no answer; %d connections cut, %d whole"
+            % (changes, serial, killed, unanswered, proxy.cuts, proxy.whole)
+        )
+        desk.end()
 
 
-main()
+if __name__ == "__main__":
+    main("client, connections cut")

@@ -7,10 +7,11 @@ import re
 import shutil
 import subprocess
 import time
+import unittest
 
 from chromium import Browser
 from page import check, click, enter, picture, same, shows
-from service import PROGRAM, TOP, finish, folder, free_port, without_time
+from service import PROGRAM, TOP, folder, free_port, main, without_time
 from stand_in import until
 
 place = folder()
@@ -38,44 +39,49 @@ def run(lines):
     return done.stdout + done.stderr
 
 
-init, serve = desk.splitlines()
-same("the desk is made", run(init), "CALLERS 3\n")
-server = subprocess.Popen(["bash", "-c", "exec " + serve], cwd=place, stdout=subprocess.PIPE, text=True)
-atexit.register(server.terminate)
-same("and serves", server.stdout.readline(), "LISTENING 127.0.0.1:%d\n" % ports["8081"])
-check("it is published", "publication 1: ACCEPTED SYSMODS 8 HOLDS 5 RELEASES 0" in run(publish))
-# the PATH of an earlier step is that of the same terminal
-path = publish.splitlines()[0] + "\n"
-check("the zone is sent, and has two rows", run(path + sync).endswith("ROWS 2\n"))
-run(front)
-atexit.register(subprocess.run, ["bash", "-c", end], cwd=place, env=environment, capture_output=True)
-browser = Browser()
-check("the front is there", until(lambda: browser.open("https://localhost:%d/" % ports["8443"])))
-enter(browser, "north-token")
-browser.until("document.querySelector('.figures')")
-figures = browser.run("[...document.querySelectorAll('.figure:not(.zero)')].map(f => f.innerText.replace(/\\s+/g, ' '))")
-same("what the page says of the zone", figures, ["1 PE", "1 can be resolved", "1 fix missing"])
-click(browser, ".zone-name", "MVSPROD")
-browser.until("document.querySelector('tbody tr.first')")
-click(browser, "tbody tr.first")
-shows(browser, "SYSTEM hold: IPL", ".beside")
-picture(browser, "first-steps")
-browser.call("Browser.setDownloadBehavior", behavior="allow", downloadPath=place)
-click(browser, ".beside [aria-label='Save as SMP/E job']")
-saved = os.path.join(place, "MVSPROD-UJ92005.smpcntl.txt")
-check("the job is saved", until(lambda: os.path.exists(saved)))
-time.sleep(0.2)
-same("as it stands on the page", without_time(open(saved).read()), without_time(job))
-same("as the client prints it", without_time(run(path + "BUREAU_HOME=north bureau-client job MVSPROD UJ92005\n")), without_time(job))
-click(browser, "td.of-box input")
-click(browser, ".tab", "Fixes1")
-browser.until("document.querySelector('.missingfix td.of-box input')")
-click(browser, "td.of-box input")
-click(browser, ".choice-bar .main")
-shows(browser, "3 SYSMODs to install, 1 of them received, 1 with holds to heed.", ".together")
-browser.end()
-run(end)
-# a terminal sends Ctrl-C, which a run in the background ignores
-server.terminate()
-server.wait()
-finish("first steps")
+class FirstSteps(unittest.TestCase):
+    def test_from_nothing_to_a_job(self):
+        init, serve = desk.splitlines()
+        same("the desk is made", run(init), "CALLERS 3\n")
+        server = subprocess.Popen(["bash", "-c", "exec " + serve], cwd=place, stdout=subprocess.PIPE, text=True)
+        atexit.register(server.terminate)
+        same("and serves", server.stdout.readline(), "LISTENING 127.0.0.1:%d\n" % ports["8081"])
+        check("it is published", "publication 1: ACCEPTED SYSMODS 8 HOLDS 5 RELEASES 0" in run(publish))
+        # the PATH of an earlier step is that of the same terminal
+        path = publish.splitlines()[0] + "\n"
+        check("the zone is sent, and has two rows", run(path + sync).endswith("ROWS 2\n"))
+        run(front)
+        atexit.register(subprocess.run, ["bash", "-c", end], cwd=place, env=environment, capture_output=True)
+        browser = Browser()
+        check("the front is there", until(lambda: browser.open("https://localhost:%d/" % ports["8443"])))
+        enter(browser, "north-token")
+        browser.until("document.querySelector('.figures')")
+        figures = browser.run("[...document.querySelectorAll('.figure:not(.zero)')].map(f => f.innerText.replace(/\\s+/g, ' '))")
+        same("what the page says of the zone", figures, ["1 PE", "1 can be resolved", "1 fix missing"])
+        click(browser, ".zone-name", "MVSPROD")
+        browser.until("document.querySelector('tbody tr.first')")
+        click(browser, "tbody tr.first")
+        shows(browser, "SYSTEM hold: IPL", ".beside")
+        picture(browser, "first-steps")
+        browser.call("Browser.setDownloadBehavior", behavior="allow", downloadPath=place)
+        click(browser, ".beside [aria-label='Save as SMP/E job']")
+        saved = os.path.join(place, "MVSPROD-UJ92005.smpcntl.txt")
+        check("the job is saved", until(lambda: os.path.exists(saved)))
+        time.sleep(0.2)
+        same("as it stands on the page", without_time(open(saved).read()), without_time(job))
+        same("as the client prints it", without_time(run(path + "BUREAU_HOME=north bureau-client job MVSPROD UJ92005\n")), without_time(job))
+        click(browser, "td.of-box input")
+        click(browser, ".tab", "Fixes1")
+        browser.until("document.querySelector('.missingfix td.of-box input')")
+        click(browser, "td.of-box input")
+        click(browser, ".choice-bar .main")
+        shows(browser, "3 SYSMODs to install, 1 of them received, 1 with holds to heed.", ".together")
+        browser.end()
+        run(end)
+        # a terminal sends Ctrl-C, which a run in the background ignores
+        server.terminate()
+        server.wait()
+
+
+if __name__ == "__main__":
+    main("first_steps")

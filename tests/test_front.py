@@ -13,14 +13,13 @@ import http.client
 import os
 import random
 import socket
-import sys
 import time
+import unittest
 
 from front import Front
-from service import Client, Desk, check, finish, folder, same, write
+from service import Client, Desk, check, folder, main, numbers, same, write
 
-REQUESTS = int(sys.argv[1]) if len(sys.argv) > 1 else 600
-SEED = int(sys.argv[2]) if len(sys.argv) > 2 else 20261123
+REQUESTS, SEED = numbers(600, 20261123)
 CLIENTS = ["CLIENT%d" % n for n in range(1, 5)]
 PUBLISHER = "publisher-token"
 TOKENS = {name: name.lower() + "-token" for name in CLIENTS}
@@ -170,89 +169,90 @@ def slow_client(front, port):
         )
 
 
-def main():
-    dice = random.Random(SEED)
-    callers = write(
-        folder() + "/callers.csv",
-        "NAME,TOKEN\nPUBLISH,%s\n" % PUBLISHER + "".join("%s,%s\n" % pair for pair in TOKENS.items()),
-    )
-    one, desks = Desk(callers), [Desk(callers), Desk(callers)]
-    front = Front([desk.port for desk in desks], {TOKENS[name]: at for name, at in AT.items()})
-    sites = {name: Installation(name, front.url, front.certificate) for name in CLIENTS}
-    alone = Client(one.url, PUBLISHER)
-    publisher = Client(front.url, PUBLISHER, BUREAU_CACERT=front.certificate)
-    to_both = ("--to", front.url + "/desk/1", "--to", front.url + "/desk/2")
-    place = folder()
+class FrontOfTwoDesks(unittest.TestCase):
+    def test_same_replies(self):
+        dice = random.Random(SEED)
+        callers = write(
+            folder() + "/callers.csv",
+            "NAME,TOKEN\nPUBLISH,%s\n" % PUBLISHER + "".join("%s,%s\n" % pair for pair in TOKENS.items()),
+        )
+        one, desks = Desk(callers), [Desk(callers), Desk(callers)]
+        front = Front([desk.port for desk in desks], {TOKENS[name]: at for name, at in AT.items()})
+        sites = {name: Installation(name, front.url, front.certificate) for name in CLIENTS}
+        alone = Client(one.url, PUBLISHER)
+        publisher = Client(front.url, PUBLISHER, BUREAU_CACERT=front.certificate)
+        to_both = ("--to", front.url + "/desk/1", "--to", front.url + "/desk/2")
+        place = folder()
 
-    def publish(serial):
-        path = write(place + "/publication", publication(dice, serial))
-        same("published on one desk", alone.run("publish", path)[0], 0)
-        return publisher.run("publish", *to_both, path)
+        def publish(serial):
+            path = write(place + "/publication", publication(dice, serial))
+            same("published on one desk", alone.run("publish", path)[0], 0)
+            return publisher.run("publish", *to_both, path)
 
-    for serial in range(4):
-        status, _, err = publish(serial)
-        same("published on both: " + err, status, 0)
-        compare(REQUESTS // 8, dice, one, front, sites, False)
-    slow_client(front, front.port)
-    status, _, err = publisher.run("publish", write(place + "/publication", "++PTF(UJ1).\n"))
-    check("the publisher has to name a desk", status == 3 and "/desk/1, /desk/2" in err, (status, err))
+        for serial in range(4):
+            status, _, err = publish(serial)
+            same("published on both: " + err, status, 0)
+            compare(REQUESTS // 8, dice, one, front, sites, False)
+        slow_client(front, front.port)
+        status, _, err = publisher.run("publish", write(place + "/publication", "++PTF(UJ1).\n"))
+        check("the publisher has to name a desk", status == 3 and "/desk/1, /desk/2" in err, (status, err))
 
-    # the clients of the second desk have sent their folders, as each night
-    def send_folder(name, *words):
-        site, desk = sites[name], desks[AT[name] - 1]
-        status, _, err = site.client.run("sync", *words, site.site)
-        same("the lists of %s: %s" % (name, err), status, 0)
-        site.at_front, site.is_repeatable = desk.last(TOKENS[name]), False
-        return err
+        # the clients of the second desk have sent their folders, as each night
+        def send_folder(name, *words):
+            site, desk = sites[name], desks[AT[name] - 1]
+            status, _, err = site.client.run("sync", *words, site.site)
+            same("the lists of %s: %s" % (name, err), status, 0)
+            site.at_front, site.is_repeatable = desk.last(TOKENS[name]), False
+            return err
 
-    for name in CLIENTS:
-        if AT[name] == 2:
-            send_folder(name)
+        for name in CLIENTS:
+            if AT[name] == 2:
+                send_folder(name)
 
-    # the second desk is lost: its clients get no answer, those of the first don't notice
-    lost = desks[1]
-    lost.end()
-    status, out, _ = publish(4)
-    same("published on the one that is left", (status, out.count("publication 5")), (3, 1))
-    same(
-        "who is at the lost desk gets 502",
-        ask(front.port, front.context, "GET", "/zones", TOKENS["CLIENT2"])[0],
-        502,
-    )
-    same("the client says no answer", sites["CLIENT2"].client.run("zones")[0], 3)
-    compare(REQUESTS // 8, dice, one, front, {name: sites[CLIENTS[0]] for name in CLIENTS}, False)
+        # the second desk is lost: its clients get no answer, those of the first don't notice
+        lost = desks[1]
+        lost.end()
+        status, out, _ = publish(4)
+        same("published on the one that is left", (status, out.count("publication 5")), (3, 1))
+        same(
+            "who is at the lost desk gets 502",
+            ask(front.port, front.context, "GET", "/zones", TOKENS["CLIENT2"])[0],
+            502,
+        )
+        same("the client says no answer", sites["CLIENT2"].client.run("zones")[0], 3)
+        compare(REQUESTS // 8, dice, one, front, {name: sites[CLIENTS[0]] for name in CLIENTS}, False)
 
-    # it is built anew: from the kept publications, and from each client's folder
-    desks[1] = Desk(callers, lost.port)
-    status, out, err = publisher.run("catch-up", front.url + "/desk/2")
-    same("the publications: " + err, (status, out.count("publication")), (0, 5))
-    for name in CLIENTS:
-        if AT[name] == 2:
-            check("a desk built anew is noticed", "was built anew" in send_folder(name))
-    compare(REQUESTS // 4, dice, one, front, sites, True)
-    status, _, err = publish(5)
-    same("published on both again: " + err, status, 0)
-    compare(REQUESTS // 8, dice, one, front, sites, True)
-
-    # a client moves to the other desk, and later back to the one that has its old lists
-    for turn, to in enumerate((1, 2)):
-        AT["CLIENT4"] = to
-        front.deal_out({TOKENS[name]: at for name, at in AT.items()})
-        front.reload()
-        if to == 1:
-            answer = ask(front.port, front.context, "GET", "/zones/TGT1/errsysmods", TOKENS["CLIENT4"])
-            same("nothing is there before it has sent its lists", (answer[0], answer[2]), (404, b"NOT FOUND\n"))
-        for line in send_folder("CLIENT4", "--all").splitlines():
-            if "also has the zone" in line:
-                zone = line.split("also has the zone ")[1].split(",")[0]
-                same("dropped", sites["CLIENT4"].client.run("drop-zone", zone)[0], 0)
-        sites["CLIENT4"].at_front = desks[to - 1].last(TOKENS["CLIENT4"])
+        # it is built anew: from the kept publications, and from each client's folder
+        desks[1] = Desk(callers, lost.port)
+        status, out, err = publisher.run("catch-up", front.url + "/desk/2")
+        same("the publications: " + err, (status, out.count("publication")), (0, 5))
+        for name in CLIENTS:
+            if AT[name] == 2:
+                check("a desk built anew is noticed", "was built anew" in send_folder(name))
+        compare(REQUESTS // 4, dice, one, front, sites, True)
+        status, _, err = publish(5)
+        same("published on both again: " + err, status, 0)
         compare(REQUESTS // 8, dice, one, front, sites, True)
-        status, _, err = publish(6 + turn)
-        same("published on both after a move: " + err, status, 0)
-    for each in (front, one, *desks):
-        each.end()
-    finish("front")
+
+        # a client moves to the other desk, and later back to the one that has its old lists
+        for turn, to in enumerate((1, 2)):
+            AT["CLIENT4"] = to
+            front.deal_out({TOKENS[name]: at for name, at in AT.items()})
+            front.reload()
+            if to == 1:
+                answer = ask(front.port, front.context, "GET", "/zones/TGT1/errsysmods", TOKENS["CLIENT4"])
+                same("nothing is there before it has sent its lists", (answer[0], answer[2]), (404, b"NOT FOUND\n"))
+            for line in send_folder("CLIENT4", "--all").splitlines():
+                if "also has the zone" in line:
+                    zone = line.split("also has the zone ")[1].split(",")[0]
+                    same("dropped", sites["CLIENT4"].client.run("drop-zone", zone)[0], 0)
+            sites["CLIENT4"].at_front = desks[to - 1].last(TOKENS["CLIENT4"])
+            compare(REQUESTS // 8, dice, one, front, sites, True)
+            status, _, err = publish(6 + turn)
+            same("published on both after a move: " + err, status, 0)
+        for each in (front, one, *desks):
+            each.end()
 
 
-main()
+if __name__ == "__main__":
+    main("front")

@@ -10,13 +10,12 @@ import datetime
 import json
 import os
 import random
-import sys
+import unittest
 
 from plain import changes
-from service import TOP, Desk, check, finish, folder, same, write
+from service import TOP, Desk, check, folder, main, numbers, same, write
 
-SYSMODS = int(sys.argv[1]) if len(sys.argv) > 1 else 20000
-SEED = int(sys.argv[2]) if len(sys.argv) > 2 else 20261128
+SYSMODS, SEED = numbers(20000, 20261128)
 PUBLISHER, ALPHA, BETA = "publisher-token", "alpha-token", "beta-token"
 CALLERS = write(folder() + "/callers", "NAME,TOKEN\nPUBLISH,%s\nALPHA,%s\nBETA,%s\n" % (PUBLISHER, ALPHA, BETA))
 ERROR, FIXCAT = 0, 3
@@ -164,24 +163,6 @@ DAYS = [
 ]
 
 
-def worked_dates():
-    """The day of each date, as it is written."""
-    watched = Watched()
-    parts = ["++HOLD(UJ%05d) ERROR REASON(AJ00001) %s.\n" % (at, date) for at, (date, _) in enumerate(DAYS)]
-    watched.publish(["++FUNCTION(HBB77E0).\n++VER(Z038).\n", *parts])
-    watched.put(ALPHA, "TGT1", ["UJ%05d,APPLIED" % at for at in range(len(DAYS))], [])
-    row = '{"class":null,"date":%s,"fmid":null,"reason":"AJ00001","received":null,"resolver":null,"status":null,"sysmod":"UJ%05d"}'
-    rows = ",".join(row % (shown, at) for at, (_, shown) in enumerate(DAYS))
-    sysmods = ",".join('{"fmids":null,"sysmod":"UJ%05d"}' % at for at in range(len(DAYS)))
-    same(
-        "each date",
-        watched.get("/zones/TGT1/errsysmods.json").decode(),
-        '{"report":"errsysmods","rows":[%s],"sysmods":[%s],"zone":"TGT1"}' % (rows, sysmods),
-    )
-    watched.see_zone("TGT1")
-    watched.desk.end()
-
-
 MARKS = r"""++FUNCTION(HBB77E0).
 ++VER(Z038).
 ++PTF(UJ00001).
@@ -210,43 +191,6 @@ MARKED = (
 )
 
 
-def worked_marks():
-    """Marks in categories, a hold with several categories of which two are asked for, LACK, functions in order, and changes after it."""
-    watched = Watched()
-    watched.publish([MARKS])
-    watched.put(ALPHA, "T#3", ["HBB77E0,ACCEPTED", "UJ00001,APPLIED"], ['say"*', "ibm.*"], ["UJ00002"])
-    same("marks", watched.get("/zones/T%233/missingfix.json").decode(), MARKED)
-    watched.see_zone("T#3")
-    watched.see_lists()
-    watched.publish([
-        "++HOLD(UJ00001) ERROR REASON(AJ00003) DATE(69365).\n", "++RELEASE(UJ00001) FIXCAT REASON(AJ00001).\n",
-        "++PTF(UJ00001).\n++VER(Z038) FMID(HXX0001).\n",
-    ])
-    same(
-        "the last ++HOLD and the last record count",
-        watched.get("/zones/T%233/errsysmods.json").decode(),
-        '{"report":"errsysmods","rows":[{"class":null,"date":"2069-12-31","fmid":null,"reason":"AJ00003","received":null,"resolver":null,"status":null,'
-        '"sysmod":"UJ00001"}],"sysmods":[{"fmids":["HXX0001"],"sysmod":"UJ00001"}],"zone":"T#3"}',
-    )
-    watched.see_zone("T#3")
-    watched.see_lists()
-    watched.desk.end()
-
-
-def worked_empty():
-    """What a desk tells of which nothing is known yet."""
-    watched = Watched()
-    watched.see_lists()
-    same("no zones", watched.get("/zones.json"), b'{"zones":[]}')
-    same("nothing is published", watched.get("/published.json", PUBLISHER), b'{"holds":0,"sysmods":0}')
-    watched.put(ALPHA, "A", [], [])
-    same("no exceptions", watched.get("/zones/A/errsysmods.json"), b'{"report":"errsysmods","rows":[],"sysmods":[],"zone":"A"}')
-    same("no fixes", watched.get("/zones/A/missingfix.json"), b'{"holds":[],"report":"missingfix","rows":[],"sysmods":[],"zone":"A"}')
-    same("an empty zone", watched.get("/zones.json"), b'{"zones":[{"sysmods":0,"zone":"A"}]}')
-    refusals(watched.desk)
-    watched.desk.end()
-
-
 def refusals(desk):
     """Each path is refused as its text is, and has no other method. ALPHA has the zone A."""
     reports = ["/zones/A/errsysmods.json", "/zones/A/missingfix.json"]
@@ -272,24 +216,6 @@ def refusals(desk):
 
 
 # ---- the sample
-
-
-def sample():
-    site = os.path.join(TOP, "examples", "site")
-
-    def lines(*parts):
-        with open(os.path.join(site, *parts)) as file:
-            return file.read().splitlines()
-
-    watched = Watched()
-    watched.publish(["\n".join(lines("publication.txt")) + "\n"])
-    for token, client, zone in ((ALPHA, "north", "MVSPROD"), (BETA, "south", "MVSTEST")):
-        rows, categories = (lines(client, part, zone + ".csv")[1:] for part in ("zones", "categories"))
-        watched.put(token, zone, rows, categories, lines(client, "received.csv")[1:])
-        for told in watched.see_zone(zone, token):
-            check("the sample has rows", told["rows"], told)
-    watched.see_lists()
-    watched.desk.end()
 
 
 # ---- drawn SYSMODs
@@ -376,28 +302,97 @@ def see_kinds(errors, fixes):
     check("categories that are asked for, and others", asked < named)
 
 
-def drawn():
-    draw = Draw(SYSMODS, SEED)
-    watched = Watched()
-    watched.publish(draw.first())
-    watched.put(ALPHA, "TGT1", draw.rows(), PATTERNS, draw.dice.sample(draw.names, SYSMODS // 4))
-    watched.put(BETA, "TGT1", ["HDZ33E0,ACCEPTED", "HBB77E0,SUPERSEDED", "UX00001,APPLIED", *("%s,APPLIED" % name for name in draw.names[::7])], ["*"])
-    see_kinds(*watched.see_zone("TGT1"))
-    watched.see_zone("TGT1", BETA)
-    watched.see_lists()
-    for _ in range(2):
-        watched.publish(draw.later())
+class Json(unittest.TestCase):
+    def test_worked_dates(self):
+        """The day of each date, as it is written."""
+        watched = Watched()
+        parts = ["++HOLD(UJ%05d) ERROR REASON(AJ00001) %s.\n" % (at, date) for at, (date, _) in enumerate(DAYS)]
+        watched.publish(["++FUNCTION(HBB77E0).\n++VER(Z038).\n", *parts])
+        watched.put(ALPHA, "TGT1", ["UJ%05d,APPLIED" % at for at in range(len(DAYS))], [])
+        row = '{"class":null,"date":%s,"fmid":null,"reason":"AJ00001","received":null,"resolver":null,"status":null,"sysmod":"UJ%05d"}'
+        rows = ",".join(row % (shown, at) for at, (_, shown) in enumerate(DAYS))
+        sysmods = ",".join('{"fmids":null,"sysmod":"UJ%05d"}' % at for at in range(len(DAYS)))
+        same(
+            "each date",
+            watched.get("/zones/TGT1/errsysmods.json").decode(),
+            '{"report":"errsysmods","rows":[%s],"sysmods":[%s],"zone":"TGT1"}' % (rows, sysmods),
+        )
+        watched.see_zone("TGT1")
+        watched.desk.end()
+
+    def test_worked_marks(self):
+        """Marks in categories, a hold with several categories of which two are asked for, LACK, functions in order, and changes after it."""
+        watched = Watched()
+        watched.publish([MARKS])
+        watched.put(ALPHA, "T#3", ["HBB77E0,ACCEPTED", "UJ00001,APPLIED"], ['say"*', "ibm.*"], ["UJ00002"])
+        same("marks", watched.get("/zones/T%233/missingfix.json").decode(), MARKED)
+        watched.see_zone("T#3")
+        watched.see_lists()
+        watched.publish([
+            "++HOLD(UJ00001) ERROR REASON(AJ00003) DATE(69365).\n", "++RELEASE(UJ00001) FIXCAT REASON(AJ00001).\n",
+            "++PTF(UJ00001).\n++VER(Z038) FMID(HXX0001).\n",
+        ])
+        same(
+            "the last ++HOLD and the last record count",
+            watched.get("/zones/T%233/errsysmods.json").decode(),
+            '{"report":"errsysmods","rows":[{"class":null,"date":"2069-12-31","fmid":null,"reason":"AJ00003","received":null,"resolver":null,"status":null,'
+            '"sysmod":"UJ00001"}],"sysmods":[{"fmids":["HXX0001"],"sysmod":"UJ00001"}],"zone":"T#3"}',
+        )
+        watched.see_zone("T#3")
+        watched.see_lists()
+        watched.desk.end()
+
+    def test_worked_empty(self):
+        """What a desk tells of which nothing is known yet."""
+        watched = Watched()
+        watched.see_lists()
+        same("no zones", watched.get("/zones.json"), b'{"zones":[]}')
+        same("nothing is published", watched.get("/published.json", PUBLISHER), b'{"holds":0,"sysmods":0}')
+        watched.put(ALPHA, "A", [], [])
+        same("no exceptions", watched.get("/zones/A/errsysmods.json"), b'{"report":"errsysmods","rows":[],"sysmods":[],"zone":"A"}')
+        same("no fixes", watched.get("/zones/A/missingfix.json"), b'{"holds":[],"report":"missingfix","rows":[],"sysmods":[],"zone":"A"}')
+        same("an empty zone", watched.get("/zones.json"), b'{"zones":[{"sysmods":0,"zone":"A"}]}')
+        refusals(watched.desk)
+        watched.desk.end()
+
+    def test_sample(self):
+        site = os.path.join(TOP, "examples", "site")
+
+        def lines(*parts):
+            with open(os.path.join(site, *parts)) as file:
+                return file.read().splitlines()
+
+        watched = Watched()
+        watched.publish(["\n".join(lines("publication.txt")) + "\n"])
+        for token, client, zone in ((ALPHA, "north", "MVSPROD"), (BETA, "south", "MVSTEST")):
+            rows, categories = (lines(client, part, zone + ".csv")[1:] for part in ("zones", "categories"))
+            watched.put(token, zone, rows, categories, lines(client, "received.csv")[1:])
+            for told in watched.see_zone(zone, token):
+                check("the sample has rows", told["rows"], told)
+        watched.see_lists()
+        watched.desk.end()
+
+    def test_drawn(self):
+        draw = Draw(SYSMODS, SEED)
+        watched = Watched()
+        watched.publish(draw.first())
+        watched.put(ALPHA, "TGT1", draw.rows(), PATTERNS, draw.dice.sample(draw.names, SYSMODS // 4))
+        watched.put(BETA, "TGT1", ["HDZ33E0,ACCEPTED", "HBB77E0,SUPERSEDED", "UX00001,APPLIED", *("%s,APPLIED" % name for name in draw.names[::7])], ["*"])
         see_kinds(*watched.see_zone("TGT1"))
         watched.see_zone("TGT1", BETA)
         watched.see_lists()
-    # another date of one hold would be seen
-    printed = watched.get("/zones/TGT1/errsysmods").decode()
-    told, row = watched.get("/zones/TGT1/errsysmods.json"), rows_of(printed, ERR_COLUMNS)[-1]
-    watched.published.hold(row, ERROR)[b"DATE"] = b"84001" if watched.published.hold(row, ERROR).get(b"DATE") != b"84001" else b"84002"
-    check("another date is seen", told != compact(watched.published.err_json("TGT1", printed)))
-    watched.desk.end()
+        for _ in range(2):
+            watched.publish(draw.later())
+            see_kinds(*watched.see_zone("TGT1"))
+            watched.see_zone("TGT1", BETA)
+            watched.see_lists()
+        # another date of one hold would be seen
+        printed = watched.get("/zones/TGT1/errsysmods").decode()
+        told, row = watched.get("/zones/TGT1/errsysmods.json"), rows_of(printed, ERR_COLUMNS)[-1]
+        watched.published.hold(row, ERROR)[b"DATE"] = b"84001" if watched.published.hold(row, ERROR).get(b"DATE") != b"84001" else b"84002"
+        check("another date is seen", told != compact(watched.published.err_json("TGT1", printed)))
+        watched.desk.end()
 
 
-for part in (worked_dates, worked_marks, worked_empty, sample, drawn):
-    part()
-finish("json")
+if __name__ == "__main__":
+    main("json")

@@ -13,8 +13,9 @@ import socket
 import struct
 import subprocess
 import sys
+import unittest
 
-from service import PROGRAM, check, command_of, finish, folder, same, write
+from service import PROGRAM, check, command_of, folder, main, same, write
 
 CALLERS = "NAME,TOKEN\nPUBLISH,publisher-token\nALPHA,alpha-token\nBRAVO,bravo-token\n"
 ZONE = b"SYSMOD,STATE\nHBB7790,APPLIED\nUA10001,APPLIED\n"
@@ -23,6 +24,7 @@ LINE = re.compile(r"(\d{4}-\d\d-\d\dT\d\d:\d\d:\d\d\.\d{3}Z) (\S+) (\S+) (\S+) (
 FAULT = re.compile(r"(\d{4}-\d\d-\d\dT\d\d:\d\d:\d\d\.\d{3}Z) - FAULT (\d+)")
 LOST = re.compile(r"(\d{4}-\d\d-\d\dT\d\d:\d\d:\d\d\.\d{3}Z) - LOST (\d+)")
 room = folder()
+LOG = room + "/log"
 callers = write(room + "/callers", CALLERS)
 
 
@@ -89,124 +91,124 @@ REQUESTS = [
 ]
 CLOSING = ("411", "400", "431")
 
-# ---- a line for each, and the same replies as without
 
-log = room + "/log"
-began = datetime.datetime.now(datetime.timezone.utc)
-with open(log, "wb") as errors, open(room + "/none", "wb") as none:
-    logged, plain = Served(errors, "--log"), Served(none)
-    went = []
-    for sent, _ in REQUESTS:
-        told = logged.told(sent)
-        same("with a log and without: %r" % sent[:60], told, plain.told(sent))
-        went.append(len(told))
-    # all that end no connection, over one
-    kept = [(sent, wanted) for sent, wanted in REQUESTS if not wanted.endswith(CLOSING)]
-    same("over one connection", logged.told(b"".join(sent for sent, _ in kept)), plain.told(b"".join(sent for sent, _ in kept)))
-    same("the end of a desk that keeps a log", logged.end(), b"")
-    plain.end()
-ended = datetime.datetime.now(datetime.timezone.utc)
-same("standard error without a log", open(room + "/none", "rb").read(), b"")
-lines = open(log, "rb").read().decode("ascii").split("\n")
-same("the last line is whole", lines.pop(), "")
-same("as many lines as requests", len(lines), len(REQUESTS) + len(kept))
-for line, (sent, wanted), out in zip(lines, REQUESTS, went):
-    got = LINE.fullmatch(line)
-    if check("a line of %r" % sent[:60], got, line):
-        came = min(len(sent), 16384) if wanted.endswith("431") else len(sent)
-        same("the line of %r" % sent[:60], " ".join(got.group(2, 3, 4, 5, 6, 7)), "%s %d %d" % (wanted, came, out))
-        at = datetime.datetime.strptime(got.group(1), "%Y-%m-%dT%H:%M:%S.%fZ").replace(tzinfo=datetime.timezone.utc)
-        check("its time", began - datetime.timedelta(milliseconds=1) <= at <= ended and int(got.group(8)) < 10000, line)
-for line, (sent, wanted) in zip(lines[len(REQUESTS) :], kept):
-    got = LINE.fullmatch(line)
-    check("a line over one connection", got and got.group(2, 3, 4) == tuple(wanted.split()[:3]), line)
-text = "\n".join(lines)
-check("no token and no body", not re.search("[a-z]+-token|SYSMOD,STATE|UA10001,|content|HTTP", text.replace("/chains/UA10001", "")), text)
+class Log(unittest.TestCase):
+    def test_a_line_for_each_and_the_same_replies_as_without(self):
+        began = datetime.datetime.now(datetime.timezone.utc)
+        with open(LOG, "wb") as errors, open(room + "/none", "wb") as none:
+            logged, plain = Served(errors, "--log"), Served(none)
+            went = []
+            for sent, _ in REQUESTS:
+                told = logged.told(sent)
+                same("with a log and without: %r" % sent[:60], told, plain.told(sent))
+                went.append(len(told))
+            # all that end no connection, over one
+            kept = [(sent, wanted) for sent, wanted in REQUESTS if not wanted.endswith(CLOSING)]
+            same("over one connection", logged.told(b"".join(sent for sent, _ in kept)), plain.told(b"".join(sent for sent, _ in kept)))
+            same("the end of a desk that keeps a log", logged.end(), b"")
+            plain.end()
+        ended = datetime.datetime.now(datetime.timezone.utc)
+        same("standard error without a log", open(room + "/none", "rb").read(), b"")
+        lines = open(LOG, "rb").read().decode("ascii").split("\n")
+        same("the last line is whole", lines.pop(), "")
+        same("as many lines as requests", len(lines), len(REQUESTS) + len(kept))
+        for line, (sent, wanted), out in zip(lines, REQUESTS, went):
+            got = LINE.fullmatch(line)
+            if check("a line of %r" % sent[:60], got, line):
+                came = min(len(sent), 16384) if wanted.endswith("431") else len(sent)
+                same("the line of %r" % sent[:60], " ".join(got.group(2, 3, 4, 5, 6, 7)), "%s %d %d" % (wanted, came, out))
+                at = datetime.datetime.strptime(got.group(1), "%Y-%m-%dT%H:%M:%S.%fZ").replace(tzinfo=datetime.timezone.utc)
+                check("its time", began - datetime.timedelta(milliseconds=1) <= at <= ended and int(got.group(8)) < 10000, line)
+        for line, (sent, wanted) in zip(lines[len(REQUESTS) :], kept):
+            got = LINE.fullmatch(line)
+            check("a line over one connection", got and got.group(2, 3, 4) == tuple(wanted.split()[:3]), line)
+        text = "\n".join(lines)
+        check("no token and no body", not re.search("[a-z]+-token|SYSMOD,STATE|UA10001,|content|HTTP", text.replace("/chains/UA10001", "")), text)
 
-# ---- connections that failed
+    def test_connections_that_failed(self):
+        with open(LOG, "wb") as errors:
+            desk = Served(errors, "--log")
+            same("half a head, and the end", desk.told(b"GET /zones HT"), b"")
+            same("half a body, and the end", desk.told(request("PUT /zones/T", "alpha-token", 1, ZONE)[:-5]), b"")
+            same("nothing, and the end", desk.told(b""), b"")
+            same("line ends alone", desk.told(b"\r\n\r\n"), b"")
+            check("a request, and half of the next", desk.told(request("GET /zones", "alpha-token") + b"GET /z").startswith(b"HTTP/1.1 200"))
+            with desk.connect() as connection:
+                connection.sendall(b"GET /zones HT")
+                connection.setsockopt(socket.SOL_SOCKET, socket.SO_LINGER, RESET)
+            desk.told(request("GET /zones", "alpha-token"))
+            desk.end()
+        lines = open(LOG).read().splitlines()
+        faults = [FAULT.fullmatch(line).group(2) for line in lines if FAULT.fullmatch(line)]
+        same("the faults of connections that failed", sorted(faults), ["51", "53", "53", "53"])
+        same("and a line for each request", sum(bool(LINE.fullmatch(line)) for line in lines), 2)
+        same("and no other line", len(lines), 6)
 
-with open(log, "wb") as errors:
-    desk = Served(errors, "--log")
-    same("half a head, and the end", desk.told(b"GET /zones HT"), b"")
-    same("half a body, and the end", desk.told(request("PUT /zones/T", "alpha-token", 1, ZONE)[:-5]), b"")
-    same("nothing, and the end", desk.told(b""), b"")
-    same("line ends alone", desk.told(b"\r\n\r\n"), b"")
-    check("a request, and half of the next", desk.told(request("GET /zones", "alpha-token") + b"GET /z").startswith(b"HTTP/1.1 200"))
-    with desk.connect() as connection:
-        connection.sendall(b"GET /zones HT")
-        connection.setsockopt(socket.SOL_SOCKET, socket.SO_LINGER, RESET)
-    desk.told(request("GET /zones", "alpha-token"))
-    desk.end()
-lines = open(log).read().splitlines()
-faults = [FAULT.fullmatch(line).group(2) for line in lines if FAULT.fullmatch(line)]
-same("the faults of connections that failed", sorted(faults), ["51", "53", "53", "53"])
-same("and a line for each request", sum(bool(LINE.fullmatch(line)) for line in lines), 2)
-same("and no other line", len(lines), 6)
+    def test_a_log_that_cant_be_written(self):
+        gone_read, gone = os.pipe()
+        os.close(gone_read)
+        peer, alone = socket.socketpair()
+        peer.close()
+        with open("/dev/full", "wb") as full, os.fdopen(gone, "wb") as nobody, alone:
+            for name, errors in (("a full device", full), ("a pipe that nobody reads", nobody), ("a socket that nobody reads", alone)):
+                desk, plain = Served(errors, "--log"), Served(subprocess.DEVNULL)
+                for sent, _ in REQUESTS:
+                    same("%s: %r" % (name, sent[:60]), desk.told(sent), plain.told(sent))
+                same("%s, and the end" % name, (desk.process.poll(), desk.end()), (None, b""))
+                plain.end()
+        # Nothing is taken from this pipe, and it is full long before the last line: no call waits for it.
+        unread, full = os.pipe()
+        desk = Served(full, "--log")
+        os.close(full)
+        same("a pipe that is full", desk.told(request("GET /zones", "alpha-token") * 2000).count(b"HTTP/1.1 200 "), 2000)
+        same("a pipe that is full, and the end", (desk.process.poll(), desk.end()), (None, b""))
+        os.close(unread)
+        # A reader that is slow gets whole lines, and is told how many were left out.
+        unread, full = os.pipe()
+        desk = Served(full, "--log")
+        os.close(full)
+        clients = [desk.connect() for _ in range(150)]
+        ASKED = request("GET /zones", "alpha-token")
+        for _ in range(40):
+            for client in clients:
+                client.sendall(ASKED)
+            for client in clients:
+                check("a reply beside a slow reader of the log", client.recv(65536).startswith(b"HTTP/1.1 200 "))
+        for client in clients:
+            client.close()
+        os.set_blocking(unread, False)
+        text = b""
+        for _ in range(4):
+            # the pipe is empty after the first, so the next line tells of those that were left out
+            while True:
+                try:
+                    text += os.read(unread, 65536)
+                except BlockingIOError:
+                    break
+            desk.told(ASKED)
+        desk.end()
+        text += os.read(unread, 65536)
+        lines = text.decode("ascii").split("\n")
+        same("the last line for a slow reader is whole", lines.pop(), "")
+        lost = [int(LOST.fullmatch(line).group(2)) for line in lines if LOST.fullmatch(line)]
+        whole = sum(bool(LINE.fullmatch(line)) for line in lines)
+        same("no line for a slow reader is torn", [line for line in lines if not LINE.fullmatch(line) and not LOST.fullmatch(line)], [])
+        check("some lines are left out for a slow reader", lost)
+        same("lines for a slow reader, with those that were left out", whole + sum(lost), 150 * 40 + 4)
+        os.close(unread)
+        # Where it is closed, another file may have its descriptor: no line may come into the store.
+        command = command_of(callers, 0)
+        closed = subprocess.Popen(["sh", "-c", 'exec "$@" 2>&-', "sh", *command[:2], "--log", *command[2:]], stdout=subprocess.PIPE)
+        port = int(closed.stdout.readline().split(b":")[1])
+        for _ in range(50):
+            with socket.create_connection(("127.0.0.1", port), timeout=30) as connection:
+                connection.sendall(request("GET /zones", "alpha-token"))
+                check("standard error that is closed", connection.recv(65536).startswith(b"HTTP/1.1 200"))
+        closed.terminate()
+        closed.wait()
+        looked = subprocess.run([PROGRAM, "check", command[-1]], capture_output=True)
+        same("the store after it", (looked.returncode, looked.stderr), (0, b""))
 
-# ---- a log that can't be written
 
-gone_read, gone = os.pipe()
-os.close(gone_read)
-peer, alone = socket.socketpair()
-peer.close()
-with open("/dev/full", "wb") as full, os.fdopen(gone, "wb") as nobody, alone:
-    for name, errors in (("a full device", full), ("a pipe that nobody reads", nobody), ("a socket that nobody reads", alone)):
-        desk, plain = Served(errors, "--log"), Served(subprocess.DEVNULL)
-        for sent, _ in REQUESTS:
-            same("%s: %r" % (name, sent[:60]), desk.told(sent), plain.told(sent))
-        same("%s, and the end" % name, (desk.process.poll(), desk.end()), (None, b""))
-        plain.end()
-# Nothing is taken from this pipe, and it is full long before the last line: no call waits for it.
-unread, full = os.pipe()
-desk = Served(full, "--log")
-os.close(full)
-same("a pipe that is full", desk.told(request("GET /zones", "alpha-token") * 2000).count(b"HTTP/1.1 200 "), 2000)
-same("a pipe that is full, and the end", (desk.process.poll(), desk.end()), (None, b""))
-os.close(unread)
-# A reader that is slow gets whole lines, and is told how many were left out.
-unread, full = os.pipe()
-desk = Served(full, "--log")
-os.close(full)
-clients = [desk.connect() for _ in range(150)]
-ASKED = request("GET /zones", "alpha-token")
-for _ in range(40):
-    for client in clients:
-        client.sendall(ASKED)
-    for client in clients:
-        check("a reply beside a slow reader of the log", client.recv(65536).startswith(b"HTTP/1.1 200 "))
-for client in clients:
-    client.close()
-os.set_blocking(unread, False)
-text = b""
-for _ in range(4):
-    # the pipe is empty after the first, so the next line tells of those that were left out
-    while True:
-        try:
-            text += os.read(unread, 65536)
-        except BlockingIOError:
-            break
-    desk.told(ASKED)
-desk.end()
-text += os.read(unread, 65536)
-lines = text.decode("ascii").split("\n")
-same("the last line for a slow reader is whole", lines.pop(), "")
-lost = [int(LOST.fullmatch(line).group(2)) for line in lines if LOST.fullmatch(line)]
-whole = sum(bool(LINE.fullmatch(line)) for line in lines)
-same("no line for a slow reader is torn", [line for line in lines if not LINE.fullmatch(line) and not LOST.fullmatch(line)], [])
-check("some lines are left out for a slow reader", lost)
-same("lines for a slow reader, with those that were left out", whole + sum(lost), 150 * 40 + 4)
-os.close(unread)
-# Where it is closed, another file may have its descriptor: no line may come into the store.
-command = command_of(callers, 0)
-closed = subprocess.Popen(["sh", "-c", 'exec "$@" 2>&-', "sh", *command[:2], "--log", *command[2:]], stdout=subprocess.PIPE)
-port = int(closed.stdout.readline().split(b":")[1])
-for _ in range(50):
-    with socket.create_connection(("127.0.0.1", port), timeout=30) as connection:
-        connection.sendall(request("GET /zones", "alpha-token"))
-        check("standard error that is closed", connection.recv(65536).startswith(b"HTTP/1.1 200"))
-closed.terminate()
-closed.wait()
-looked = subprocess.run([PROGRAM, "check", command[-1]], capture_output=True)
-same("the store after it", (looked.returncode, looked.stderr), (0, b""))
-
-finish("log")
+if __name__ == "__main__":
+    main("log")

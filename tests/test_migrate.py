@@ -13,8 +13,9 @@ import signal
 import sqlite3
 import subprocess
 import time
+import unittest
 
-from service import HERE, PROGRAM, SAMPLE, TOP, check, exchange, finish, folder, free_port, same, write
+from service import HERE, PROGRAM, SAMPLE, TOP, check, exchange, folder, free_port, main, same, write
 
 KEPT, REPLIES = (os.path.join(HERE, "data", "version-1." + name) for name in ("store.xz", "replies"))
 TABLES = """CREATE TABLE bureau_version (one INTEGER PRIMARY KEY CHECK (one = 1),
@@ -138,104 +139,102 @@ def with_no_pairs(rows):
     return {**rows, "sysmod_cond": []}
 
 
-# ---- a store with the tables of version 1
+class Migrate(unittest.TestCase):
+    def test_a_store_with_the_tables_of_version_1(self):
+        old = of_version_1("old")
+        kept, rows = read(old), rows_of(old)
+        same("serve refuses a store of version 1", run("serve", old), refused(45, 1))
+        same("and leaves it as it is", read(old), kept)
+        same("migrate", run("migrate", old), DONE)
+        same("keeps all rows, and no SYSMOD has a pair", rows_of(old), with_no_pairs(rows))
+        conn = sqlite3.connect(old)
+        same("the version", conn.execute("SELECT * FROM bureau_version").fetchall(), [(1, 2)])
+        same("sqlite3 finds it sound", conn.execute("PRAGMA integrity_check").fetchall(), [("ok",)])
+        conn.close()
+        kept = read(old)
+        same("a second time", run("migrate", old), refused(45, 1))
+        same("changes nothing", read(old), kept)
 
-old = of_version_1("old")
-kept, rows = read(old), rows_of(old)
-same("serve refuses a store of version 1", run("serve", old), refused(45, 1))
-same("and leaves it as it is", read(old), kept)
-same("migrate", run("migrate", old), DONE)
-same("keeps all rows, and no SYSMOD has a pair", rows_of(old), with_no_pairs(rows))
-conn = sqlite3.connect(old)
-same("the version", conn.execute("SELECT * FROM bureau_version").fetchall(), [(1, 2)])
-same("sqlite3 finds it sound", conn.execute("PRAGMA integrity_check").fetchall(), [("ok",)])
-conn.close()
-kept = read(old)
-same("a second time", run("migrate", old), refused(45, 1))
-same("changes nothing", read(old), kept)
+        desk = Served(old)
+        same("a change that is sent again has its kept reply", desk.ask("PUT", "/zones/TGT1", ALPHA, 1, ZONE), (200, b"ZONE TGT1 ROWS 2\n"))
+        same("the next number is the next", desk.ask("PUT", "/zones/TGT2", BETA, 3, ZONE), (409, b"GAP LAST 1\n"))
+        same("a publication with a pair", desk.ask("POST", "/publish", PUBLISHER, 2, CONDITIONAL)[0], 200)
+        alone = b'{"plan":[{"id":"UA10020","system":[],"user":[]}],"status":"GOOD","sysmod":"UA10020","zone":"TGT1"}'
+        both = alone.replace(b"}],", b'},{"id":"UA10021","system":[],"user":[]}],')
+        same("is not asked for without the function", desk.ask("GET", "/zones/TGT1/chains/UA10020", ALPHA), (200, alone))
+        same("is asked for where the function is", desk.ask("GET", "/zones/TGT1/chains/UA10020", BETA), (200, both))
+        desk.end()
+        desk = Served(old)
+        same("also after a new start", desk.ask("GET", "/zones/TGT1/chains/UA10020", BETA), (200, both))
+        same("a store that is served", run("migrate", old), refused(42, 3))
+        same("goes on", desk.ask("GET", "/published", PUBLISHER), (200, b"PUBLISHED SYSMODS 5 HOLDS 1\n"))
+        desk.end()
 
-desk = Served(old)
-same("a change that is sent again has its kept reply", desk.ask("PUT", "/zones/TGT1", ALPHA, 1, ZONE), (200, b"ZONE TGT1 ROWS 2\n"))
-same("the next number is the next", desk.ask("PUT", "/zones/TGT2", BETA, 3, ZONE), (409, b"GAP LAST 1\n"))
-same("a publication with a pair", desk.ask("POST", "/publish", PUBLISHER, 2, CONDITIONAL)[0], 200)
-alone = b'{"plan":[{"id":"UA10020","system":[],"user":[]}],"status":"GOOD","sysmod":"UA10020","zone":"TGT1"}'
-both = alone.replace(b"}],", b'},{"id":"UA10021","system":[],"user":[]}],')
-same("is not asked for without the function", desk.ask("GET", "/zones/TGT1/chains/UA10020", ALPHA), (200, alone))
-same("is asked for where the function is", desk.ask("GET", "/zones/TGT1/chains/UA10020", BETA), (200, both))
-desk.end()
-desk = Served(old)
-same("also after a new start", desk.ask("GET", "/zones/TGT1/chains/UA10020", BETA), (200, both))
-desk.end()
+    def test_what_migrate_refuses(self):
+        before = sorted(os.listdir(room))
+        same("a store that is not there", run("migrate", "missing"), refused(44, 1))
+        same("a name that is no file's", run("migrate", ":memory:")[0] in (1, 2, 3), True)
+        same("is not made", sorted(os.listdir(room)), before)
+        with_all = of_version_1("all")
+        conn = sqlite3.connect(with_all)
+        tables = [name for (name,) in conn.execute("SELECT name FROM sqlite_schema WHERE type = 'table'")]
+        columns = [(table, row[1]) for table in tables for row in conn.execute("PRAGMA table_info(%s)" % table)]
+        conn.close()
+        check("version 1 has nine tables", len(tables) == 9, tables)
+        for name, statement, fault in (
+            ("taken", "CREATE TABLE sysmod_cond (id TEXT)", 44),
+            ("later", "UPDATE bureau_version SET version = 3", 45),
+            *(("without " + table, "DROP TABLE " + table, 44) for table in tables),
+            *(
+                ("without %s of %s" % (column, table), "ALTER TABLE %s RENAME COLUMN %s TO other" % (table, column), 44)
+                for table, column in columns
+            ),
+        ):
+            odd = os.path.join(room, name)
+            shutil.copy(with_all, odd)
+            conn = sqlite3.connect(odd)
+            conn.execute(statement)
+            conn.commit()
+            conn.close()
+            kept = read(odd)
+            same("a store that is %s" % name, run("migrate", odd), refused(fault, 1))
+            same("is left as it is: %s" % name, read(odd), kept)
+        text = write(room + "/text", b"This file is no database, and has more than a hundred bytes. " * 20)
+        same("a file that is no database", run("migrate", text), refused(42, 3))
+        full = of_version_1("full")
+        done = subprocess.run([PROGRAM, "migrate", full], stdout=open("/dev/full", "wb"), stderr=subprocess.PIPE, text=True)
+        same("where the line can't be written", (done.returncode, done.stderr), (3, "FAULT 72\n"))
+        same("the store is migrated", run("migrate", full), refused(45, 1))
 
-# ---- what migrate refuses
+    def test_a_stop_in_it(self):
+        dice, found = random.Random(1), set()
+        start = of_version_1("start")
+        rows = rows_of(start)
+        for number in range(40):
+            store = os.path.join(room, "stop%d" % number)
+            shutil.copy(start, store)
+            process = subprocess.Popen([PROGRAM, "migrate", store], stdout=subprocess.PIPE, stderr=subprocess.PIPE)
+            time.sleep(dice.random() * 0.03)
+            process.send_signal(signal.SIGKILL)
+            process.communicate()
+            status, output, errors = run("migrate", store)
+            found.add(errors)
+            check("a stop leaves a store of version 1 or 2", (status, output, errors) in (DONE, refused(45, 1)), (status, output, errors))
+            same("with all its rows", rows_of(store), with_no_pairs(rows))
 
-before = sorted(os.listdir(room))
-same("a store that is not there", run("migrate", "missing"), refused(44, 1))
-same("a name that is no file's", run("migrate", ":memory:")[0] in (1, 2, 3), True)
-same("is not made", sorted(os.listdir(room)), before)
-with_all = of_version_1("all")
-conn = sqlite3.connect(with_all)
-tables = [name for (name,) in conn.execute("SELECT name FROM sqlite_schema WHERE type = 'table'")]
-columns = [(table, row[1]) for table in tables for row in conn.execute("PRAGMA table_info(%s)" % table)]
-conn.close()
-check("version 1 has nine tables", len(tables) == 9, tables)
-for name, statement, fault in (
-    ("taken", "CREATE TABLE sysmod_cond (id TEXT)", 44),
-    ("later", "UPDATE bureau_version SET version = 3", 45),
-    *(("without " + table, "DROP TABLE " + table, 44) for table in tables),
-    *(
-        ("without %s of %s" % (column, table), "ALTER TABLE %s RENAME COLUMN %s TO other" % (table, column), 44)
-        for table, column in columns
-    ),
-):
-    odd = os.path.join(room, name)
-    shutil.copy(with_all, odd)
-    conn = sqlite3.connect(odd)
-    conn.execute(statement)
-    conn.commit()
-    conn.close()
-    kept = read(odd)
-    same("a store that is %s" % name, run("migrate", odd), refused(fault, 1))
-    same("is left as it is: %s" % name, read(odd), kept)
-text = write(room + "/text", b"This file is no database, and has more than a hundred bytes. " * 20)
-same("a file that is no database", run("migrate", text), refused(42, 3))
-desk = Served(old)
-same("a store that is served", run("migrate", old), refused(42, 3))
-same("goes on", desk.ask("GET", "/published", PUBLISHER), (200, b"PUBLISHED SYSMODS 5 HOLDS 1\n"))
-desk.end()
-full = of_version_1("full")
-done = subprocess.run([PROGRAM, "migrate", full], stdout=open("/dev/full", "wb"), stderr=subprocess.PIPE, text=True)
-same("where the line can't be written", (done.returncode, done.stderr), (3, "FAULT 72\n"))
-same("the store is migrated", run("migrate", full), refused(45, 1))
+    def test_the_store_that_the_program_of_version_1_made(self):
+        with lzma.open(KEPT) as file:
+            store = write(os.path.join(room, "kept"), file.read())
+        rows = rows_of(store)
+        same("serve refuses it", run("serve", store), refused(45, 1))
+        same("migrate of it", run("migrate", store), DONE)
+        same("keeps all its rows", rows_of(store), with_no_pairs(rows))
+        desk = Served(store)
+        done = subprocess.run(["sh", os.path.join(SAMPLE, "requests.sh"), desk.url], cwd=TOP, capture_output=True)
+        desk.end()
+        check("the earlier program answered", len(read(REPLIES)) > 1000)
+        same("its desk answers the sample as the earlier program did", done.stdout, read(REPLIES))
 
-# ---- a stop in it
 
-dice, found = random.Random(1), set()
-start = of_version_1("start")
-rows = rows_of(start)
-for number in range(40):
-    store = os.path.join(room, "stop%d" % number)
-    shutil.copy(start, store)
-    process = subprocess.Popen([PROGRAM, "migrate", store], stdout=subprocess.PIPE, stderr=subprocess.PIPE)
-    time.sleep(dice.random() * 0.03)
-    process.send_signal(signal.SIGKILL)
-    process.communicate()
-    status, output, errors = run("migrate", store)
-    found.add(errors)
-    check("a stop leaves a store of version 1 or 2", (status, output, errors) in (DONE, refused(45, 1)), (status, output, errors))
-    same("with all its rows", rows_of(store), with_no_pairs(rows))
-
-# ---- the store that the program of version 1 made
-
-with lzma.open(KEPT) as file:
-    store = write(os.path.join(room, "kept"), file.read())
-rows = rows_of(store)
-same("serve refuses it", run("serve", store), refused(45, 1))
-same("migrate of it", run("migrate", store), DONE)
-same("keeps all its rows", rows_of(store), with_no_pairs(rows))
-desk = Served(store)
-done = subprocess.run(["sh", os.path.join(SAMPLE, "requests.sh"), desk.url], cwd=TOP, capture_output=True)
-desk.end()
-check("the earlier program answered", len(read(REPLIES)) > 1000)
-same("its desk answers the sample as the earlier program did", done.stdout, read(REPLIES))
-finish("migrate")
+if __name__ == "__main__":
+    main("migrate")

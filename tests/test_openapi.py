@@ -7,9 +7,10 @@ import json
 import os
 import re
 import subprocess
+import unittest
 import urllib.parse
 
-from service import PROGRAM, TOP, Desk, check, finish, folder, same, write
+from service import PROGRAM, TOP, Desk, check, folder, main, same, write
 
 
 def read(name):
@@ -26,9 +27,6 @@ KEYWORDS = {
     "$ref", "additionalProperties", "description", "discriminator", "enum", "format", "items", "minimum", "oneOf", "pattern", "properties",
     "required", "type",
 }
-
-
-# ---- the document
 
 
 def operations(document):
@@ -96,9 +94,6 @@ def refusals_of_page():
     sample = {"L": "7", "number": "34", "place": "2"}
     texts = [(status, re.sub(r"\b(L|number|place)\b", lambda word: sample[word[1]], text)) for status, cell in rows for text in re.findall("`([^`]*)`", cell)]
     return {(status, text + "\n") for status, text in texts if status not in ("200", "405")}
-
-
-# ---- values beside their schemas
 
 
 def misfits(document, schema, value, place=""):
@@ -177,9 +172,6 @@ def faults_of_order(document):
     return sorted((set(sent) ^ there) | again | (set(operations(document)) ^ shown))
 
 
-# ---- a desk
-
-
 def request_of(document, exchange):
     """What an exchange sends: the method, the path, the headers and the body."""
     method, path, operation = operations(document)[exchange["operation"]]
@@ -218,9 +210,6 @@ def told_otherwise(document, desk):
         got, wanted = (status, headers["content-type"], body), reply_of(document, exchange)
         if got != wanted:
             yield exchange["example"], got, wanted
-
-
-# ---- refusals
 
 
 def refused_ways(document, name):
@@ -282,9 +271,6 @@ def refusal_faults(document, desk):
             yield "%s: %s never comes" % (name, status)
 
 
-# ---- the checks, and that they can fail
-
-
 def see_lies(used):
     """Each of the checks sees a document that is wrong. A desk that was used has had all exchanges."""
 
@@ -341,26 +327,32 @@ def see_lies(used):
         check("%s is seen" % name, list(refusal_faults(lie(change), used)))
 
 
-same("it is written in one way", json.dumps(DOCUMENT, indent=2, ensure_ascii=False) + "\n", TEXT)
-version = subprocess.run([PROGRAM, "--version"], capture_output=True, text=True).stderr.split()
-same("it is of the program's version", ["bureau", DOCUMENT["info"]["version"]], version)
-same("its form is that of OpenAPI 3.1", (DOCUMENT["openapi"], sorted({m for each in DOCUMENT["paths"].values() for m in each} - set(METHODS))), ("3.1.0", []))
-same("its calls are those of the page", calls_of(DOCUMENT), calls_of_page())
-same("in the page's order", [key for key in calls_of(DOCUMENT)], [key for key in calls_of_page()])
-same("each operation has a name of its own", len(operations(DOCUMENT)), sum(map(len, DOCUMENT["paths"].values())))
-same("each reference is there, and each part is named", faulty_references(DOCUMENT), [])
-same("each example fits", list(example_faults(DOCUMENT)), [])
-same("each example is sent, and each operation shown", faults_of_order(DOCUMENT), [])
-responses = DOCUMENT["components"]["responses"]
-for status, text in sorted(refusals_of_page()):
-    named = {each["$ref"].split("/")[-1] for _, _, said in operations(DOCUMENT).values() for code, each in said["responses"].items() if code == status}
-    schemas = [responses[each]["content"]["text/plain"]["schema"] for each in named]
-    check("%s %r of the page is in it" % (status, text), any(not list(misfits(DOCUMENT, schema, text)) for schema in schemas))
-desk = desk_of(DOCUMENT)
-for exchange in DOCUMENT["x-exchanges"]:
-    status, headers, body = desk.reply(*request_of(DOCUMENT, exchange))
-    same("the exchange " + exchange["example"], (status, headers["content-type"], body), reply_of(DOCUMENT, exchange))
-same("each operation is refused as it says", list(refusal_faults(DOCUMENT, desk)), [])
-see_lies(desk)
-desk.end()
-finish("openapi")
+class OpenApi(unittest.TestCase):
+    def test_the_checks_and_that_they_can_fail(self):
+        same("it is written in one way", json.dumps(DOCUMENT, indent=2, ensure_ascii=False) + "\n", TEXT)
+        version = subprocess.run([PROGRAM, "--version"], capture_output=True, text=True).stderr.split()
+        same("it is of the program's version", ["bureau", DOCUMENT["info"]["version"]], version)
+        others = sorted({method for each in DOCUMENT["paths"].values() for method in each} - set(METHODS))
+        same("its form is that of OpenAPI 3.1", (DOCUMENT["openapi"], others), ("3.1.0", []))
+        same("its calls are those of the page", calls_of(DOCUMENT), calls_of_page())
+        same("in the page's order", [key for key in calls_of(DOCUMENT)], [key for key in calls_of_page()])
+        same("each operation has a name of its own", len(operations(DOCUMENT)), sum(map(len, DOCUMENT["paths"].values())))
+        same("each reference is there, and each part is named", faulty_references(DOCUMENT), [])
+        same("each example fits", list(example_faults(DOCUMENT)), [])
+        same("each example is sent, and each operation shown", faults_of_order(DOCUMENT), [])
+        responses = DOCUMENT["components"]["responses"]
+        for status, text in sorted(refusals_of_page()):
+            named = {each["$ref"].split("/")[-1] for _, _, said in operations(DOCUMENT).values() for code, each in said["responses"].items() if code == status}
+            schemas = [responses[each]["content"]["text/plain"]["schema"] for each in named]
+            check("%s %r of the page is in it" % (status, text), any(not list(misfits(DOCUMENT, schema, text)) for schema in schemas))
+        desk = desk_of(DOCUMENT)
+        for exchange in DOCUMENT["x-exchanges"]:
+            status, headers, body = desk.reply(*request_of(DOCUMENT, exchange))
+            same("the exchange " + exchange["example"], (status, headers["content-type"], body), reply_of(DOCUMENT, exchange))
+        same("each operation is refused as it says", list(refusal_faults(DOCUMENT, desk)), [])
+        see_lies(desk)
+        desk.end()
+
+
+if __name__ == "__main__":
+    main("openapi")

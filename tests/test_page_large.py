@@ -2,9 +2,9 @@
 """The page in a headless Chromium with a drawn zone of 10,000 rows: how fast it is, what filters, addresses, copies,
 files, the keyboard and paper do, on a desktop and on a phone, light and dark.
 
-    test_page_large.py [FOLDER]
+    test_page_large.py [-v] [NAME..]
 
-Pictures of the page go to FOLDER, where one is named.
+Pictures of the page go to the folder that BUREAU_PICTURES names, where it names one.
 """
 import csv
 import io
@@ -12,13 +12,14 @@ import json
 import os
 import re
 import time
+import unittest
 
 from chromium import Browser
 from drawn_desk import DrawnDesk, Zone
 from front import Front
 from page import NORTH, check, click, count, enter, filter_by, go, lines, no_faults, picture, said, same, shows
 from page_looks import looks, paper, without_resolver
-from service import TOP, finish, folder
+from service import TOP, folder, main
 from stand_in import StandIn, until
 
 LARGE = Zone("LARGE", 10000, 3000, 1)
@@ -65,213 +66,6 @@ def holds(wanted):
 
 def number(browser):
     return int(count(browser).split()[0].replace(",", ""))
-
-
-def overview(browser):
-    """The most urgent zone first; a figure leads to what it counts."""
-    shows(browser, "LARGE", ".zone:first-child .zone-name")
-    browser.until("document.querySelectorAll('.figures').length === 4")
-    picture(browser, "overview")
-    hiper = len(holds(lambda hold, _: hold[2] == "HIPER"))
-    none = len(holds(lambda _, found: not found))
-    shows(browser, "{:,}".format(hiper), ".zone:first-child .figure.class-hiper")
-    shows(browser, "{:,}".format(none), ".zone:first-child .figure.status-none")
-    same("in the order of urgency", browser.run("[...document.querySelectorAll('.zone-name')].map(z => z.innerText)"), ["LARGE", "MIDDLE", "Z@#$", "CLEAN"])
-    label = browser.run("document.querySelector('.zone:first-child .figure.status-none').ariaLabel")
-    same("which a screen reader tells with its zone", label, "LARGE: {:,} no resolver".format(none))
-    shows(browser, "20,000 SYSMODs and 40,000 holds published · asked 20", "#level")
-    same("once", browser.run("document.body.innerText.match(/asked 20/g).length"), 1)
-    check("the form is gone", browser.run("document.getElementById('enter').offsetParent === null"))
-    click(browser, ".zone:first-child .figure.status-none")
-    browser.until("document.querySelector('tbody tr.first')")
-    same("a figure leads there", browser.run("location.hash"), "#LARGE/errors?status=none")
-    same("to as many", number(browser), none)
-
-
-def speed(browser):
-    """From the question to the table, and each step in it: the best of some, since the machine has other work. What
-    is asked anew travels too, from the desk and through the front. On a machine that is busy all the time, a yardstick of the same run
-    tells how much longer a step may take."""
-    ready = "document.querySelector('.errsysmods tbody tr.first') && !document.querySelector('.wait')"
-    steps = {
-        "asked anew": ("document.getElementById('again').click()", ready),
-        "the fixes": ("location.hash = '#LARGE/fixes'", "document.querySelector('.missingfix tbody tr.first')"),
-        "the errors": ("location.hash = '#LARGE/errors'", ready),
-        "filtered": (
-            "(f => { f.value = 'aj0123'; f.dispatchEvent(new Event('input')); })(document.querySelector('.filters input'))",
-            "document.querySelector('.count').innerText.startsWith('10 ')",
-        ),
-        "not filtered": ("document.querySelector('.filters .plain').click()", "!document.querySelector('.count').innerText.includes(' of ')"),
-        "sorted": ("document.querySelectorAll('th button')[2].click()", "document.querySelector('th[aria-sort]')"),
-        "scrolled": (
-            "document.querySelector('.scroll').scrollTop = 90000",
-            "[...document.querySelectorAll('tbody tr.first')].some(r => r.getAttribute('aria-rowindex') > 2000 && r.getBoundingClientRect().top > 300)",
-        ),
-        "the plan": ("location.hash = '#LARGE/plan'", "document.querySelector('.plan tbody tr.first')"),
-        "what is new": ("location.hash = '#LARGE/new'", "document.querySelector('.news tbody tr.first')"),
-    }
-    check("a report of yesterday is kept", browser.run(A_DAY_AGO))
-    for slower in (1, 4):
-        browser.call("Emulation.setCPUThrottlingRate", rate=slower)
-        best, yardstick = {}, 1e9
-        for _ in range(12):
-            go(browser, "#LARGE/errors")
-            yardstick = min(yardstick, browser.run(YARDSTICK))
-            for name, (script, test) in steps.items():
-                best[name] = min(best.get(name, 1e9), browser.run(TIMED % (script, test)))
-                # what is still asked for, such as the counts of the other tabs, is another step's
-                browser.until("[...document.querySelectorAll('.tab-count')].every(c => c.innerText)")
-            most = max(300, TIMES * yardstick)
-            if max(best.values()) < most:
-                break
-        told = ", ".join("%s %d ms" % pair for pair in {**best, "the yardstick": yardstick}.items())
-        print("page: 10,000 rows, %d times slower: %s" % (slower, told))
-        same("all within %d ms, %d times slower" % (most, slower), {name: took for name, took in best.items() if took > most}, {})
-    browser.call("Emulation.setCPUThrottlingRate", rate=1)
-    check("only what is seen is drawn", browser.run("document.querySelectorAll('tbody tr').length") < 120)
-    go(browser, "#LARGE/errors?news=came")
-    check("what is new is marked", browser.until("document.querySelector('tr.first .news-mark.is-came')"))
-    check("and no row else is shown", number(browser) > 100 and browser.run("document.querySelectorAll('tr.first:not(:has(.news-mark))').length") == 0)
-    browser.run(FORGET)
-    click(browser, "#again")
-    go(browser, "#LARGE/errors")
-    browser.until("document.querySelector('tbody tr.first')")
-
-
-def filters(browser):
-    """Class, status, receipt and text combine, and stand in the address."""
-    go(browser, "#LARGE/errors")
-    same("all", number(browser), len(HOLDS))
-    click(browser, ".chip.is-hiper")
-    same("one class", number(browser), len(holds(lambda hold, _: hold[2] == "HIPER")))
-    click(browser, ".chip.is-pe")
-    same("or another", number(browser), len(holds(lambda hold, _: hold[2] in ("HIPER", "PE"))))
-    click(browser, ".chip.is-held")
-    both = holds(lambda hold, found: hold[2] in ("HIPER", "PE") and state(found) == "HELD")
-    same("and a status", number(browser), len(both))
-    part = both[0][0][2:6].lower()
-    filter_by(browser, part)
-    want = [hold for hold in both if part in " ".join((*hold, *(one[0] for one in HOLDS[hold]))).lower()]
-    same("and a text", (number(browser), {tuple(row[1:3]) for row in lines(browser)} == {hold[:2] for hold in want}), (len(want), True))
-    address = browser.run("location.hash")
-    same("all in the address", address, "#LARGE/errors?class=HIPER&class=PE&status=HELD&text=" + part)
-    browser.call("Page.reload")
-    browser.until("document.querySelector('tbody tr.first')")
-    same("also after a reload", (number(browser), browser.run("location.hash")), (len(want), address))
-    same("with what was chosen", browser.run("[...document.querySelectorAll('[aria-pressed=true]')].map(c => c.firstChild.data)"), ["HIPER", "PE", "HELD"])
-    click(browser, ".filters .plain", "Show all")
-    same("and all again", (number(browser), browser.run("location.hash")), (len(HOLDS), "#LARGE/errors"))
-    for text in ("none", "NONE"):
-        filter_by(browser, text)
-        same("the word " + text, number(browser), len(holds(lambda _, found: not found)))
-    filter_by(browser, "no such thing")
-    same("nothing", (number(browser), lines(browser)), (0, []))
-    shows(browser, "No hold has all that is chosen above.", ".scroll")
-    filter_by(browser, "")
-    same("else that is not said", browser.run("document.querySelector('.scroll .nothing')?.offsetParent ?? null"), None)
-
-
-def order(browser):
-    """What can be resolved comes first, then what is held, and what nothing resolves last: each by its class."""
-    go(browser, "#MIDDLE/errors")
-    browser.run("dispatchEvent(new Event('beforeprint'))")  # which draws all lines
-    got = browser.run("[...document.querySelectorAll('tbody tr.first')].map(r => [...r.cells].slice(2, 4).map(c => c.innerText))")
-    browser.run("dispatchEvent(new Event('afterprint'))")
-    classes, statuses = ["HIPER", "PE"], ["GOOD", "HELD", "none"]
-
-    def ranks(one):
-        hold, resolvers = one
-        return statuses.index(state(resolvers)), classes.index(hold[2]) if hold[2] in classes else 2
-
-    same("all of them", got, [list(hold[:2]) for hold, _ in sorted(ZONES[3].holds, key=ranks)])
-
-
-def groups(browser):
-    """The resolvers of a hold are one group, the best one first."""
-    go(browser, "#MIDDLE/errors")
-    hold, found = max(ZONES[3].holds, key=lambda one: len(one[1]))
-    filter_by(browser, hold[0])
-    same("one line", [row[1] for row in lines(browser)], [hold[0]])
-    found = sorted(found, key=lambda one: (BEST[one[1]], one[2] == "NO", one[0]))
-    wanted = [[one[0], one[1], "received" if one[2] == "YES" else "no"] for one in found]
-    same("with the best resolver", [row[4:] for row in lines(browser)], wanted[:1])
-    click(browser, ".opener")
-    same("opened", [row[4:] for row in lines(browser)], wanted)
-    check("each hold has its date", browser.until("document.querySelector('tbody tr.first .of-date').innerText.startsWith('2025-06-')"))
-    same("the hold stands once", [row[1] for row in lines(browser)], [hold[0]] + [""] * (len(found) - 1))
-    click(browser, ".opener")
-    same("and closed", len(lines(browser)), 1)
-    filter_by(browser, "")
-
-
-def beside(browser):
-    """The chain stands beside the table, at an address of its own."""
-    go(browser, "#LARGE/errors?status=HELD")
-    click(browser, "tbody tr.first")
-    shows(browser, "can’t be installed now", ".beside")
-    row = lines(browser)[0]
-    same("its address", browser.run("location.hash"), "#LARGE/errors/%s?status=HELD" % row[4])
-    shows(browser, "is needed, and would be given by UJ99998, which is held: it needs AJ99999", ".needs")
-    shows(browser, "is needed, and nothing that is published gives it", ".needs")
-    same(
-        "the row of needs, to the first that nothing gives",
-        browser.run("[...document.querySelectorAll('.needs .id')].map(e => e.innerText)"),
-        [row[4], "AJ99998", "AJ99999"],
-    )
-    same("the line is marked", browser.run("document.querySelector('tr.chosen .of-sysmod').innerText"), row[1])
-    left = "document.querySelector('.beside').getBoundingClientRect().left"
-    check("beside the table", browser.run("document.querySelector('.tab-body').getBoundingClientRect().right < %s + 1" % left))
-    check("and as high as it", browser.run("document.querySelector('.beside').getBoundingClientRect().top < 200"))
-    browser.call("Page.reload")
-    shows(browser, "can’t be installed now", ".beside")
-    same("marked after a reload too", browser.run("document.querySelector('tr.chosen .of-sysmod').innerText"), row[1])
-    click(browser, ".close")
-    same("closed", (browser.run("location.hash"), browser.run("document.querySelectorAll('tr.chosen').length")), ("#LARGE/errors?status=HELD", 0))
-    browser.run("history.back()")
-    shows(browser, "can’t be installed now", ".beside")
-
-
-def keyboard(browser):
-    """All of it without a mouse."""
-    go(browser, "#MIDDLE/errors")
-    browser.run("document.activeElement.blur()")
-    reached = []
-    for _ in range(40):
-        browser.key("Tab", 9)
-        reached.append(browser.run("document.activeElement.firstChild?.data ?? document.activeElement.ariaLabel ?? ''"))
-    wanted = {"Ask again", "Zones", "Errors", "HIPER", "none", "Copy", "Class", "Show its chain"}
-    check("Tab reaches all", wanted <= set(reached), (wanted - set(reached), reached))
-    browser.run("document.querySelector('table').focus()")
-    for key, code in (("ArrowDown", 40), ("ArrowDown", 40), ("PageDown", 34), ("PageUp", 33)):
-        browser.key(key, code)
-    at = "document.getElementById(document.querySelector('table').getAttribute('aria-activedescendant'))"
-    same("the active line is told", browser.run(at + ".getAttribute('aria-rowindex')"), "3")
-    same("and the number of all", browser.run("document.querySelector('table').getAttribute('aria-rowcount')"), str(number(browser) + 1))
-    browser.key("End", 35)
-    same("the last line", browser.run(at + ".getAttribute('aria-rowindex')"), str(number(browser) + 1))
-    bottom = "document.querySelector('.scroll').getBoundingClientRect().bottom"
-    check("is in sight", browser.run("%s.getBoundingClientRect().bottom <= %s + 1" % (at, bottom)))
-    browser.key("Home", 36)
-    first = browser.run(at + ".querySelector('.of-sysmod').innerText")
-    browser.key("Enter", 13, "\r")
-    browser.until("document.activeElement.className.includes('beside')")
-    same("Enter leads to the chain", browser.run("document.activeElement.ariaLabel"), "Chain")
-    browser.key("Escape", 27)
-    browser.until("document.activeElement.tagName === 'TABLE'")
-    same("and Escape back to the line", browser.run(at + ".querySelector('.of-sysmod').innerText"), first)
-    boxes(browser)
-    browser.run("[...document.querySelectorAll('th button')].find(b => b.innerText.includes('SYSMOD')).focus()")
-    for wanted in ("ascending", "descending", "none"):
-        browser.key("Enter", 13, "\r")
-        names = [row[1] for row in lines(browser)]
-        same("sorted: " + wanted, browser.run("document.querySelector('th.of-sysmod').getAttribute('aria-sort') ?? 'none'"), wanted)
-        if wanted != "none":
-            same("it is", names, sorted(names, reverse=wanted == "descending"))
-    browser.run("document.querySelector('.tab').focus()")
-    browser.key("ArrowRight", 39)
-    browser.until("document.querySelector('.missingfix tbody tr.first')")
-    same("from tab to tab", browser.run("location.hash + document.activeElement.ariaSelected"), "#MIDDLE/fixestrue")
-    same("each with its name", browser.run("document.querySelector('[role=tabpanel]').getAttribute('aria-labelledby')"), "tab-fixes")
 
 
 def boxes(browser):
@@ -326,50 +120,6 @@ def plan_filter(browser):
     go(browser, "#MIDDLE/plan")
 
 
-def plan(browser, front):
-    """The plan with its order and its reasons, and as a job, CSV and JSON: copied and saved."""
-    place = folder()
-    origin = front.url
-    browser.call("Browser.grantPermissions", origin=origin, permissions=["clipboardReadWrite", "clipboardSanitizedWrite"])
-    browser.call("Browser.setDownloadBehavior", behavior="allow", downloadPath=place)
-    go(browser, "#MIDDLE/plan")
-    browser.until("document.querySelector('.plan tbody tr.first')")
-    picture(browser, "plan")
-    wanted = ZONES[3].plan("errsysmods")
-    members = wanted["members"]
-    same("the members in order", [row[:2] for row in lines(browser)][:9], [[str(at + 1), one["id"]] for at, one in enumerate(members[:9])])
-    same("why", lines(browser)[1][5], "resolves %(sysmod)s (%(reason)s)" % members[1]["holds"][0])
-    same("what to heed", lines(browser)[0][4], "SYSTEM ACTION")
-    click(browser, ".left summary")
-    shows(browser, "needs → AJ99998 → AJ99999", ".left")
-    saved = {}
-    for title, name in (("SMP/E job", "smpcntl.txt"), ("CSV", "csv"), ("JSON", "json")):
-        click(browser, "[aria-label='Copy as %s']" % title)
-        said(browser, title + " is in the clipboard.")
-        browser.call("Page.bringToFront")
-        copied = browser.run("navigator.clipboard.readText()")
-        click(browser, "[aria-label='Save as %s']" % title)
-        path = os.path.join(place, "MIDDLE-errsysmods-plan." + name)
-        check("saved: " + path, until(lambda: os.path.exists(path)))
-        saved[title] = open(path).read()
-        same("the same is copied: " + title, copied, saved[title])
-    same("JSON as the desk gave it", json.loads(saved["JSON"]), wanted)
-    rows = list(csv.reader(io.StringIO(saved["CSV"])))
-    same("each row of CSV has nine fields", {len(row) for row in rows}, {9})
-    same("the members", [row[1] for row in rows[1 : len(members) + 1]], [one["id"] for one in members])
-    same("and what is left over", len(rows), 1 + len(members) + len(wanted["held"]) + len(wanted["unresolved"]))
-    job(saved["SMP/E job"], members)
-    plan_filter(browser)
-    go(browser, "#MIDDLE/errors?class=HIPER")
-    click(browser, "[aria-label='Save as CSV']")
-    path = os.path.join(place, "MIDDLE-errsysmods.csv")
-    check("a report too", until(lambda: os.path.exists(path)))
-    rows = list(csv.DictReader(open(path)))
-    held = {hold[:2] for hold, _ in ZONES[3].holds if hold[2] == "HIPER"}
-    same("of what is shown", {(row["SYSMOD"], row["REASON"]) for row in rows}, held)
-    same("each resolver with a row", len(rows), sum(max(1, len(found)) for hold, found in ZONES[3].holds if hold[2] == "HIPER"))
-
-
 def job(text, members):
     """A job that SMP/E could read: upper case, columns 2 to 71, each SYSMOD once, nothing bypassed."""
     same("columns 2 to 71", [line for line in text.splitlines() if len(line) > 71 or line[:1] not in ("", " ")], [])
@@ -386,97 +136,349 @@ def job(text, members):
     check("not tried", "NOT TRIED ON A REAL Z/OS" in text)
 
 
-def without_plans(browser, desk):
-    """A desk that has no such call has no such tab."""
-    desk.reply = DrawnDesk(ZONES, with_plans=False)
-    click(browser, "#again")
-    go(browser, "#MIDDLE/errors")
-    browser.until("document.querySelector('#tab-fixes .tab-count').innerText")
-    time.sleep(0.5)
-    check("no tab", browser.run("document.getElementById('tab-plan').offsetParent === null"))
-    go(browser, "#MIDDLE/plan")
-    shows(browser, "This desk has no plans.")
-    desk.reply = DrawnDesk(ZONES)
-
-
-def no_room(browser, desk):
-    """A desk or a front without room for a moment is asked again. One that has none for long is said to have none."""
-    whole, refused = DrawnDesk(ZONES), []
-
-    def reply(first):
-        if "errsysmods" in first and len(refused) < 2:
-            refused.append(first)
-            return 503, b"NO ROOM\n"
-        return whole(first)
-
-    desk.reply = reply
-    click(browser, "#again")
-    go(browser, "#MIDDLE/errors")
-    check("the table is there all the same", browser.until("document.querySelector('tbody tr.first')"))
-    same("after two refusals", len(refused), 2)
-    desk.reply = lambda first: (503, b"NO ROOM\n")
-    click(browser, "#again")
-    said(browser, "No answer: the desk is away or has no room now (503).")
-    desk.reply = whole
-    click(browser, "#again")
-    check("and later it has", browser.until("document.querySelector('tbody tr.first')"))
-
-
-def empty(browser):
-    go(browser, "#CLEAN/errors")
-    shows(browser, "Nothing is wrong")
-    go(browser, "#CLEAN/fixes")
-    shows(browser, "no fix categories are set")
-    go(browser, "#NOWHERE/errors")
-    said(browser, "You have no zone NOWHERE on this desk.")
-    same("once", browser.run("document.body.innerText.split('You have no zone').length - 1"), 1)
-    click(browser, "main a", "All zones")
-    check("and a way to all", browser.until("document.querySelectorAll('.figures').length === 4"))
-    go(browser, "#CLEAN/plan")
-    shows(browser, "Nothing can be installed for this report.")
-    same("no job is offered", browser.run("[...document.querySelectorAll('.pair-name')].map(e => e.innerText)"), ["CSV", "JSON"])
-    go(browser, "#Z%40%23%24/errors")
-    shows(browser, "Z@#$", "h1")
-    check("its rows", browser.until("document.querySelectorAll('tbody tr.first').length > 5"))
-
-
 def modules(browser):
     """All scripts are asked for at once, and not each when another one names it."""
     named = browser.run("[...document.querySelectorAll('link[rel=modulepreload], script')].map(e => (e.href || e.src).split('/').pop())")
     same("the page names its scripts", sorted(named), sorted(name for name in os.listdir(os.path.join(TOP, "clients", "page")) if name.endswith(".js")))
 
 
-def main():
-    desk = StandIn()
-    desk.reply = DrawnDesk(ZONES)
-    for zone in ZONES:
-        for path in ("errsysmods", "missingfix", "errsysmods.json", "missingfix.json", "errsysmods/plan.json"):
-            desk.reply("GET /zones/%s/%s HTTP/1.1" % (zone.name.replace("#", "%23").replace("@", "%40").replace("$", "%24"), path))
-    # without TLS, since Chromium takes the certificate of a trial for none
-    front = Front([desk.port, desk.port], {NORTH: 1}, plain=True)
-    browser = Browser()
-    browser.open(front.url + "/")
-    same("the front door leads to the page", browser.run("location.pathname"), "/page/")
-    modules(browser)
-    enter(browser, NORTH)
-    overview(browser)
-    speed(browser)
-    filters(browser)
-    order(browser)
-    groups(browser)
-    without_resolver(browser)
-    beside(browser)
-    keyboard(browser)
-    plan(browser, front)
-    without_plans(browser, desk)
-    no_room(browser, desk)
-    empty(browser)
-    looks(browser)
-    paper(browser, sum(max(1, len(found)) for hold, found in HOLDS.items() if hold[2] == "HIPER"))
-    no_faults(browser)
-    browser.end()
-    front.end()
-    finish("page, large")
+class PageLarge(unittest.TestCase):
+    @classmethod
+    def setUpClass(cls):
+        cls.desk = StandIn()
+        cls.desk.reply = DrawnDesk(ZONES)
+        for zone in ZONES:
+            for path in ("errsysmods", "missingfix", "errsysmods.json", "missingfix.json", "errsysmods/plan.json"):
+                cls.desk.reply("GET /zones/%s/%s HTTP/1.1" % (zone.name.replace("#", "%23").replace("@", "%40").replace("$", "%24"), path))
+        # without TLS, since Chromium takes the certificate of a trial for none
+        cls.front = Front([cls.desk.port, cls.desk.port], {NORTH: 1}, plain=True)
+        cls.browser = Browser()
+        cls.addClassCleanup(cls.front.end)
+        cls.addClassCleanup(cls.browser.end)
+
+    def test_modules(self):
+        self.browser.open(self.front.url + "/")
+        same("the front door leads to the page", self.browser.run("location.pathname"), "/page/")
+        modules(self.browser)
+        enter(self.browser, NORTH)
+
+    def test_overview(self):
+        """The most urgent zone first; a figure leads to what it counts."""
+        browser = self.browser
+        shows(browser, "LARGE", ".zone:first-child .zone-name")
+        browser.until("document.querySelectorAll('.figures').length === 4")
+        picture(browser, "overview")
+        hiper = len(holds(lambda hold, _: hold[2] == "HIPER"))
+        none = len(holds(lambda _, found: not found))
+        shows(browser, "{:,}".format(hiper), ".zone:first-child .figure.class-hiper")
+        shows(browser, "{:,}".format(none), ".zone:first-child .figure.status-none")
+        same("in the order of urgency", browser.run("[...document.querySelectorAll('.zone-name')].map(z => z.innerText)"), ["LARGE", "MIDDLE", "Z@#$", "CLEAN"])
+        label = browser.run("document.querySelector('.zone:first-child .figure.status-none').ariaLabel")
+        same("which a screen reader tells with its zone", label, "LARGE: {:,} no resolver".format(none))
+        shows(browser, "20,000 SYSMODs and 40,000 holds published · asked 20", "#level")
+        same("once", browser.run("document.body.innerText.match(/asked 20/g).length"), 1)
+        check("the form is gone", browser.run("document.getElementById('enter').offsetParent === null"))
+        click(browser, ".zone:first-child .figure.status-none")
+        browser.until("document.querySelector('tbody tr.first')")
+        same("a figure leads there", browser.run("location.hash"), "#LARGE/errors?status=none")
+        same("to as many", number(browser), none)
+
+    def test_speed(self):
+        """From the question to the table, and each step in it: the best of some, since the machine has other work. What
+        is asked anew travels too, from the desk and through the front. On a machine that is busy all the time, a yardstick of the same run
+        tells how much longer a step may take."""
+        browser = self.browser
+        ready = "document.querySelector('.errsysmods tbody tr.first') && !document.querySelector('.wait')"
+        steps = {
+            "asked anew": ("document.getElementById('again').click()", ready),
+            "the fixes": ("location.hash = '#LARGE/fixes'", "document.querySelector('.missingfix tbody tr.first')"),
+            "the errors": ("location.hash = '#LARGE/errors'", ready),
+            "filtered": (
+                "(f => { f.value = 'aj0123'; f.dispatchEvent(new Event('input')); })(document.querySelector('.filters input'))",
+                "document.querySelector('.count').innerText.startsWith('10 ')",
+            ),
+            "not filtered": ("document.querySelector('.filters .plain').click()", "!document.querySelector('.count').innerText.includes(' of ')"),
+            "sorted": ("document.querySelectorAll('th button')[2].click()", "document.querySelector('th[aria-sort]')"),
+            "scrolled": (
+                "document.querySelector('.scroll').scrollTop = 90000",
+                "[...document.querySelectorAll('tbody tr.first')].some(r => r.getAttribute('aria-rowindex') > 2000 && r.getBoundingClientRect().top > 300)",
+            ),
+            "the plan": ("location.hash = '#LARGE/plan'", "document.querySelector('.plan tbody tr.first')"),
+            "what is new": ("location.hash = '#LARGE/new'", "document.querySelector('.news tbody tr.first')"),
+        }
+        check("a report of yesterday is kept", browser.run(A_DAY_AGO))
+        for slower in (1, 4):
+            browser.call("Emulation.setCPUThrottlingRate", rate=slower)
+            best, yardstick = {}, 1e9
+            for _ in range(12):
+                go(browser, "#LARGE/errors")
+                yardstick = min(yardstick, browser.run(YARDSTICK))
+                for name, (script, test) in steps.items():
+                    best[name] = min(best.get(name, 1e9), browser.run(TIMED % (script, test)))
+                    # what is still asked for, such as the counts of the other tabs, is another step's
+                    browser.until("[...document.querySelectorAll('.tab-count')].every(c => c.innerText)")
+                most = max(300, TIMES * yardstick)
+                if max(best.values()) < most:
+                    break
+            told = ", ".join("%s %d ms" % pair for pair in {**best, "the yardstick": yardstick}.items())
+            print("page: 10,000 rows, %d times slower: %s" % (slower, told))
+            same("all within %d ms, %d times slower" % (most, slower), {name: took for name, took in best.items() if took > most}, {})
+        browser.call("Emulation.setCPUThrottlingRate", rate=1)
+        check("only what is seen is drawn", browser.run("document.querySelectorAll('tbody tr').length") < 120)
+        go(browser, "#LARGE/errors?news=came")
+        check("what is new is marked", browser.until("document.querySelector('tr.first .news-mark.is-came')"))
+        check("and no row else is shown", number(browser) > 100 and browser.run("document.querySelectorAll('tr.first:not(:has(.news-mark))').length") == 0)
+        browser.run(FORGET)
+        click(browser, "#again")
+        go(browser, "#LARGE/errors")
+        browser.until("document.querySelector('tbody tr.first')")
+
+    def test_filters(self):
+        """Class, status, receipt and text combine, and stand in the address."""
+        browser = self.browser
+        go(browser, "#LARGE/errors")
+        same("all", number(browser), len(HOLDS))
+        click(browser, ".chip.is-hiper")
+        same("one class", number(browser), len(holds(lambda hold, _: hold[2] == "HIPER")))
+        click(browser, ".chip.is-pe")
+        same("or another", number(browser), len(holds(lambda hold, _: hold[2] in ("HIPER", "PE"))))
+        click(browser, ".chip.is-held")
+        both = holds(lambda hold, found: hold[2] in ("HIPER", "PE") and state(found) == "HELD")
+        same("and a status", number(browser), len(both))
+        part = both[0][0][2:6].lower()
+        filter_by(browser, part)
+        want = [hold for hold in both if part in " ".join((*hold, *(one[0] for one in HOLDS[hold]))).lower()]
+        same("and a text", (number(browser), {tuple(row[1:3]) for row in lines(browser)} == {hold[:2] for hold in want}), (len(want), True))
+        address = browser.run("location.hash")
+        same("all in the address", address, "#LARGE/errors?class=HIPER&class=PE&status=HELD&text=" + part)
+        browser.call("Page.reload")
+        browser.until("document.querySelector('tbody tr.first')")
+        same("also after a reload", (number(browser), browser.run("location.hash")), (len(want), address))
+        same("with what was chosen", browser.run("[...document.querySelectorAll('[aria-pressed=true]')].map(c => c.firstChild.data)"), ["HIPER", "PE", "HELD"])
+        click(browser, ".filters .plain", "Show all")
+        same("and all again", (number(browser), browser.run("location.hash")), (len(HOLDS), "#LARGE/errors"))
+        for text in ("none", "NONE"):
+            filter_by(browser, text)
+            same("the word " + text, number(browser), len(holds(lambda _, found: not found)))
+        filter_by(browser, "no such thing")
+        same("nothing", (number(browser), lines(browser)), (0, []))
+        shows(browser, "No hold has all that is chosen above.", ".scroll")
+        filter_by(browser, "")
+        same("else that is not said", browser.run("document.querySelector('.scroll .nothing')?.offsetParent ?? null"), None)
+
+    def test_order(self):
+        """What can be resolved comes first, then what is held, and what nothing resolves last: each by its class."""
+        browser = self.browser
+        go(browser, "#MIDDLE/errors")
+        browser.run("dispatchEvent(new Event('beforeprint'))")  # which draws all lines
+        got = browser.run("[...document.querySelectorAll('tbody tr.first')].map(r => [...r.cells].slice(2, 4).map(c => c.innerText))")
+        browser.run("dispatchEvent(new Event('afterprint'))")
+        classes, statuses = ["HIPER", "PE"], ["GOOD", "HELD", "none"]
+
+        def ranks(one):
+            hold, resolvers = one
+            return statuses.index(state(resolvers)), classes.index(hold[2]) if hold[2] in classes else 2
+
+        same("all of them", got, [list(hold[:2]) for hold, _ in sorted(ZONES[3].holds, key=ranks)])
+
+    def test_groups(self):
+        """The resolvers of a hold are one group, the best one first."""
+        browser = self.browser
+        go(browser, "#MIDDLE/errors")
+        hold, found = max(ZONES[3].holds, key=lambda one: len(one[1]))
+        filter_by(browser, hold[0])
+        same("one line", [row[1] for row in lines(browser)], [hold[0]])
+        found = sorted(found, key=lambda one: (BEST[one[1]], one[2] == "NO", one[0]))
+        wanted = [[one[0], one[1], "received" if one[2] == "YES" else "no"] for one in found]
+        same("with the best resolver", [row[4:] for row in lines(browser)], wanted[:1])
+        click(browser, ".opener")
+        same("opened", [row[4:] for row in lines(browser)], wanted)
+        check("each hold has its date", browser.until("document.querySelector('tbody tr.first .of-date').innerText.startsWith('2025-06-')"))
+        same("the hold stands once", [row[1] for row in lines(browser)], [hold[0]] + [""] * (len(found) - 1))
+        click(browser, ".opener")
+        same("and closed", len(lines(browser)), 1)
+        filter_by(browser, "")
+
+    def test_without_resolver(self):
+        without_resolver(self.browser)
+
+    def test_beside(self):
+        """The chain stands beside the table, at an address of its own."""
+        browser = self.browser
+        go(browser, "#LARGE/errors?status=HELD")
+        click(browser, "tbody tr.first")
+        shows(browser, "can’t be installed now", ".beside")
+        row = lines(browser)[0]
+        same("its address", browser.run("location.hash"), "#LARGE/errors/%s?status=HELD" % row[4])
+        shows(browser, "is needed, and would be given by UJ99998, which is held: it needs AJ99999", ".needs")
+        shows(browser, "is needed, and nothing that is published gives it", ".needs")
+        same(
+            "the row of needs, to the first that nothing gives",
+            browser.run("[...document.querySelectorAll('.needs .id')].map(e => e.innerText)"),
+            [row[4], "AJ99998", "AJ99999"],
+        )
+        same("the line is marked", browser.run("document.querySelector('tr.chosen .of-sysmod').innerText"), row[1])
+        left = "document.querySelector('.beside').getBoundingClientRect().left"
+        check("beside the table", browser.run("document.querySelector('.tab-body').getBoundingClientRect().right < %s + 1" % left))
+        check("and as high as it", browser.run("document.querySelector('.beside').getBoundingClientRect().top < 200"))
+        browser.call("Page.reload")
+        shows(browser, "can’t be installed now", ".beside")
+        same("marked after a reload too", browser.run("document.querySelector('tr.chosen .of-sysmod').innerText"), row[1])
+        click(browser, ".close")
+        same("closed", (browser.run("location.hash"), browser.run("document.querySelectorAll('tr.chosen').length")), ("#LARGE/errors?status=HELD", 0))
+        browser.run("history.back()")
+        shows(browser, "can’t be installed now", ".beside")
+
+    def test_keyboard(self):
+        """All of it without a mouse."""
+        browser = self.browser
+        go(browser, "#MIDDLE/errors")
+        browser.run("document.activeElement.blur()")
+        reached = []
+        for _ in range(40):
+            browser.key("Tab", 9)
+            reached.append(browser.run("document.activeElement.firstChild?.data ?? document.activeElement.ariaLabel ?? ''"))
+        wanted = {"Ask again", "Zones", "Errors", "HIPER", "none", "Copy", "Class", "Show its chain"}
+        check("Tab reaches all", wanted <= set(reached), (wanted - set(reached), reached))
+        browser.run("document.querySelector('table').focus()")
+        for key, code in (("ArrowDown", 40), ("ArrowDown", 40), ("PageDown", 34), ("PageUp", 33)):
+            browser.key(key, code)
+        at = "document.getElementById(document.querySelector('table').getAttribute('aria-activedescendant'))"
+        same("the active line is told", browser.run(at + ".getAttribute('aria-rowindex')"), "3")
+        same("and the number of all", browser.run("document.querySelector('table').getAttribute('aria-rowcount')"), str(number(browser) + 1))
+        browser.key("End", 35)
+        same("the last line", browser.run(at + ".getAttribute('aria-rowindex')"), str(number(browser) + 1))
+        bottom = "document.querySelector('.scroll').getBoundingClientRect().bottom"
+        check("is in sight", browser.run("%s.getBoundingClientRect().bottom <= %s + 1" % (at, bottom)))
+        browser.key("Home", 36)
+        first = browser.run(at + ".querySelector('.of-sysmod').innerText")
+        browser.key("Enter", 13, "\r")
+        browser.until("document.activeElement.className.includes('beside')")
+        same("Enter leads to the chain", browser.run("document.activeElement.ariaLabel"), "Chain")
+        browser.key("Escape", 27)
+        browser.until("document.activeElement.tagName === 'TABLE'")
+        same("and Escape back to the line", browser.run(at + ".querySelector('.of-sysmod').innerText"), first)
+        boxes(browser)
+        browser.run("[...document.querySelectorAll('th button')].find(b => b.innerText.includes('SYSMOD')).focus()")
+        for wanted in ("ascending", "descending", "none"):
+            browser.key("Enter", 13, "\r")
+            names = [row[1] for row in lines(browser)]
+            same("sorted: " + wanted, browser.run("document.querySelector('th.of-sysmod').getAttribute('aria-sort') ?? 'none'"), wanted)
+            if wanted != "none":
+                same("it is", names, sorted(names, reverse=wanted == "descending"))
+        browser.run("document.querySelector('.tab').focus()")
+        browser.key("ArrowRight", 39)
+        browser.until("document.querySelector('.missingfix tbody tr.first')")
+        same("from tab to tab", browser.run("location.hash + document.activeElement.ariaSelected"), "#MIDDLE/fixestrue")
+        same("each with its name", browser.run("document.querySelector('[role=tabpanel]').getAttribute('aria-labelledby')"), "tab-fixes")
+
+    def test_plan(self):
+        """The plan with its order and its reasons, and as a job, CSV and JSON: copied and saved."""
+        browser, front = self.browser, self.front
+        place = folder()
+        origin = front.url
+        browser.call("Browser.grantPermissions", origin=origin, permissions=["clipboardReadWrite", "clipboardSanitizedWrite"])
+        browser.call("Browser.setDownloadBehavior", behavior="allow", downloadPath=place)
+        go(browser, "#MIDDLE/plan")
+        browser.until("document.querySelector('.plan tbody tr.first')")
+        picture(browser, "plan")
+        wanted = ZONES[3].plan("errsysmods")
+        members = wanted["members"]
+        same("the members in order", [row[:2] for row in lines(browser)][:9], [[str(at + 1), one["id"]] for at, one in enumerate(members[:9])])
+        same("why", lines(browser)[1][5], "resolves %(sysmod)s (%(reason)s)" % members[1]["holds"][0])
+        same("what to heed", lines(browser)[0][4], "SYSTEM ACTION")
+        click(browser, ".left summary")
+        shows(browser, "needs → AJ99998 → AJ99999", ".left")
+        saved = {}
+        for title, name in (("SMP/E job", "smpcntl.txt"), ("CSV", "csv"), ("JSON", "json")):
+            click(browser, "[aria-label='Copy as %s']" % title)
+            said(browser, title + " is in the clipboard.")
+            browser.call("Page.bringToFront")
+            copied = browser.run("navigator.clipboard.readText()")
+            click(browser, "[aria-label='Save as %s']" % title)
+            path = os.path.join(place, "MIDDLE-errsysmods-plan." + name)
+            check("saved: " + path, until(lambda: os.path.exists(path)))
+            saved[title] = open(path).read()
+            same("the same is copied: " + title, copied, saved[title])
+        same("JSON as the desk gave it", json.loads(saved["JSON"]), wanted)
+        rows = list(csv.reader(io.StringIO(saved["CSV"])))
+        same("each row of CSV has nine fields", {len(row) for row in rows}, {9})
+        same("the members", [row[1] for row in rows[1 : len(members) + 1]], [one["id"] for one in members])
+        same("and what is left over", len(rows), 1 + len(members) + len(wanted["held"]) + len(wanted["unresolved"]))
+        job(saved["SMP/E job"], members)
+        plan_filter(browser)
+        go(browser, "#MIDDLE/errors?class=HIPER")
+        click(browser, "[aria-label='Save as CSV']")
+        path = os.path.join(place, "MIDDLE-errsysmods.csv")
+        check("a report too", until(lambda: os.path.exists(path)))
+        rows = list(csv.DictReader(open(path)))
+        held = {hold[:2] for hold, _ in ZONES[3].holds if hold[2] == "HIPER"}
+        same("of what is shown", {(row["SYSMOD"], row["REASON"]) for row in rows}, held)
+        same("each resolver with a row", len(rows), sum(max(1, len(found)) for hold, found in ZONES[3].holds if hold[2] == "HIPER"))
+
+    def test_without_plans(self):
+        """A desk that has no such call has no such tab."""
+        browser, desk = self.browser, self.desk
+        desk.reply = DrawnDesk(ZONES, with_plans=False)
+        click(browser, "#again")
+        go(browser, "#MIDDLE/errors")
+        browser.until("document.querySelector('#tab-fixes .tab-count').innerText")
+        time.sleep(0.5)
+        check("no tab", browser.run("document.getElementById('tab-plan').offsetParent === null"))
+        go(browser, "#MIDDLE/plan")
+        shows(browser, "This desk has no plans.")
+        desk.reply = DrawnDesk(ZONES)
+
+    def test_no_room(self):
+        """A desk or a front without room for a moment is asked again. One that has none for long is said to have none."""
+        browser, desk = self.browser, self.desk
+        whole, refused = DrawnDesk(ZONES), []
+
+        def reply(first):
+            if "errsysmods" in first and len(refused) < 2:
+                refused.append(first)
+                return 503, b"NO ROOM\n"
+            return whole(first)
+
+        desk.reply = reply
+        click(browser, "#again")
+        go(browser, "#MIDDLE/errors")
+        check("the table is there all the same", browser.until("document.querySelector('tbody tr.first')"))
+        same("after two refusals", len(refused), 2)
+        desk.reply = lambda first: (503, b"NO ROOM\n")
+        click(browser, "#again")
+        said(browser, "No answer: the desk is away or has no room now (503).")
+        desk.reply = whole
+        click(browser, "#again")
+        check("and later it has", browser.until("document.querySelector('tbody tr.first')"))
+
+    def test_empty(self):
+        browser = self.browser
+        go(browser, "#CLEAN/errors")
+        shows(browser, "Nothing is wrong")
+        go(browser, "#CLEAN/fixes")
+        shows(browser, "no fix categories are set")
+        go(browser, "#NOWHERE/errors")
+        said(browser, "You have no zone NOWHERE on this desk.")
+        same("once", browser.run("document.body.innerText.split('You have no zone').length - 1"), 1)
+        click(browser, "main a", "All zones")
+        check("and a way to all", browser.until("document.querySelectorAll('.figures').length === 4"))
+        go(browser, "#CLEAN/plan")
+        shows(browser, "Nothing can be installed for this report.")
+        same("no job is offered", browser.run("[...document.querySelectorAll('.pair-name')].map(e => e.innerText)"), ["CSV", "JSON"])
+        go(browser, "#Z%40%23%24/errors")
+        shows(browser, "Z@#$", "h1")
+        check("its rows", browser.until("document.querySelectorAll('tbody tr.first').length > 5"))
+
+    def test_looks(self):
+        looks(self.browser)
+
+    def test_paper(self):
+        paper(self.browser, sum(max(1, len(found)) for hold, found in HOLDS.items() if hold[2] == "HIPER"))
+
+    def test_no_faults(self):
+        no_faults(self.browser)
 
 
-main()
+if __name__ == "__main__":
+    main("page, large")

@@ -17,6 +17,7 @@ sys.path.insert(0, os.path.join(TOP, "clients"))
 sys.dont_write_bytecode = True
 
 from bureau_client import jobs
+from service import main
 
 PLACE = tempfile.mkdtemp(prefix="bureau-tests-")
 atexit.register(shutil.rmtree, PLACE, True)
@@ -128,7 +129,4 @@ class Together(unittest.TestCase):
 
 
 if __name__ == "__main__":
-    result = unittest.main(exit=False).result
-    failed = len(result.failures) + len(result.errors)
-    print("page's parts: %d passed, %d failed" % (result.testsRun - failed, failed))
-    sys.exit(1 if failed else 0)
+    main("page's parts")

@@ -9,8 +9,9 @@ import signal
 import socket
 import subprocess
 import time
+import unittest
 
-from service import PROGRAM, check, finish, folder, free_port, same, write
+from service import PROGRAM, check, folder, free_port, main, same, write
 
 ALPHA = "alpha-token"
 CALLERS = write(os.path.join(folder(), "callers.csv"), "NAME,TOKEN\nPUBLISH,publisher-token\nALPHA,%s\n" % ALPHA)
@@ -46,47 +47,46 @@ def is_answered(client):
         return False
 
 
-def a_stop_resets_nobody():
-    """Heads that begin before a stop of the desk, and come whole during it, are answered. So are those that come during it alone, and
-    a connection that was idle before it."""
-    desk, port = served("--open", "4096")
-    began, silent, kept = ([connect(port) for _ in range(CLIENTS // 3)] for _ in range(3))
-    for client in began:
-        client.sendall(ASKED[:20])
-    for client in kept:
-        client.sendall(ASKED)
-    same("replies before the stop", sum(map(is_answered, kept)), len(kept))
-    time.sleep(1)
-    desk.send_signal(signal.SIGSTOP)
-    for client in began:
-        client.sendall(ASKED[20:])
-    for client in silent + kept:
-        client.sendall(ASKED)
-    time.sleep(PAUSE)
-    desk.send_signal(signal.SIGCONT)
-    for name, clients in (("begun before", began), ("made before", silent), ("kept from before", kept)):
-        same("replies after a stop, over connections %s it" % name, sum(map(is_answered, clients)), len(clients))
-    desk.kill()
-    desk.wait()
+class Pauses(unittest.TestCase):
+    def test_an_idle_connection_gives_its_descriptor(self):
+        """With few descriptors and the usual number of places, idle connections keep no other client waiting."""
+        desk, port = served(before="ulimit -n 128; ")
+        idle = [connect(port) for _ in range(300)]
+        time.sleep(2)
+        began = time.monotonic()
+        with connect(port) as client:
+            client.sendall(ASKED)
+            answered = is_answered(client)
+        waited = time.monotonic() - began
+        check("a client beside idle ones that have all descriptors", answered and waited < SOON, "%.1f s" % waited)
+        for client in idle:
+            client.close()
+        desk.kill()
+        desk.wait()
+
+    def test_a_stop_resets_nobody(self):
+        """Heads that begin before a stop of the desk, and come whole during it, are answered. So are those that come during it alone, and
+        a connection that was idle before it."""
+        desk, port = served("--open", "4096")
+        began, silent, kept = ([connect(port) for _ in range(CLIENTS // 3)] for _ in range(3))
+        for client in began:
+            client.sendall(ASKED[:20])
+        for client in kept:
+            client.sendall(ASKED)
+        same("replies before the stop", sum(map(is_answered, kept)), len(kept))
+        time.sleep(1)
+        desk.send_signal(signal.SIGSTOP)
+        for client in began:
+            client.sendall(ASKED[20:])
+        for client in silent + kept:
+            client.sendall(ASKED)
+        time.sleep(PAUSE)
+        desk.send_signal(signal.SIGCONT)
+        for name, clients in (("begun before", began), ("made before", silent), ("kept from before", kept)):
+            same("replies after a stop, over connections %s it" % name, sum(map(is_answered, clients)), len(clients))
+        desk.kill()
+        desk.wait()
 
 
-def an_idle_connection_gives_its_descriptor():
-    """With few descriptors and the usual number of places, idle connections keep no other client waiting."""
-    desk, port = served(before="ulimit -n 128; ")
-    idle = [connect(port) for _ in range(300)]
-    time.sleep(2)
-    began = time.monotonic()
-    with connect(port) as client:
-        client.sendall(ASKED)
-        answered = is_answered(client)
-    waited = time.monotonic() - began
-    check("a client beside idle ones that have all descriptors", answered and waited < SOON, "%.1f s" % waited)
-    for client in idle:
-        client.close()
-    desk.kill()
-    desk.wait()
-
-
-an_idle_connection_gives_its_descriptor()
-a_stop_resets_nobody()
-finish("pauses")
+if __name__ == "__main__":
+    main("pauses")

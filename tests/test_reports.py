@@ -10,16 +10,16 @@ import os
 import random
 import subprocess
 import sys
+import unittest
 
-from service import PROGRAM, TOP, Desk, check, finish, folder, same, write
+from service import PROGRAM, TOP, Desk, check, folder, main, numbers, same, write
 
 sys.path.insert(0, os.path.join(TOP, "bench"))
 from fuzz_desks import BAD_LISTS, BAD_STATEMENTS, IDS, PATTERNS, STATES, Drawing, escaped
 
-DRAWN = int(sys.argv[1]) if len(sys.argv) > 1 else 40
-SEED = int(sys.argv[2]) if len(sys.argv) > 2 else 20261127
+DRAWN, SEED = numbers(40, 20261127)
 CALLERS = "NAME,TOKEN\nPUBLISH,publisher-token\nALPHA,alpha-token\n"
-place = folder()
+site, place = os.path.join(TOP, "examples", "site"), folder()
 
 
 class Files:
@@ -105,33 +105,9 @@ def words_of(question, options):
     return [command] + [part for word in given for part in ("--" + word, options[word])], given
 
 
-# ---- the sample
-
-site = os.path.join(TOP, "examples", "site")
-
-
 def read(*parts):
     with open(os.path.join(site, *parts), "rb") as file:
         return file.read()
-
-
-for client, zone in (("north", "MVSPROD"), ("south", "MVSTEST")):
-    lists = [read(client, part, zone + ".csv") for part in ("zones", "categories")] + [read(client, "received.csv")]
-    compare(client, Files(zone, [read("publication.txt")], *lists), ["UJ92002", "UJ92005", "UJ92003", "UJ93001", "UJ99999"])
-
-# the name is that of the file, up to its period, without its folder and in upper case
-for name, zone in (("tgt1.csv", "TGT1"), ("a.b.csv", "A"), ("T#3", "T#3"), ("in.a.folder/north.csv", "NORTH")):
-    write(place + "/" + name, read("north", "zones", "MVSPROD.csv"))
-    status, text, _ = run(["errsysmods", "--zone", name, site + "/publication.txt"], place)
-    same("the zone of %s" % name, (status, text.split(b"\n")[0]), (0, b"EXCEPTION SYSMOD REPORT FOR ZONE " + zone.encode()))
-for name in ("too_long.csv", "with blank.csv", "./-.csv", "name-with-minus"):
-    write(place + "/" + name, read("north", "zones", "MVSPROD.csv"))
-    status, text, told = run(["errsysmods", "--zone", name, site + "/publication.txt"], place)
-    check("%s names no zone" % name, (status, text) == (2, b"") and b"--name" in told, (status, text, told))
-
-# ---- drawn files
-
-dice = random.Random(SEED)
 
 
 def drawn(dice):
@@ -164,6 +140,29 @@ def spoil(dice, files):
         files.publications[at] = dice.choice(BAD_STATEMENTS) + files.publications[at]
 
 
-for case in range(DRAWN):
-    compare("drawn %d" % case, drawn(dice), dice.sample(IDS, 3))
-finish("reports")
+class Reports(unittest.TestCase):
+    def test_the_sample(self):
+
+        for client, zone in (("north", "MVSPROD"), ("south", "MVSTEST")):
+            lists = [read(client, part, zone + ".csv") for part in ("zones", "categories")] + [read(client, "received.csv")]
+            compare(client, Files(zone, [read("publication.txt")], *lists), ["UJ92002", "UJ92005", "UJ92003", "UJ93001", "UJ99999"])
+
+        # the name is that of the file, up to its period, without its folder and in upper case
+        for name, zone in (("tgt1.csv", "TGT1"), ("a.b.csv", "A"), ("T#3", "T#3"), ("in.a.folder/north.csv", "NORTH")):
+            write(place + "/" + name, read("north", "zones", "MVSPROD.csv"))
+            status, text, _ = run(["errsysmods", "--zone", name, site + "/publication.txt"], place)
+            same("the zone of %s" % name, (status, text.split(b"\n")[0]), (0, b"EXCEPTION SYSMOD REPORT FOR ZONE " + zone.encode()))
+        for name in ("too_long.csv", "with blank.csv", "./-.csv", "name-with-minus"):
+            write(place + "/" + name, read("north", "zones", "MVSPROD.csv"))
+            status, text, told = run(["errsysmods", "--zone", name, site + "/publication.txt"], place)
+            check("%s names no zone" % name, (status, text) == (2, b"") and b"--name" in told, (status, text, told))
+
+    def test_drawn_files(self):
+        dice = random.Random(SEED)
+
+        for case in range(DRAWN):
+            compare("drawn %d" % case, drawn(dice), dice.sample(IDS, 3))
+
+
+if __name__ == "__main__":
+    main("reports")

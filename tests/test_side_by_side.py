@@ -9,13 +9,13 @@ import resource
 import socket
 import struct
 import subprocess
-import sys
 import threading
 import time
+import unittest
 
-from service import PROGRAM, Desk, check, finish, folder, free_port, same, write
+from service import PROGRAM, Desk, check, folder, free_port, main, numbers, same, write
 
-SEED = int(sys.argv[1]) if len(sys.argv) > 1 else 20261128
+(SEED,) = numbers(20261128)
 SLOW = 1000
 SOON = 10  # seconds: half of what a desk waits for a head, on however busy a machine
 RESET = struct.pack("ii", 1, 0)
@@ -103,150 +103,146 @@ def open_desk(*words):
     return process, port
 
 
-def nobody_waits(desk):
-    """Whoever keeps a connection open and says nothing, or half of what it has to say, keeps nobody waiting."""
-    silent, half, stopped, kept = (connect(desk.port) for _ in range(4))
-    half.sendall(ASKED[:20])
-    stopped.sendall(request("POST", "/publish", PUBLISHER, 1, b"x" * 3000000)[:1000])
-    kept.sendall(ASKED)
-    Reader(kept).reply()
-    waited = longest(desk.port)
-    check("nobody waits for silence, half a head, a body that stops or a kept connection", waited < SOON, "%.3f s" % waited)
-    half.sendall(ASKED[20:])
-    same("half a head is answered once it is whole", Reader(half).reply(), desk.zones)
-    for connection in (silent, half, stopped, kept):
-        connection.close()
+class SideBySide(unittest.TestCase):
+    @classmethod
+    def setUpClass(cls):
+        cls.desk, cls.dice = Desk(CALLERS), random.Random(SEED)
+        cls.addClassCleanup(cls.desk.end)
+        with connect(cls.desk.port) as connection:
+            connection.sendall(request("PUT", "/zones/NORTH", NORTH, 1, b"SYSMOD,STATE\nUJ90001,APPLIED\n"))
+            Reader(connection).reply()
+        cls.desk.zones = answered(cls.desk.port)
+        check("the desk answers", cls.desk.zones.startswith(b"HTTP/1.1 200 "), cls.desk.zones)
 
-
-def a_thousand_slow_ones(desk):
-    """A thousand clients send a byte a second. One asks without pause, and each of them is answered in the end."""
-    slow = [connect(desk.port) for _ in range(SLOW)]
-    for place in range(3):
-        for connection in slow:
-            connection.sendall(ASKED[place : place + 1])
-        waited = longest(desk.port, 100)
-        check("one quick client waits for no slow one", waited < SOON, "%.3f s" % waited)
-        time.sleep(1)
-    for connection in slow:
-        connection.sendall(ASKED[3:])
-    replies = [Reader(connection).reply() for connection in slow]
-    same("each slow client is answered", replies.count(desk.zones), SLOW)
-    for connection in slow:
-        connection.close()
-
-
-def who_never_reads(desk):
-    """A client that asks nine thousand times and doesn't read: it keeps nobody waiting, and gets all replies once it reads."""
-    count = 9000  # a connection carries 10,000 at most
-    with connect(desk.port) as greedy:
-        sender = threading.Thread(target=greedy.sendall, args=(ASKED * count,), daemon=True)
-        sender.start()
-        time.sleep(0.5)
+    def test_nobody_waits(self):
+        """Whoever keeps a connection open and says nothing, or half of what it has to say, keeps nobody waiting."""
+        desk = self.desk
+        silent, half, stopped, kept = (connect(desk.port) for _ in range(4))
+        half.sendall(ASKED[:20])
+        stopped.sendall(request("POST", "/publish", PUBLISHER, 1, b"x" * 3000000)[:1000])
+        kept.sendall(ASKED)
+        Reader(kept).reply()
         waited = longest(desk.port)
-        check("nobody waits for a client that doesn't read", waited < SOON, "%.3f s" % waited)
-        reader = Reader(greedy)
-        same("it gets all replies once it reads", all(reader.reply() == desk.zones for _ in range(count)), True)
-        sender.join()
+        check("nobody waits for silence, half a head, a body that stops or a kept connection", waited < SOON, "%.3f s" % waited)
+        half.sendall(ASKED[20:])
+        same("half a head is answered once it is whole", Reader(half).reply(), desk.zones)
+        for connection in (silent, half, stopped, kept):
+            connection.close()
+
+    def test_a_thousand_slow_ones(self):
+        """A thousand clients send a byte a second. One asks without pause, and each of them is answered in the end."""
+        desk = self.desk
+        slow = [connect(desk.port) for _ in range(SLOW)]
+        for place in range(3):
+            for connection in slow:
+                connection.sendall(ASKED[place : place + 1])
+            waited = longest(desk.port, 100)
+            check("one quick client waits for no slow one", waited < SOON, "%.3f s" % waited)
+            time.sleep(1)
+        for connection in slow:
+            connection.sendall(ASKED[3:])
+        replies = [Reader(connection).reply() for connection in slow]
+        same("each slow client is answered", replies.count(desk.zones), SLOW)
+        for connection in slow:
+            connection.close()
+
+    def test_who_never_reads(self):
+        """A client that asks nine thousand times and doesn't read: it keeps nobody waiting, and gets all replies once it reads."""
+        desk = self.desk
+        count = 9000  # a connection carries 10,000 at most
+        with connect(desk.port) as greedy:
+            sender = threading.Thread(target=greedy.sendall, args=(ASKED * count,), daemon=True)
+            sender.start()
+            time.sleep(0.5)
+            waited = longest(desk.port)
+            check("nobody waits for a client that doesn't read", waited < SOON, "%.3f s" % waited)
+            reader = Reader(greedy)
+            same("it gets all replies once it reads", all(reader.reply() == desk.zones for _ in range(count)), True)
+            sender.join()
+
+    def test_ends(self):
+        """Connections that are half-closed, that ask to be closed, that are reset in any state."""
+        desk = self.desk
+        with connect(desk.port) as connection:
+            connection.sendall(ASKED * 3)
+            connection.shutdown(socket.SHUT_WR)
+            reader = Reader(connection)
+            same("a half-closed connection gets its replies", [reader.reply() for _ in range(3)], [desk.zones] * 3)
+            same("and then its end", reader.reply(), b"")
+        with connect(desk.port) as connection:
+            connection.sendall(request("GET", "/zones", NORTH, is_last=True) + ASKED)
+            reader = Reader(connection)
+            check("the last request is answered", reader.reply().startswith(b"HTTP/1.1 200 "))
+            same("and none behind it", reader.reply(), b"")
+        with connect(desk.port) as connection:
+            connection.sendall(request("GET", "/zones", NORTH, is_last=True) + b"x" * 100000)
+            reader = Reader(connection)
+            check("no reply is lost where a client sends on", reader.reply().startswith(b"HTTP/1.1 200 "))
+            same("and its end comes without a reset", reader.reply(), b"")
+        body = request("POST", "/publish", PUBLISHER, 1, b"x" * 3000000)
+        for sent in (b"", ASKED[:9], ASKED, ASKED + ASKED[:9], body[:5000], ASKED * 5000):
+            connection = connect(desk.port)
+            connection.settimeout(1)
+            try:
+                connection.sendall(sent)
+            except OSError:
+                pass  # it reads nothing, so the desk stopped to read, too
+            connection.setsockopt(socket.SOL_SOCKET, socket.SO_LINGER, RESET)
+            connection.close()
+        same("after resets in each state the desk goes on", answered(desk.port), desk.zones)
+
+    def test_in_pieces(self):
+        """Twenty connections send twenty requests each, cut at random and mixed. Each gets the replies to its own, in order."""
+        desk, dice = self.desk, self.dice
+        paths = ["/zones", "/published", "/zones/NORTH/errsysmods", "/zones/NORTH/missingfix", "/nothing"]
+        asked = [request("GET", path, token) for path in paths for token in (NORTH, "south-token", "nobody")]
+        told = {text: answered(desk.port, text) for text in asked}
+        plans = [[dice.choice(asked) for _ in range(20)] for _ in range(20)]
+        lines = [connect(desk.port) for _ in plans]
+        left = [b"".join(plan) for plan in plans]
+        while any(left):
+            place = dice.choice([place for place, text in enumerate(left) if text])
+            cut = dice.randint(1, 200)
+            lines[place].sendall(left[place][:cut])
+            left[place] = left[place][cut:]
+        for place, (connection, plan) in enumerate(zip(lines, plans)):
+            reader = Reader(connection)
+            same("connection %d gets its own replies" % place, [reader.reply() for _ in plan], [told[text] for text in plan])
+            connection.close()
+
+    def test_changes_between(self):
+        """A change on one connection stands between the halves of a question on another."""
+        desk = self.desk
+        rows = write(os.path.join(folder(), "rows"), "SYSMOD,STATE\n")
+        with open(rows, "rb") as file:
+            body = file.read()
+        with connect(desk.port) as asks:
+            asks.sendall(request("GET", "/zones", "south-token")[:30])
+            changed = answered(desk.port, request("PUT", "/zones/LATER", "south-token", 1, body))
+            asks.sendall(request("GET", "/zones", "south-token")[30:])
+            reply = Reader(asks).reply()
+        check("the change is made", changed.startswith(b"HTTP/1.1 200 "), changed)
+        check("and the question that came whole after it sees it", b"LATER" in reply, reply)
+
+    def test_places(self):
+        """With four places the connection that has been idle longest gives way; --connections counts who was accepted."""
+        process, port = open_desk("--open", "4", "--connections", "7")
+        idle = [connect(port) for _ in range(4)]
+        for connection in idle:
+            connection.sendall(ASKED)
+            Reader(connection).reply()
+            time.sleep(0.05)
+        check("a fifth is answered", answered(port).startswith(b"HTTP/1.1 200 "))
+        same("the one that was idle longest gave way", Reader(idle[0]).reply(), b"")
+        for connection in idle[2:]:
+            connection.sendall(ASKED)
+            check("the others go on", Reader(connection).reply().startswith(b"HTTP/1.1 200 "))
+        for connection in idle[1:]:
+            connection.close()
+        for _ in range(2):
+            check("the last ones are answered", answered(port).startswith(b"HTTP/1.1 200 "))
+        same("after seven connections the desk ends", process.wait(timeout=30), 0)
 
 
-def ends(desk):
-    """Connections that are half-closed, that ask to be closed, that are reset in any state."""
-    with connect(desk.port) as connection:
-        connection.sendall(ASKED * 3)
-        connection.shutdown(socket.SHUT_WR)
-        reader = Reader(connection)
-        same("a half-closed connection gets its replies", [reader.reply() for _ in range(3)], [desk.zones] * 3)
-        same("and then its end", reader.reply(), b"")
-    with connect(desk.port) as connection:
-        connection.sendall(request("GET", "/zones", NORTH, is_last=True) + ASKED)
-        reader = Reader(connection)
-        check("the last request is answered", reader.reply().startswith(b"HTTP/1.1 200 "))
-        same("and none behind it", reader.reply(), b"")
-    with connect(desk.port) as connection:
-        connection.sendall(request("GET", "/zones", NORTH, is_last=True) + b"x" * 100000)
-        reader = Reader(connection)
-        check("no reply is lost where a client sends on", reader.reply().startswith(b"HTTP/1.1 200 "))
-        same("and its end comes without a reset", reader.reply(), b"")
-    body = request("POST", "/publish", PUBLISHER, 1, b"x" * 3000000)
-    for sent in (b"", ASKED[:9], ASKED, ASKED + ASKED[:9], body[:5000], ASKED * 5000):
-        connection = connect(desk.port)
-        connection.settimeout(1)
-        try:
-            connection.sendall(sent)
-        except OSError:
-            pass  # it reads nothing, so the desk stopped to read, too
-        connection.setsockopt(socket.SOL_SOCKET, socket.SO_LINGER, RESET)
-        connection.close()
-    same("after resets in each state the desk goes on", answered(desk.port), desk.zones)
-
-
-def in_pieces(desk, dice):
-    """Twenty connections send twenty requests each, cut at random and mixed. Each gets the replies to its own, in order."""
-    paths = ["/zones", "/published", "/zones/NORTH/errsysmods", "/zones/NORTH/missingfix", "/nothing"]
-    asked = [request("GET", path, token) for path in paths for token in (NORTH, "south-token", "nobody")]
-    told = {text: answered(desk.port, text) for text in asked}
-    plans = [[dice.choice(asked) for _ in range(20)] for _ in range(20)]
-    lines = [connect(desk.port) for _ in plans]
-    left = [b"".join(plan) for plan in plans]
-    while any(left):
-        place = dice.choice([place for place, text in enumerate(left) if text])
-        cut = dice.randint(1, 200)
-        lines[place].sendall(left[place][:cut])
-        left[place] = left[place][cut:]
-    for place, (connection, plan) in enumerate(zip(lines, plans)):
-        reader = Reader(connection)
-        same("connection %d gets its own replies" % place, [reader.reply() for _ in plan], [told[text] for text in plan])
-        connection.close()
-
-
-def changes_between(desk):
-    """A change on one connection stands between the halves of a question on another."""
-    rows = write(os.path.join(folder(), "rows"), "SYSMOD,STATE\n")
-    with open(rows, "rb") as file:
-        body = file.read()
-    with connect(desk.port) as asks:
-        asks.sendall(request("GET", "/zones", "south-token")[:30])
-        changed = answered(desk.port, request("PUT", "/zones/LATER", "south-token", 1, body))
-        asks.sendall(request("GET", "/zones", "south-token")[30:])
-        reply = Reader(asks).reply()
-    check("the change is made", changed.startswith(b"HTTP/1.1 200 "), changed)
-    check("and the question that came whole after it sees it", b"LATER" in reply, reply)
-
-
-def places():
-    """With four places the connection that has been idle longest gives way; --connections counts who was accepted."""
-    process, port = open_desk("--open", "4", "--connections", "7")
-    idle = [connect(port) for _ in range(4)]
-    for connection in idle:
-        connection.sendall(ASKED)
-        Reader(connection).reply()
-        time.sleep(0.05)
-    check("a fifth is answered", answered(port).startswith(b"HTTP/1.1 200 "))
-    same("the one that was idle longest gave way", Reader(idle[0]).reply(), b"")
-    for connection in idle[2:]:
-        connection.sendall(ASKED)
-        check("the others go on", Reader(connection).reply().startswith(b"HTTP/1.1 200 "))
-    for connection in idle[1:]:
-        connection.close()
-    for _ in range(2):
-        check("the last ones are answered", answered(port).startswith(b"HTTP/1.1 200 "))
-    same("after seven connections the desk ends", process.wait(timeout=30), 0)
-
-
-desk = Desk(CALLERS)
-
-with connect(desk.port) as connection:
-    connection.sendall(request("PUT", "/zones/NORTH", NORTH, 1, b"SYSMOD,STATE\nUJ90001,APPLIED\n"))
-    Reader(connection).reply()
-desk.zones = answered(desk.port)
-check("the desk answers", desk.zones.startswith(b"HTTP/1.1 200 "), desk.zones)
-dice = random.Random(SEED)
-nobody_waits(desk)
-a_thousand_slow_ones(desk)
-who_never_reads(desk)
-ends(desk)
-in_pieces(desk, dice)
-changes_between(desk)
-desk.end()
-places()
-finish("side_by_side")
+if __name__ == "__main__":
+    main("side_by_side")

@@ -1,13 +1,13 @@
 #!/usr/bin/env python3
 """Shows that test_simulation.py can fail: lies that it has to see.
 
-    test_simulation_lies.py [LIE..]
+    test_simulation_lies.py [-v] [Lies.test_LIE..]
 
 Each lie (simulation/lies.py) stands between the desk and what is seen of it. It prints for each which seed saw it, and after how many steps.
 """
-import sys
+import unittest
 
-from service import check, finish
+from service import check, main
 from simulation.lies import LIES
 from test_simulation import try_seed
 
@@ -25,12 +25,13 @@ def try_lie(kind):
     return check(f"{kind.__name__} is seen", False, f"it was told {lie.lied} times in the last seed")
 
 
-def main():
-    for kind in LIES:
-        if not sys.argv[1:] or kind.__name__ in sys.argv[1:]:
-            try_lie(kind)
-    finish("lies of the simulation")
+class Lies(unittest.TestCase):
+    """Has a test for each lie."""
+
+
+for each in LIES:
+    setattr(Lies, f"test_{each.__name__}", lambda self, kind=each: try_lie(kind))
 
 
 if __name__ == "__main__":
-    main()
+    main("lies of the simulation")

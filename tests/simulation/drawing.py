@@ -98,7 +98,8 @@ class Turn:
         if kind == "full" and not can_fill:
             kind = "device"
         much = {
-            "pause": self.dice.choice([0.001, 0.005, 0.02, 0.05, *[LONG] * is_long]), "kill": self.dice.random() ** 3 * 0.02, "term": self.dice.random() ** 3 * 0.02,
+            "pause": self.dice.choice([0.001, 0.005, 0.02, 0.05, *[LONG] * is_long]),
+            "kill": self.dice.random() ** 3 * 0.02, "term": self.dice.random() ** 3 * 0.02,
             "full": self.dice.choice([0, 4096, 8192, 20000]), "memory": self.dice.choice([0, 0, 4096, 100000]),
             "device": self.dice.choice([0, 2000, 5000, 20000]), "none": 0}[kind]
         return Event(kind, self.dice.choice([0, 0, 1, 2, 4, 8]), much)
