@@ -35,6 +35,7 @@ NAMES = ["V%05d" % place for place in range(2000)]
 TOKENS = {name: "tok-" + name + "0" for name in NAMES}  # as long as alpha-token
 room = folder()
 STEP = 1 if "--all" in sys.argv else 10
+sys.argv[1:] = [word for word in sys.argv[1:] if word != "--all"]
 
 
 def mangled(text):
