@@ -59,6 +59,8 @@ class Lane:
         """Gives it what it is to send next."""
         self.requests, self.plan, self.ending, self.waits = requests, plan, ending, list(requests)
         self.used = time.monotonic()
+        if not plan and not self.is_over:
+            self.after_sending()
 
     # ---- sending
 

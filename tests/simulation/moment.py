@@ -29,8 +29,14 @@ class Moment:
             if self.is_done():
                 return
             if time.monotonic() > self.end:
-                late = next((lane for lane in self.lanes if lane.is_waiting), None)
-                raise Difference("there is no reply within %d seconds to %r" % (PATIENCE, late and late.waits and late.waits[0].sent[:300]))
+                raise Difference(self.lateness())
+
+    def lateness(self):
+        """What is still to come."""
+        late = next((lane for lane in self.lanes if lane.is_waiting), None)
+        if late and late.waits:
+            return "there is no reply within %d seconds to %r" % (PATIENCE, late.waits[0].sent[:300])
+        return "the desk does not end a connection within %d seconds, which the client has ended for its part" % PATIENCE
 
     def is_done(self):
         """Whether all was sent, and all came that was to come. After the end of the desk nothing more comes than is there."""
