@@ -1,7 +1,7 @@
 #!/usr/bin/env python3
 """What bureau-client prints of a reply, by unittest: each control character stands as what it is. No desk is needed.
 
-    test_client_printed.py [-v] [NAME..]
+    test_client_printed.py [-v] [CLASS.TEST..]
 """
 import json
 import os
@@ -13,9 +13,7 @@ import tempfile
 import threading
 import unittest
 
-TOP = os.path.dirname(os.path.dirname(os.path.abspath(__file__)))
-CLIENT = os.path.join(TOP, "clients", "bureau-client")
-
+from service import CLIENT, main
 from stand_in import StandIn
 
 PAINT = "\x1b[2J\x07\x7f\x9b31m"  # clears a terminal, rings, and paints it red by C1
@@ -139,7 +137,4 @@ class Printed(unittest.TestCase):
 
 
 if __name__ == "__main__":
-    result = unittest.main(exit=False).result
-    failed = len(result.failures) + len(result.errors)
-    print("client's prints: %d passed, %d failed" % (result.testsRun - failed, failed))
-    sys.exit(1 if failed else 0)
+    main("client's prints")

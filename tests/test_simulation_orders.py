@@ -1,11 +1,11 @@
 #!/usr/bin/env python3
 """What the simulation makes of what several connections were told at once, by unittest: which orders there are. No desk is needed.
 
-    test_simulation_orders.py [-v] [NAME..]
+    test_simulation_orders.py [-v] [CLASS.TEST..]
 """
-import sys
 import unittest
 
+from service import main
 from simulation.lanes import Request
 from simulation.model import Model, with_callers
 from simulation.orders import Orders, World, no_room, settled
@@ -114,7 +114,4 @@ class Possible(unittest.TestCase):
 
 
 if __name__ == "__main__":
-    result = unittest.main(exit=False).result
-    failed = len(result.failures) + len(result.errors)
-    print("orders of the simulation: %d passed, %d failed" % (result.testsRun - failed, failed))
-    sys.exit(1 if failed else 0)
+    main("orders of the simulation")
