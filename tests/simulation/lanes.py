@@ -20,7 +20,7 @@ class Request:
         first = sent.lstrip(b"\r\n").split(b" ", 1)[0]
         self.is_change, self.is_bare = is_tail or first in (b"PUT", b"POST", b"DELETE"), first == b"HEAD"
         found = re.search(rb"(?i)\nbureau-number:[ \t]*(\d{1,19})\r?\n", sent)
-        self.number = int(found[1]) if found else (1 << 62 if is_tail else None)
+        self.number = int(found[1]) if found else None
         self.began = self.ended = self.reply = None
         self.part = b""
 

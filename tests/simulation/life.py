@@ -25,6 +25,7 @@ class Life:
     def __init__(self, program, store, options, reading, descriptors):
         self.store, self.reading, self.descriptors, self.log = store, reading, descriptors, b""
         self.was_stopped = self.is_paused = False
+        self.may_fail = False  # whether its disk may have failed under a change of a client that is gone
         self.is_narrow = bool(descriptors) or "8" in options  # idle connections give way to others
         words = [*options, *(["--log"] if reading else [])]
         for _ in range(20):
@@ -93,12 +94,13 @@ class Life:
         for what in (resource.RLIMIT_DATA, resource.RLIMIT_FSIZE):
             self.limit(what, ENDLESS)
 
-    def wait_for_end(self):
-        """Its disk failed: it ends."""
+    def wait_for_end(self, has_failed):
+        """Its disk failed, so that it ends; or it may have failed."""
         try:
-            self.process.wait(timeout=20)
+            self.process.wait(timeout=20 if has_failed else 1)
         except subprocess.TimeoutExpired:
-            raise Difference("the desk goes on after its disk failed") from None
+            if has_failed:
+                raise Difference("the desk goes on after its disk failed") from None
 
     @property
     def is_over(self):

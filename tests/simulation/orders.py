@@ -6,6 +6,7 @@ A request without a reply may have been answered, or may be later, or never.
 """
 from collections import namedtuple
 
+SOON = 1000  # so many changes of a caller don't come while a request is on its way
 MOST = 300000  # states that are looked at
 
 # What the desk may have: a state, and the threads of which a part may still come.
@@ -126,9 +127,11 @@ def left_of(threads, at):
 
 
 def can_still_act(model, state, thread):
-    """What of a thread without replies could still change something: a change does if its number is yet to come."""
-    left = [request for request in thread if request.is_change and request.owner and (request.number or 0) > model.last(state, request.owner)]
-    return tuple(thread) if left else ()
+    """What of a thread without replies could still change something: a change does if its number is soon to come."""
+    def can_act(request):
+        return request.is_change and request.owner and 0 < (request.number or 0) - model.last(state, request.owner) < SOON
+
+    return tuple(thread) if any(map(can_act, thread)) else ()
 
 
 def settled(model, worlds, is_over):

@@ -162,16 +162,18 @@ class Simulation:
         """Sends what the lanes have, lets the event befall the desk, and sees that what came is right."""
         self.steps += sum(len(lane.requests) for lane in lanes) + (event.kind != "none")
         self.counts[event.kind] += 1
-        self.scarce = event.kind in ("full", "memory", "device")
+        self.scarce = event.kind in ("full", "memory", "device") or self.life.may_fail
         Moment(self, lanes, event, pace).pass_by()
-        if event.kind == "device" and any(lane.lacks or lane.has_refusal for lane in lanes):
-            self.life.wait_for_end()
+        if event.kind == "device":
+            self.life.may_fail |= any(lane.was_cut for lane in lanes) or any(world.pending for world in self.worlds)
+        if (event.kind == "device" or self.life.may_fail) and any(lane.lacks or lane.has_refusal for lane in lanes):
+            self.life.wait_for_end(event.kind == "device")
         self.life.lift()
         self.disk.empty()
         is_over = self.life.is_over
         self.see(lanes, event, is_over)
         if is_over:
-            self.after_end(event.kind in ("device", "full"))
+            self.after_end(event.kind in ("device", "full") or self.life.may_fail)
         else:
             self.keep(lanes)
 
