@@ -10,7 +10,7 @@ use std::alloc::Global;
 use std::io::{self, ErrorKind, Read};
 use std::marker::Model;
 
-// The bytes of room that are made at a time.
+// The most bytes of room that are made at a time.
 const CHUNK: usize = 65536;
 
 /// Bytes that came from a reader and were not yet taken off, with room for more after them.
@@ -144,20 +144,21 @@ fn read_into_room<R: Read>(
     ensures given_up { IfErr result (λ fault. IsGivenUp fault retries.new) }
     ensures counted { retries.new ≤ retries.old }
 {
-    make_room(room, end)?;
+    make_room(room, end, most)?;
     let until = end + (room.len() - end).min(most);
     Ok(read_at(reader, room.as_mut_slice(), end, until, retries)?)
 }
 
-// Makes room after the bytes that are there, if there is none.
-fn make_room(room: &mut Vec<u8>, end: usize) -> Result<(), NoMemory>
-    requires { end ≤ length room.old.items }
+// Makes room after the bytes that are there, if there is none: for as many as are wanted, up to a chunk.
+fn make_room(room: &mut Vec<u8>, end: usize, most: usize) -> Result<(), NoMemory>
+    requires within { end ≤ length room.old.items }
+    requires wanted { 0 < most }
     ensures kept { take end room.new.items ≡ take end room.old.items }
     ensures within { end ≤ length room.new.items }
     ensures ok { OnOk result (end < length room.new.items) }
 {
     if end == room.len() {
-        room.resize(end.checked_add(CHUNK).ok_or(NoMemory)?, 0)?;
+        room.resize(end.checked_add(most.min(CHUNK)).ok_or(NoMemory)?, 0)?;
     }
     Ok(())
 }
