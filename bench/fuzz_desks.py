@@ -125,6 +125,7 @@ class Drawing:
         return self.dice.choice(
             ["/published", "/published.json", "/zones", "/zones.json"]
             + [zone + report + form for report in ("/errsysmods", "/missingfix") for form in ("", ".json", "/plan", "/plan.json")]
+            + [zone + "/counts.json"]
             + [zone + "/chains/" + escaped(self.dice.choice(IDS)) for _ in range(4)]
         )
 

@@ -37,6 +37,7 @@ BODIES = {
 CHANGES = ["PUT /zones/{zone} zone", "PUT /zones/{zone} zone", "PUT /zones/{zone} zone", "PUT /received received",
            "PUT /zones/{zone}/categories categories", "DELETE /zones/{zone} "]
 QUESTIONS = ["/zones", "/zones.json", "/published", "/published.json", "/zones/{zone}/chains/{sysmod}", "/zones/{zone}/chains/{sysmod}",
+             "/zones/{zone}/counts.json",
              *(f"/zones/{{zone}}/{report}{end}" for report in ("errsysmods", "missingfix") for end in ("", ".json", "/plan", "/plan.json"))]
 # what some request is told: each status; a chain with what is required, one that it blocks, one without; a report in which that shows
 TOLD = ["\n200\n", "\n400\n", "\n404\n", "\n409\n", "\n422\n", '"UA10020","system":[],"user":[]},{"id":"UA10021"', '"blocked":"UA10021"',

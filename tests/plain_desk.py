@@ -27,6 +27,7 @@ ROUTES = [
     (("zones", None, "errsysmods", "plan.json"), {b"GET": "err_plan_json"}),
     (("zones", None, "missingfix", "plan"), {b"GET": "missing_plan"}),
     (("zones", None, "missingfix", "plan.json"), {b"GET": "missing_plan_json"}),
+    (("zones", None, "counts.json"), {b"GET": "zone_counts"}),
     (("zones", None, "chains", None), {b"GET": "chain"}),
 ]
 CHANGES = {"publish", "put_zone", "drop_zone", "put_patterns", "put_received"}
@@ -97,7 +98,7 @@ class PlainDesk:
             return self.change(caller, call, captured, headers, body), "text/plain"
         if call not in OF_NO_ZONE and captured[0] not in self.zones[caller]:
             raise Refused(404, "NOT FOUND\n")
-        is_json = call == "chain" or call.endswith("_json")
+        is_json = call in ("chain", "zone_counts") or call.endswith("_json")
         return getattr(self, call)(caller, *captured), "application/json" if is_json else "text/plain"
 
     # ---- changes
@@ -247,6 +248,19 @@ class PlainDesk:
             categories = [each for each in hold[b"CATEGORY"] if any(matches(pattern, each) for pattern in zone.patterns)]
             if categories:
                 yield (sysmod, reason), hold, categories, resolvers
+
+    def zone_counts(self, caller, name):
+        zone = self.zones[caller][name]
+        classes, statuses = {"hiper": 0, "pe": 0, "other": 0}, {"resolved": 0, "held": 0, "unresolved": 0}
+        errors, sysmods, fixes = list(self.err_holds(zone)), set(), list(self.missing_holds(zone))
+        for (sysmod, _), hold, resolvers in errors:
+            sysmods.add(sysmod)
+            classes[{b"HIPER": "hiper", b"PE": "pe"}.get(hold.get(b"CLASS"), "other")] += 1
+            found = resolvers.values()
+            statuses["resolved" if b"GOOD" in found else "held" if b"HELD" in found else "unresolved"] += 1
+        rows = {"rows": len(self.err_rows(caller, name)), "sysmods": len(sysmods)}
+        missing = {"holds": len(fixes), "rows": len(self.missing_rows(caller, name))}
+        return compact({"errsysmods": {"holds": len(errors), **classes, **statuses, **rows}, "missingfix": missing, "zone": name.decode()})
 
     def chain(self, caller, name, sysmod):
         zone = self.zones[caller][name]

@@ -112,6 +112,7 @@ def request(dice):
             ("GET", "/zones/%s/errsysmods" % zone, None, False),
             ("GET", "/zones/%s/missingfix" % zone, None, False),
             ("GET", "/zones/%s/missingfix.json" % zone, None, False),
+            ("GET", "/zones/%s/counts.json" % zone, None, False),
             ("GET", "/zones/%s/errsysmods/plan.json" % zone, None, False),
             ("GET", "/zones/%s/chains/%s" % (zone, dice.choice(IDS)), None, False),
             ("GET", "/published", None, False),

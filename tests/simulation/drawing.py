@@ -62,7 +62,7 @@ class TurnDrawing(Drawing):
             paths += ["/zones", "/zones.json"] if name != PUBLISHER else []
             for zone in sorted(self.zones.get(name, ())):
                 path = "/zones/" + zone.replace("#", "%23")
-                paths += [path + "/" + each for each in ("errsysmods", "missingfix.json", "errsysmods/plan", "missingfix/plan.json")]
+                paths += [path + "/" + each for each in ("errsysmods", "missingfix.json", "errsysmods/plan", "missingfix/plan.json", "counts.json")]
             for path in paths:
                 if self.dice.random() < share:
                     yield Request(name, self.request("GET", path, self.tokens[name]))

@@ -4,6 +4,7 @@ use Rattle.std.specs.Prelude.{Some, None, codes, replicate}
 use Rattle.std.specs.Fmt.{digits}
 use Rattle.zone_lists.specs.declared.zones.ZoneState.TheVariants.{Applied}
 use Rattle.catalogue.specs.Content.{nothing}
+use Rattle.report_json.specs.Counts.{zone_counts_json_of}
 use Rattle.report_json.specs.Json.{err_json_of, missing_json_of, published_json_of, zones_json_of}
 use Rattle.questions.specs.declared.report.Report.TheVariants.{ErrSysmods, MissingFix}
 use Rattle.questions.specs.declared.wanted.Form.TheVariants.{Text, Json}
@@ -11,7 +12,7 @@ use Rattle.questions.specs.declared.wanted.Wanted.TheVariants.{Rows, Plan}
 use Rattle.bureau_store.specs.Effect.{zone_dropped}
 use Rattle.bureau_store.specs.Tables.{ZoneTable, Zones}
 use Rattle.bureau_store.specs.declared.caller.Caller.TheVariants.{Publisher, Client}
-use Rattle.bureau.specs.Call.{Call, publish, drop_zone, list_zones, report_on, counts}
+use Rattle.bureau.specs.Call.{Call, publish, drop_zone, list_zones, report_on, zone_counts, counts}
 use Rattle.bureau.specs.Outcome.{Answer, Outcome, accepted, answered, as_json, has_room, in_turn, outcome, plain}
 use Rattle.bureau.specs.Own.{Asked, Opening, own_answer}
 use Rattle.bureau.specs.Texts.{counts_text}
@@ -47,6 +48,9 @@ publisher_lists_zones_as_json = refl
 
 pub publisher_asks_for_a_plan : outcome publisher (report_on MissingFix (Plan Text) (codes "TGT1   ")) ≡ answered (plain 403 (codes "NOT ALLOWED\n"))
 publisher_asks_for_a_plan = refl
+
+pub publisher_counts_a_zone : outcome publisher (zone_counts (codes "TGT1   ")) ≡ answered (plain 403 (codes "NOT ALLOWED\n"))
+publisher_counts_a_zone = refl
 
 pub who_may_not_ask_needs_no_number : outcome alpha (publish None []) ≡ answered (plain 403 (codes "NOT ALLOWED\n"))
 who_may_not_ask_needs_no_number = refl
@@ -96,6 +100,9 @@ missing_fixes_as_json_on_no_zone = refl
 pub plan_on_no_zone : outcome alpha (report_on ErrSysmods (Plan Json) (codes "TGT9   ")) ≡ answered (plain 404 (codes "NOT FOUND\n"))
 plan_on_no_zone = refl
 
+pub counts_of_no_zone : outcome alpha (zone_counts (codes "TGT9   ")) ≡ answered (plain 404 (codes "NOT FOUND\n"))
+counts_of_no_zone = refl
+
 pub zones_listed : outcome alpha (list_zones Text) ≡ answered (plain 200 (codes "ZONE     SYSMODS\nTGT1     1\nROWS 1\n"))
 unfolding digits
 zones_listed = refl
@@ -109,6 +116,9 @@ nothing_held_as_json = refl
 
 pub nothing_missing_as_json : outcome alpha (report_on MissingFix (Rows Json) (codes "TGT1   ")) ≡ answered (as_json (missing_json_of nothing (codes "TGT1   ") [] []))
 nothing_missing_as_json = refl
+
+pub nothing_counted : outcome alpha (zone_counts (codes "TGT1   ")) ≡ answered (as_json (zone_counts_json_of (codes "TGT1   ") [] [] []))
+nothing_counted = refl
 
 -- a client may have 64 zones; one of them may be put again
 abbrev zones_of : ℕ → Zones

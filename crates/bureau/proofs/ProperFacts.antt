@@ -8,12 +8,12 @@ use Rattle.bureau_store.specs.Effect.{Effect, publication, zone_put, zone_droppe
 use Rattle.bureau_store.specs.Tables.{LastChange, ZoneTable, Zones, zone_named}
 use Rattle.bureau_store.specs.declared.caller.Caller.{Caller}
 use Rattle.bureau_store.specs.declared.caller.Caller.TheVariants.{Publisher, Client}
-use Rattle.bureau.specs.Call.{Call, publish, put_zone, drop_zone, put_received, put_patterns, list_zones, report_on, chain, counts}
+use Rattle.bureau.specs.Call.{Call, publish, put_zone, drop_zone, put_received, put_patterns, list_zones, report_on, zone_counts, chain, counts}
 use Rattle.bureau_store.specs.Store.{greatest_number}
 use Rattle.bureau.specs.Outcome.{Outcome, answered, accepted, bad_number, by_number, forbidden, gap, has_room, in_form, in_turn, may_ask, of_zone, outcome, outcome_allowed, put_of_zone, refused, said, stale, told}
 use Rattle.bureau.specs.View.{View}
 use Rattle.bureau.specs.Bodies.{changes_in, ids_in, patterns_in, rows_in}
-use Rattle.bureau.specs.Texts.{chain_text, counts_text, patterns_text, publication_text, received_text, report_text, zone_dropped_text, zone_put_text, zones_text}
+use Rattle.bureau.specs.Texts.{chain_text, counts_text, patterns_text, publication_text, received_text, report_text, zone_counts_text, zone_dropped_text, zone_put_text, zones_text}
 
 -- who may make a change, and that patterns are those of a zone that is there
 abbrev pub IsPossible : Zones → Caller → Effect → Type 0
@@ -67,6 +67,7 @@ asked view Publisher (put_received number body) = refl
 asked view Publisher (put_patterns number zone body) = refl
 asked view Publisher (list_zones form) = refl
 asked view Publisher (report_on report wanted zone) = refl
+asked view Publisher (zone_counts zone) = refl
 asked view Publisher (chain zone sysmod) = refl
 asked view Publisher (counts form) = in_any_form view.zones Publisher form (counts_text form view.content)
 asked view (Client name) (publish number body) = refl
@@ -90,6 +91,8 @@ asked view (Client name) (put_patterns number zone body) =
 asked view (Client name) (list_zones form) = in_any_form view.zones (Client name) form (zones_text form view.zones)
 asked view (Client name) (report_on report wanted zone) =
     tells view.zones (Client name) (form_of wanted) (zone_named zone view.zones) (λ table. report_text report wanted view.content zone table view.received)
+asked view (Client name) (zone_counts zone) =
+    tells view.zones (Client name) Json (zone_named zone view.zones) (λ table. zone_counts_text view.content zone table)
 asked view (Client name) (chain zone sysmod) =
     tells view.zones (Client name) Json (zone_named zone view.zones) (λ table. chain_text view.content zone table sysmod)
 asked view (Client name) (counts form) = in_any_form view.zones (Client name) form (counts_text form view.content)

@@ -3,19 +3,20 @@ use Rattle.std.proofs.Common.{◌≡◌, ℕ, List, [], sym, ◌∙◌, ap, refl
 use Rattle.std.specs.Prelude.{Option, Some, None}
 use Rattle.std.specs.Option.{option_map}
 use Rattle.holddata.specs.declared.hold.Hold.{Hold}
+use Rattle.holddata.specs.declared.key.Kind.TheVariants.{ErrorHold, FixcatHold}
 use Rattle.zone_lists.specs.declared.zones.ZoneRow.{ZoneRow}
 use Rattle.catalogue.specs.Content.{Content}
 use Rattle.questions.specs.Wanted.{form_of}
 use Rattle.questions.specs.declared.report.Report.{Report}
 use Rattle.questions.specs.declared.wanted.Wanted.{Wanted}
 use Rattle.bureau_store.specs.Held.{held_in}
-use Rattle.bureau_store.specs.Tables.{Tables, ZoneTable, rows_of, zone_named}
+use Rattle.bureau_store.specs.Tables.{Tables, ZoneTable, patterns_of, rows_of, zone_named}
 use Rattle.bureau_store.specs.declared.caller.Caller.TheVariants.{Client}
-use Rattle.bureau.specs.Call.{report_on}
+use Rattle.bureau.specs.Call.{report_on, zone_counts}
 use Rattle.bureau.specs.Outcomes.{IsReplyTo}
 use Rattle.bureau.specs.Outcome.{Answer, Outcome, answered, as_json, in_form, not_found, of_zone}
 use Rattle.bureau.specs.Replies.{reply_as}
-use Rattle.bureau.specs.Texts.{chain_text, chain_text_from, kind_of, patterns_for, text_from}
+use Rattle.bureau.specs.Texts.{chain_text, chain_text_from, kind_of, patterns_for, text_from, zone_counts_from, zone_counts_text}
 use Rattle.bureau.specs.declared.reply.Reply.{Reply}
 
 -- ---- the rows of a zone
@@ -72,6 +73,38 @@ pub report_absent : (report : Report) (wanted : Wanted) (client zone : List ℕ)
     → IsReplyTo (Client client) (report_on report wanted zone) this reply
 report_absent report wanted client zone this reply missing is =
     no_rows (zone_named zone (this.zones client)) (answer_on report wanted this client zone) reply missing is
+
+-- ---- counts
+
+-- what is answered of a zone that is there
+abbrev counts_on : Tables → List ℕ → ZoneTable → Outcome
+counts_on this zone table = answered (as_json (zone_counts_text this.content zone table))
+
+-- the counts, from their parts
+counts_parts : (content : Content) (zone : List ℕ) (found : Option ZoneTable) (patterns : List (List ℕ)) (rows installed : List ZoneRow) (errors fixes : List Hold) (reply : Reply)
+    → Some rows ≡ option_map (λ (table : ZoneTable). table.rows) found → patterns ≡ patterns_of found
+    → errors ≡ held_in content (rows_of found) ErrorHold → fixes ≡ held_in content (rows_of found) FixcatHold → installed ≡ rows
+    → reply_as reply ≡ as_json (zone_counts_from content zone installed patterns errors fixes)
+    → answered (reply_as reply) ≡ of_zone found (λ table. answered (as_json (zone_counts_text content zone table)))
+counts_parts content zone None patterns rows installed errors fixes reply there asked held missing same is = absurd (cc)
+counts_parts content zone (Some table) patterns rows installed errors fixes reply there asked held missing same is =
+    ap answered (is ∙ ap (λ rows. as_json (zone_counts_from content zone rows patterns errors fixes)) (same ∙ ap rows_in there)
+    ∙ ap (λ asked. as_json (zone_counts_from content zone table.rows asked errors fixes)) asked
+    ∙ ap (λ held. as_json (zone_counts_from content zone table.rows table.patterns held fixes)) held
+    ∙ ap (λ missing. as_json (zone_counts_from content zone table.rows table.patterns (held_in content table.rows ErrorHold) missing)) missing)
+
+pub counts_told : (client zone : List ℕ) (this : Tables) (patterns : List (List ℕ)) (rows installed : List ZoneRow) (errors fixes : List Hold) (reply : Reply)
+    → Some rows ≡ option_map (λ (table : ZoneTable). table.rows) (zone_named zone (this.zones client)) → patterns ≡ patterns_of (zone_named zone (this.zones client))
+    → errors ≡ held_in this.content (rows_of (zone_named zone (this.zones client))) ErrorHold → fixes ≡ held_in this.content (rows_of (zone_named zone (this.zones client))) FixcatHold → installed ≡ rows
+    → reply_as reply ≡ as_json (zone_counts_from this.content zone installed patterns errors fixes)
+    → IsReplyTo (Client client) (zone_counts zone) this reply
+counts_told client zone this patterns rows installed errors fixes reply there asked held missing same is =
+    counts_parts this.content zone (zone_named zone (this.zones client)) patterns rows installed errors fixes reply there asked held missing same is
+
+pub counts_absent : (client zone : List ℕ) (this : Tables) (reply : Reply)
+    → None ≡ option_map (λ (table : ZoneTable). table.rows) (zone_named zone (this.zones client)) → reply_as reply ≡ not_found
+    → IsReplyTo (Client client) (zone_counts zone) this reply
+counts_absent client zone this reply missing is = no_rows (zone_named zone (this.zones client)) (counts_on this zone) reply missing is
 
 -- ---- verdicts
 

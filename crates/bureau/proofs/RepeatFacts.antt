@@ -9,7 +9,7 @@ use Rattle.bureau_store.specs.Tables.{LastChange, Tables, ZoneTable, zone_named}
 use Rattle.bureau_store.specs.declared.caller.Caller.{Caller}
 use Rattle.bureau_store.specs.declared.caller.Caller.TheVariants.{Publisher, Client}
 use Rattle.bureau.specs.Bodies.{changes_in, rows_in, ids_in, patterns_in}
-use Rattle.bureau.specs.Call.{Call, publish, put_zone, drop_zone, put_received, put_patterns, list_zones, report_on, chain, counts}
+use Rattle.bureau.specs.Call.{Call, publish, put_zone, drop_zone, put_received, put_patterns, list_zones, report_on, zone_counts, chain, counts}
 use Rattle.bureau.specs.Joint.{CallBy, IsRun, IsStep, tables_left}
 use Rattle.bureau_store.specs.Store.{greatest_number}
 use Rattle.bureau.specs.Outcome.{Answer, Outcome, answered, accepted, answer_of, bad_number, by_number, forbidden, gap, has_room, in_turn, may_ask, no_room, of_zone, outcome, outcome_allowed, plain, refused, said, stale, told}
@@ -59,6 +59,7 @@ allowed_in_turn view (put_patterns number zone body) n e =
     numbered view.last number n _ (of_zone_refuses (zone_named zone view.zones) _ (λ table. said_refuses (patterns_in body) _ (λ patterns. tt))) e
 allowed_in_turn view (list_zones form) n e = absurd (cc)
 allowed_in_turn view (report_on report wanted zone) n e = absurd (cc)
+allowed_in_turn view (zone_counts zone) n e = absurd (cc)
 allowed_in_turn view (chain zone sysmod) n e = absurd (cc)
 allowed_in_turn view (counts form) n e = absurd (cc)
 
@@ -160,6 +161,7 @@ allowed_accepted view (put_received number body) effect text e = in_turn_accepte
 allowed_accepted view (put_patterns number zone body) effect text e = in_turn_accepted view.last number _ effect text e
 allowed_accepted view (list_zones form) effect text e = absurd (cc)
 allowed_accepted view (report_on report wanted zone) effect text e = none_of_zone (zone_named zone view.zones) _ effect text e
+allowed_accepted view (zone_counts zone) effect text e = none_of_zone (zone_named zone view.zones) _ effect text e
 allowed_accepted view (chain zone sysmod) effect text e = none_of_zone (zone_named zone view.zones) _ effect text e
 allowed_accepted view (counts form) effect text e = absurd (cc)
 

@@ -13,5 +13,6 @@ pub data Call : Type 0 where
   put_patterns : Option ℕ → List ℕ → List ℕ → Call
   list_zones : Form → Call
   report_on : Report → Wanted → List ℕ → Call
+  zone_counts : List ℕ → Call
   chain : List ℕ → List ℕ → Call
   counts : Form → Call

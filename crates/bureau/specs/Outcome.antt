@@ -8,10 +8,10 @@ use Rattle.bureau_store.specs.Store.{greatest_number}
 use Rattle.bureau_store.specs.Tables.{LastChange, ZoneTable, Zones, zone_named}
 use Rattle.bureau_store.specs.declared.caller.Caller.{Caller}
 use Rattle.bureau_store.specs.declared.caller.Caller.TheVariants.{Publisher, Client}
-use Rattle.bureau.specs.Call.{Call, publish, put_zone, drop_zone, put_received, put_patterns, list_zones, report_on, chain, counts}
+use Rattle.bureau.specs.Call.{Call, publish, put_zone, drop_zone, put_received, put_patterns, list_zones, report_on, zone_counts, chain, counts}
 use Rattle.bureau.specs.View.{View}
 use Rattle.bureau.specs.Bodies.{changes_in, rows_in, ids_in, patterns_in}
-use Rattle.bureau.specs.Texts.{publication_text, zone_put_text, zone_dropped_text, received_text, patterns_text, zones_text, counts_text, report_text, chain_text}
+use Rattle.bureau.specs.Texts.{publication_text, zone_put_text, zone_dropped_text, received_text, patterns_text, zones_text, counts_text, report_text, zone_counts_text, chain_text}
 
 -- an answer: its status, whether its body is JSON, and the body
 pub record Answer : Type 0 where
@@ -123,6 +123,9 @@ outcome_allowed view (list_zones form) = answered (in_form form (zones_text form
 outcome_allowed view (report_on report wanted zone) =
     of_zone (zone_named zone view.zones) (λ table.
     answered (in_form (form_of wanted) (report_text report wanted view.content zone table view.received)))
+outcome_allowed view (zone_counts zone) =
+    of_zone (zone_named zone view.zones) (λ table.
+    answered (as_json (zone_counts_text view.content zone table)))
 outcome_allowed view (chain zone sysmod) =
     of_zone (zone_named zone view.zones) (λ table.
     answered (as_json (chain_text view.content zone table sysmod)))

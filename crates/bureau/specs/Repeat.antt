@@ -2,7 +2,7 @@
 use Rattle.std.specs.Prelude.{◌≡◌, ◌<◌, ◌⊎◌, ◌++◌, ℕ, true, List, ◌∷◌, All, Any, Option, Some, None}
 use Rattle.bureau_store.specs.Tables.{Tables}
 use Rattle.bureau_store.specs.declared.caller.Caller.{Caller}
-use Rattle.bureau.specs.Call.{Call, publish, put_zone, drop_zone, put_received, put_patterns, list_zones, report_on, chain, counts}
+use Rattle.bureau.specs.Call.{Call, publish, put_zone, drop_zone, put_received, put_patterns, list_zones, report_on, zone_counts, chain, counts}
 use Rattle.bureau.specs.Joint.{CallBy, IsRun}
 use Rattle.bureau.specs.Outcome.{may_ask, no_room, stale}
 
@@ -15,6 +15,7 @@ number_of (put_received number body) = number
 number_of (put_patterns number zone body) = number
 number_of (list_zones form) = None
 number_of (report_on report wanted zone) = None
+number_of (zone_counts zone) = None
 number_of (chain zone sysmod) = None
 number_of (counts form) = None
 

@@ -16,6 +16,7 @@ use Rattle.reports.specs.ErrRows.{err_rows_of}
 use Rattle.reports.specs.Holds.{err_holds_of, missing_holds_of}
 use Rattle.reports.specs.MissingRows.{missing_rows_of}
 use Rattle.reports.specs.ReportText.{err_text_of, missing_text_of}
+use Rattle.report_json.specs.Counts.{zone_counts_json_of}
 use Rattle.report_json.specs.Json.{err_json_of, missing_json_of, published_json_of, zones_json_of}
 use Rattle.plan_reports.specs.Replies.{plan_answer_of}
 use Rattle.questions.specs.declared.report.Report.{Report}
@@ -124,6 +125,19 @@ patterns_for MissingFix found = patterns_of found
 abbrev pub report_text : Report → Wanted → Content → List ℕ → ZoneTable → List (List ℕ) → List ℕ
 report_text report wanted content zone table received =
     text_from report wanted content zone table.rows received (patterns_for report (Some table)) (held_in content table.rows (kind_of report))
+
+-- ---- counts
+
+-- the counts of both reports, from the rows and the patterns of a zone and the holds that are read for each; what was received
+-- counts for nothing
+abbrev pub zone_counts_from : Content → List ℕ → List ZoneRow → List (List ℕ) → List Hold → List Hold → List ℕ
+zone_counts_from content zone rows patterns errors fixes =
+    zone_counts_json_of zone patterns (err_holds_of content rows [] errors) (missing_holds_of content rows [] patterns fixes)
+
+-- the counts of both reports on a zone
+abbrev pub zone_counts_text : Content → List ℕ → ZoneTable → List ℕ
+zone_counts_text content zone table =
+    zone_counts_from content zone table.rows table.patterns (held_in content table.rows ErrorHold) (held_in content table.rows FixcatHold)
 
 -- ---- verdicts
 

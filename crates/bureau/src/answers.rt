@@ -15,9 +15,10 @@ ghost use Rattle.bureau.specs.Texts.{counts_text};
 use crate::Reply;
 use crate::forms::{kind_of, reply_in};
 use crate::outcome::NoRoom;
-use crate::report_texts::{chain_text, report_text};
+use crate::report_texts::{chain_text, report_text, zone_counts_text};
 use crate::texts::{counts_told, zones_told};
 use bureau_store::Store;
+use holddata::Kind;
 use mcs_reader::Id;
 use questions::{Form, Report, Wanted};
 use std::alloc::Global;
@@ -103,6 +104,35 @@ fn patterns_for<S: Store>(
         Report::ErrSysmods => Ok(Vec::new(alloc)),
         Report::MissingFix => Ok(store.patterns(client, zone)?),
     }
+}
+
+/// Counts what both reports on a zone have.
+pub(crate) fn zone_counts<S: Store, J: Judge<S>>(
+    alloc: Global,
+    store: &mut S,
+    judge: &mut J,
+    client: &Id,
+    zone: &Id,
+) -> Result<Reply, NoRoom>
+    requires { IsProper (Client client.now) }
+    ensures reads { HasRead S.tables_view store.old store.new result }
+    ensures reply { IfOk result (λ reply. Tells S.tables_view store.old store.new
+        (λ this. J.is_right judge.old this.content →
+        IsReplyTo (Client client.now) (call.zone_counts zone.now) this reply)) }
+    ensures right { Tells S.tables_view store.old store.new
+        (λ this. J.is_right judge.old this.content → J.is_right judge.new this.content) }
+{
+    let Some(rows) = store.zone(client, zone)? else {
+        return Ok(Reply::not_found(alloc)?);
+    };
+    let patterns = store.patterns(client, zone)?;
+    let errors = store.held_in(client, zone, Kind::ErrorHold)?;
+    let fixes = store.held_in(client, zone, Kind::FixcatHold)?;
+    let installed = Zone::from_rows(rows);
+    let text = zone_counts_text(
+        alloc, store, judge, zone, &installed, &patterns, &errors, &fixes,
+    )?;
+    Ok(Reply::json(text))
 }
 
 /// Answers with the verdict on a SYSMOD in a zone.

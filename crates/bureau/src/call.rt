@@ -66,6 +66,11 @@ pub enum Call<'a> {
         /// Its rows or the plan, and in which form.
         wanted: Wanted,
     },
+    /// A client asks what the reports on a zone count.
+    ZoneCounts {
+        /// The zone's name.
+        zone: Id,
+    },
     /// A client asks for the verdict on a SYSMOD in a zone.
     Chain {
         /// The zone's name.

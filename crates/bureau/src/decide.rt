@@ -7,7 +7,7 @@ ghost use Rattle.bureau.specs.Calls.{call_as};
 ghost use Rattle.bureau.specs.Outcomes.{IsReplyAlone, IsOutcome, IsFit};
 ghost use Rattle.bureau.specs.Outcome.{may_ask};
 
-use crate::answers::{chain, counts, list_zones, report_answer};
+use crate::answers::{chain, counts, list_zones, report_answer, zone_counts};
 use crate::changes::{drop_zone, publish, put_patterns, put_received, put_zone};
 use crate::outcome::{NoRoom, Outcome};
 use crate::{Call, Reply};
@@ -97,6 +97,9 @@ fn decide_for_client<S: Store, J: Judge<S>>(
         }
         Call::MissingFix { zone, wanted } => {
             reply_alone(report_answer(alloc, store, judge, client, &zone, MissingFix, wanted))
+        }
+        Call::ZoneCounts { zone } => {
+            reply_alone(zone_counts(alloc, store, judge, client, &zone))
         }
         Call::Chain { zone, sysmod } => {
             reply_alone(chain(alloc, store, judge, client, &zone, &sysmod))

@@ -9,7 +9,7 @@ use Rattle.requests.specs.declared.refusal.Refusal.TheVariants.{UnknownToken}
 use Rattle.bureau_store.specs.Caller.{caller_with}
 use Rattle.bureau_store.specs.declared.caller.Caller.{Caller}
 use Rattle.bureau_store.specs.declared.caller.CallerRow.{CallerRow}
-use Rattle.bureau.specs.Call.{Call, publish, put_zone, drop_zone, put_received, put_patterns, list_zones, report_on, chain, counts}
+use Rattle.bureau.specs.Call.{Call, publish, put_zone, drop_zone, put_received, put_patterns, list_zones, report_on, zone_counts, chain, counts}
 
 -- the call of an action, with its number and its body
 abbrev pub call_of : Action → Option ℕ → List ℕ → Call
@@ -21,6 +21,7 @@ call_of (Action.DropZone zone) number body = drop_zone number zone
 call_of (Action.PutPatterns zone) number body = put_patterns number zone body
 call_of Action.PutReceived number body = put_received number body
 call_of (Action.Report report wanted zone) number body = report_on report wanted zone
+call_of (Action.ZoneCounts zone) number body = zone_counts zone
 call_of (Action.Chain zone sysmod) number body = chain zone sysmod
 
 -- a caller's call, or why there is none

@@ -94,6 +94,7 @@ fn call_of<'a>(action: Action, request: &Request, bytes: &'a [u8]) -> Call<'a>
             body: request.body(bytes),
         },
         Action::Report(report, wanted, zone) => report_call(report, wanted, zone),
+        Action::ZoneCounts(zone) => Call::ZoneCounts { zone },
         Action::Chain(zone, sysmod) => Call::Chain { zone, sysmod },
     }
 }

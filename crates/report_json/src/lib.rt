@@ -1,7 +1,8 @@
-//! Reports, the list of zones and the counts of what is published as JSON.
+//! Reports and their counts, the list of zones and the counts of what is published as JSON.
 //!
 //! - [`err_json`]: the exception SYSMOD report on a zone
 //! - [`missing_json`]: the missing fix report on a zone
+//! - [`zone_counts_json`]: the counts of both reports on a zone
 //! - [`zones_json`]: a client's zones
 //! - [`published_json`]: the counts of what is published
 //!
@@ -12,6 +13,7 @@
 //! ```
 #![tactic(auto)]
 
+mod counts;
 mod dates;
 mod fields;
 mod lists;
@@ -19,5 +21,6 @@ mod rows;
 mod sysmods;
 mod texts;
 
+pub use counts::zone_counts_json;
 pub use lists::{published_json, zones_json};
 pub use texts::{err_json, missing_json};

@@ -118,6 +118,10 @@ pub report_as_json : asked (codes "GET") (codes "/zones/ZONES/errsysmods.json") 
 unfolding routes table with_route matchit_on_literals percent_encoding_on_literals
 report_as_json = refl
 
+pub counts_of_a_zone : asked (codes "GET") (codes "/zones/TGT1/counts.json") ≡ Ok (action.ZoneCounts (codes "TGT1   "))
+unfolding routes table with_route matchit_on_literals percent_encoding_on_literals
+counts_of_a_zone = refl
+
 pub no_json_of_a_zone : asked (codes "PUT") (codes "/zones/TGT1.json") ≡ Err NotFound
 unfolding routes table with_route matchit_on_literals percent_encoding_on_literals
 no_json_of_a_zone = refl

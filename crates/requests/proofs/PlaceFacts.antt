@@ -185,17 +185,18 @@ AreFine n = AllByRecursion IsFine (drop n routes)
 all_fine : AllByRecursion IsFine routes
 unfolding routes table with_route matchit_on_literals percent_encoding_on_literals
 all_fine =
-    let zones : AreFine 16 = (plain _ refl refl refl refl, tt) in
-    let one_zone : AreFine 15 = (zone _ [] refl refl refl refl refl tt refl, zones) in
-    let missingfix : AreFine 14 = (zone _ _ refl refl refl refl refl refl refl, one_zone) in
-    let missing_plan : AreFine 13 = (zone _ _ refl refl refl refl refl refl refl, missingfix) in
-    let missing_plan_json : AreFine 12 = (zone _ _ refl refl refl refl refl refl refl, missing_plan) in
-    let missingfix_json : AreFine 11 = (zone _ _ refl refl refl refl refl refl refl, missing_plan_json) in
-    let errsysmods : AreFine 10 = (zone _ _ refl refl refl refl refl refl refl, missingfix_json) in
-    let err_plan : AreFine 9 = (zone _ _ refl refl refl refl refl refl refl, errsysmods) in
-    let err_plan_json : AreFine 8 = (zone _ _ refl refl refl refl refl refl refl, err_plan) in
-    let errsysmods_json : AreFine 7 = (zone _ _ refl refl refl refl refl refl refl, err_plan_json) in
-    let chains : AreFine 6 = (inr (inr (record { pattern = refl; same = refl; zone_name = refl; sysmod_name = refl; names = refl })), errsysmods_json) in
+    let zones : AreFine 17 = (plain _ refl refl refl refl, tt) in
+    let one_zone : AreFine 16 = (zone _ [] refl refl refl refl refl tt refl, zones) in
+    let missingfix : AreFine 15 = (zone _ _ refl refl refl refl refl refl refl, one_zone) in
+    let missing_plan : AreFine 14 = (zone _ _ refl refl refl refl refl refl refl, missingfix) in
+    let missing_plan_json : AreFine 13 = (zone _ _ refl refl refl refl refl refl refl, missing_plan) in
+    let missingfix_json : AreFine 12 = (zone _ _ refl refl refl refl refl refl refl, missing_plan_json) in
+    let errsysmods : AreFine 11 = (zone _ _ refl refl refl refl refl refl refl, missingfix_json) in
+    let err_plan : AreFine 10 = (zone _ _ refl refl refl refl refl refl refl, errsysmods) in
+    let err_plan_json : AreFine 9 = (zone _ _ refl refl refl refl refl refl refl, err_plan) in
+    let errsysmods_json : AreFine 8 = (zone _ _ refl refl refl refl refl refl refl, err_plan_json) in
+    let counts : AreFine 7 = (zone _ _ refl refl refl refl refl refl refl, errsysmods_json) in
+    let chains : AreFine 6 = (inr (inr (record { pattern = refl; same = refl; zone_name = refl; sysmod_name = refl; names = refl })), counts) in
     let categories : AreFine 5 = (zone _ _ refl refl refl refl refl refl refl, chains) in
     let zones_json : AreFine 4 = (plain _ refl refl refl refl, categories) in
     let received : AreFine 3 = (plain _ refl refl refl refl, zones_json) in

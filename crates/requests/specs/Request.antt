@@ -87,6 +87,7 @@ action_at Resource.Zone method path =
     if bytes_eq method (codes "DELETE") then option_map Action.DropZone (zone_in path) else option_map Action.PutZone (zone_in path)
 action_at Resource.Patterns method path = option_map Action.PutPatterns (zone_in path)
 action_at (Resource.Report report wanted) method path = option_map (Action.Report report wanted) (zone_in path)
+action_at Resource.ZoneCounts method path = option_map Action.ZoneCounts (zone_in path)
 action_at Resource.Chain method path = option_map (λ ids. Action.Chain ids.0 ids.1) (option_zip (zone_in path) (sysmod_in path))
 
 abbrev pub action_or : Option Action → Result Action Refusal

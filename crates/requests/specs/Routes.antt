@@ -34,6 +34,7 @@ table =
     ∷ (codes "/zones/{zone}/errsysmods/plan.json", Resource.Report ErrSysmods (wanted.Plan Json))
     ∷ (codes "/zones/{zone}/missingfix/plan", Resource.Report MissingFix (wanted.Plan Text))
     ∷ (codes "/zones/{zone}/missingfix/plan.json", Resource.Report MissingFix (wanted.Plan Json))
+    ∷ (codes "/zones/{zone}/counts.json", Resource.ZoneCounts)
     ∷ (codes "/zones/{zone}/chains/{sysmod}", Resource.Chain)
     ∷ []
 
@@ -70,6 +71,7 @@ methods_of Resource.Zone = codes "DELETE" ∷ codes "PUT" ∷ []
 methods_of Resource.Patterns = codes "PUT" ∷ []
 methods_of Resource.Received = codes "PUT" ∷ []
 methods_of (Resource.Report report wanted) = codes "GET" ∷ []
+methods_of Resource.ZoneCounts = codes "GET" ∷ []
 methods_of Resource.Chain = codes "GET" ∷ []
 
 -- whether a method is one of these

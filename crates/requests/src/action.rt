@@ -25,6 +25,8 @@ pub enum Action {
     PutReceived,
     /// Reports on this zone, or plans what the report asks for.
     Report(Report, Wanted, Id),
+    /// Counts what the reports on this zone have.
+    ZoneCounts(Id),
     /// Finds the plan for this SYSMOD in this zone.
     Chain(Id, Id),
 }
@@ -49,6 +51,7 @@ pub(crate) fn action_at(
         Resource::Zone => Some(Action::PutZone(zone?)),
         Resource::Patterns => Some(Action::PutPatterns(zone?)),
         Resource::Report(report, wanted) => Some(Action::Report(report, wanted, zone?)),
+        Resource::ZoneCounts => Some(Action::ZoneCounts(zone?)),
         Resource::Chain => Some(Action::Chain(zone?, sysmod?)),
     }
 }

@@ -21,6 +21,8 @@ pub enum Resource {
     Received,
     /// `/zones/{zone}/errsysmods` and `/zones/{zone}/missingfix`, their plans at `/plan` below them, and all four with `.json`
     Report(Report, Wanted),
+    /// `/zones/{zone}/counts.json`
+    ZoneCounts,
     /// `/zones/{zone}/chains/{sysmod}`
     Chain,
 }
@@ -37,6 +39,7 @@ impl Resource {
             Resource::Catalogue(_)
             | Resource::Zones(_)
             | Resource::Report(_, _)
+            | Resource::ZoneCounts
             | Resource::Chain => is_only(method, b"GET"),
         }
     }
@@ -53,6 +56,7 @@ impl Resource {
             Resource::Catalogue(_)
             | Resource::Zones(_)
             | Resource::Report(_, _)
+            | Resource::ZoneCounts
             | Resource::Chain => b"GET",
         }
     }

@@ -14,7 +14,7 @@ use questions::Wanted::{Plan, Rows};
 use std::alloc::Global;
 
 // The paths, each with the resource that it names.
-static PATHS: [(&str, Resource); 17] = [
+static PATHS: [(&str, Resource); 18] = [
     ("/publish", Resource::Publication),
     ("/published", Resource::Catalogue(Text)),
     ("/published.json", Resource::Catalogue(Json)),
@@ -55,6 +55,7 @@ static PATHS: [(&str, Resource); 17] = [
         "/zones/{zone}/missingfix/plan.json",
         Resource::Report(MissingFix, Plan(Json)),
     ),
+    ("/zones/{zone}/counts.json", Resource::ZoneCounts),
     ("/zones/{zone}/chains/{sysmod}", Resource::Chain),
 ];
 
