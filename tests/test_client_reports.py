@@ -360,6 +360,39 @@ class Reports(unittest.TestCase):
         bench.desk.end()
         same("no desk", bench.north.run("overview")[:2], (3, ""))
 
+    def test_counts_of_a_desk(self):
+        """The overview takes the counts of the desk, and the reports of one that counts nothing itself."""
+        desk = StandIn()
+        north = client("http://127.0.0.1:%d" % desk.port, NORTH)
+        errors = {"held": 4, "hiper": 3, "holds": 9, "other": 1, "pe": 5, "resolved": 3, "rows": 12, "sysmods": 7, "unresolved": 2}
+        told = {"errsysmods": errors, "missingfix": {"holds": 6, "rows": 8}, "zone": "A"}
+        row = {"class": "PE", "date": None, "fmid": None, "reason": "AJ2", "received": None, "resolver": None, "status": None, "sysmod": "UJ2"}
+        answers = {
+            "zones.json": {"zones": [{"sysmods": 20, "zone": "A"}]},
+            "errsysmods.json": {"report": "errsysmods", "rows": [row], "sysmods": [], "zone": "A"},
+            "missingfix.json": {"holds": [], "report": "missingfix", "rows": [], "sysmods": [], "zone": "A"},
+        }
+
+        def overview(counts):
+            def reply(first):
+                name = first.split()[1].rsplit("/")[-1]
+                if name == "published":
+                    return b"PUBLISHED SYSMODS 1 HOLDS 1\n"
+                told = counts if name == "counts.json" else answers.get(name)
+                return (404, b"NOT FOUND\n") if told is None else json.dumps(told).encode()
+
+            desk.reply, desk.requests = reply, []
+            status, out, _ = north.run("overview", "--csv")
+            return status, out.splitlines()[1:], any("errsysmods" in first for first, *_ in desk.requests)
+
+        same("counts of the desk", overview(told), (0, ["A,20,7,9,3,5,1,2,4,3,6,"], False))
+        same("a desk that counts nothing", overview(None), (0, ["A,20,1,1,0,1,0,1,0,0,0,"], True))
+        for name, wrong in (
+            ("of another zone", {**told, "zone": "B"}), ("without one of them", {**told, "missingfix": {}}),
+            ("with a word", {**told, "errsysmods": {**errors, "pe": "5"}}),
+        ):
+            same("counts " + name, overview(wrong)[0], 3)
+
     def test_histories(self):
         """sync keeps a line a day and zone, and history prints them."""
         bench = Bench()

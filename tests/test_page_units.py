@@ -48,7 +48,7 @@ def in_node(script, imports="Choice, MOST, chosenIn, holdsOf, titleOf, together,
     with open(PLACE + "/run.js", "w") as file:
         file.write("import { %s } from './page/choice.js';\nimport { jobOf } from './page/job.js';\n" % imports)
         file.write("import { addressOf, whereIs } from './page/address.js';\nimport { sumsByDay } from './page/words.js';\n")
-        file.write("import { byUrgency } from './page/holds.js';\n%s\n" % FACTS)
+        file.write("import { byUrgency } from './page/holds.js';\nimport { countsIn } from './page/report.js';\n%s\n" % FACTS)
         file.write("const tell = (value) => console.log(JSON.stringify(value));\n" + script)
     done = subprocess.run(["node", PLACE + "/run.js"], capture_output=True, text=True)
     if done.returncode:
@@ -79,6 +79,17 @@ class Sums(unittest.TestCase):
         days = [[["1", {"holds": 5}], ["3", {"holds": 7}]], [["2", {"holds": 1}], ["4", {"holds": 0}]]]
         told = in_node("tell(sumsByDay(%s, 'holds'));" % json.dumps(days))
         self.assertEqual(told, [["2", 6], ["3", 8], ["4", 7]])
+
+    def test_counts_of_a_desk(self):
+        """The counts of a desk are taken as they are, and what is none of its zone is refused."""
+        errors = {"held": 4, "hiper": 3, "holds": 9, "other": 1, "pe": 5, "resolved": 3, "rows": 12, "sysmods": 7, "unresolved": 2}
+        told = {"errsysmods": errors, "missingfix": {"holds": 6, "rows": 8}, "zone": "A"}
+        wrong = [{**told, "zone": "B"}, {**told, "missingfix": {}}, {**told, "errsysmods": {**errors, "pe": "5"}}, []]
+        got, *refused = in_node("""const of = (told) => {
+            try { return countsIn(JSON.stringify(told), 'A'); } catch (fault) { return fault.constructor.name; } };
+            tell(%s.map(of));""" % json.dumps([told, *wrong]))
+        self.assertEqual(got, {"accepted": 0, "order": 0, "holds": 9, "hiper": 3, "pe": 5, "other": 1, "unresolved": 2, "held": 4, "good": 3, "fixes": 6})
+        self.assertEqual(refused, ["NoReport"] * 4)
 
     def test_what_comes_first(self):
         """That about which something can be done, then what is held, then what nothing resolves, and then what is accepted."""

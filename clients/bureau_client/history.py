@@ -3,7 +3,6 @@ import csv
 import os
 
 from . import ages, reports, run
-from .accepted import Accepted
 from .changes import Changes
 from .run import Stop, csv_line, say
 
@@ -41,8 +40,7 @@ def keep(changes, is_fresh):
 
 
 def counts_of(desk, zone, sysmods):
-    errors, fixes = (reports.report_of(desk, kind, zone) for kind in reports.KINDS)
-    counts = reports.counts_of(zone, sysmods, errors, fixes, Accepted(desk, zone))
+    counts, _ = reports.counts_on(desk, zone, sysmods)
     return [str(counts[name]) for name in list(COLUMNS)[1:]]
 
 

@@ -236,6 +236,9 @@ def why_empty(desk, kind, zone, level):
 # and by the best resolver of each. FIXES counts a fix once, however many categories it has.
 OVERVIEW = {"ZONE": 9, "SYSMODS": 8, "IN-ERROR": 9, "HOLDS": 7, "HIPER": 7, "PE": 7, "OTHER": 7, "NONE": 7, "HELD": 7, "GOOD": 7, "FIXES": 7}
 
+# Those that a desk counts itself, with the keys of its JSON.
+COUNTED = {"IN-ERROR": "sysmods", "HOLDS": "holds", "HIPER": "hiper", "PE": "pe", "OTHER": "other", "NONE": "unresolved", "HELD": "held", "GOOD": "resolved"}
+
 
 def holds_of(kind, rows):
     """The rows of each hold: of a SYSMOD and a reason. A hold of a fix category may have several categories."""
@@ -258,6 +261,30 @@ def counts_of(zone, sysmods, errors, fixes, accepted, known=None):
         counts["ORDER"] += bool(known and not rows[0]["RESOLVER"] and known.fix(*hold))
     in_error, apart = len({sysmod for sysmod, _ in holds}), len(all_holds) - len(holds) + len(all_fixes) - len(left)
     return {**counts, "ZONE": zone, "SYSMODS": sysmods, "IN-ERROR": in_error, "HOLDS": len(holds), "FIXES": len(left), "ACCEPTED": apart}
+
+
+def counts_by_desk(desk, zone):
+    """What a desk counts of a zone itself, by the columns of the overview, or None where it is of a version that doesn't."""
+    desk.send("GET", f"/zones/{escaped(zone)}/counts.json")
+    if desk.status == 404:
+        return None
+    form = {"errsysmods": dict.fromkeys(COUNTED.values(), int), "missingfix": {"holds": int}, "zone": zone}
+    told = in_form(desk.need_200(), form, desk.no_report)
+    return {**{name: told["errsysmods"][key] for name, key in COUNTED.items()}, "FIXES": told["missingfix"]["holds"]}
+
+
+def counts_on(desk, zone, sysmods, known=None):
+    """The counts of a zone, by the columns of the overview, and whether fixes are missing at all. The desk counts itself, but for what it
+    doesn't know of: holds that are accepted, and fixes by name."""
+    accepted = Accepted(desk, zone)
+    counts = None if accepted.holds else counts_by_desk(desk, zone)
+    if counts and not (known and counts["NONE"]):
+        return {**counts, "ZONE": zone, "SYSMODS": sysmods, "ORDER": 0, "ACCEPTED": 0}, counts["FIXES"] > 0
+    errors = report_of(desk, "errsysmods", zone)
+    if counts:
+        return {**counts_of(zone, sysmods, errors, [], accepted, known), "FIXES": counts["FIXES"]}, counts["FIXES"] > 0
+    fixes = report_of(desk, "missingfix", zone)
+    return counts_of(zone, sysmods, errors, fixes, accepted, known), bool(fixes)
 
 
 def columns_of(known, is_accepting):
@@ -284,12 +311,12 @@ def overview(desk, csv=False, symptoms=None):
     columns = columns_of(known, any(Accepted(desk, zone).is_known for zone, _ in zones[:1]))
     lines, without, old = [list(columns)], [], []
     for zone, sysmods in zones:
-        errors, fixes = (report_of(desk, kind, zone) for kind in KINDS)
-        if not fixes and not categories_sent(desk, zone):
+        counts, has_fixes = counts_on(desk, zone, sysmods, known)
+        if not has_fixes and not categories_sent(desk, zone):
             without.append(zone)
         sent = ages.sent_on(desk, zone)
         old += [f"{zone} ({ages.days_since(sent)} days)"] if sent and ages.is_old(sent) else []
-        counts = {**counts_of(zone, sysmods, errors, fixes, Accepted(desk, zone), known), "SENT": sent.isoformat() if sent else ""}
+        counts["SENT"] = sent.isoformat() if sent else ""
         lines.append([str(counts[name]) for name in columns])
     if csv:
         run.out("".join(map(csv_line, lines)))

@@ -1,7 +1,7 @@
 // Questions to the desk, and what is kept of its answers. The desk stands one folder above this page.
 import { Accepted } from './accepted.js';
 import { HoldReport, countsOf } from './holds.js';
-import { NoReport, chainOf, datesOf, levelOf, zonesOf } from './report.js';
+import { NoReport, chainOf, countsIn, datesOf, levelOf, zonesOf } from './report.js';
 import { Memory } from './memory.js';
 import { changesOf, sumsOf } from './news.js';
 import { planOf } from './plan.js';
@@ -201,6 +201,18 @@ export class Snapshot {
   // The dates of the holds of a report. They come as JSON, which is larger, and so after the rest.
   dates(zone, name) {
     return this.kept('dates ' + name + ' ' + zone, async () => datesOf(await this.ask(this.pathOf(zone, name + '.json'), false), zone, name));
+  }
+
+  // What the desk counts of a zone itself, which comes long before its reports. Null where it doesn't, and where holds are accepted,
+  // of which no desk knows.
+  async countsByDesk(zone) {
+    if (this.acceptedOf(zone).size > 0) return null;
+    try {
+      return countsIn(await this.ask(this.pathOf(zone, 'counts.json'), false), zone);
+    } catch (fault) {
+      if (fault instanceof Refusal && fault.status === 404) return null;
+      throw fault;
+    }
   }
 
   // The counts of a zone. They stay, also where its reports are not kept.

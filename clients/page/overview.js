@@ -1,4 +1,4 @@
-// All zones at a glance: what is urgent comes first. A zone's counts fill in as its reports come.
+// All zones at a glance: what is urgent comes first. A zone's counts fill in as the desk tells them, and what is new as its reports come.
 import { lineOver, link, make } from './make.js';
 import { counted, several, sumsByDay } from './words.js';
 import { sinceWords } from './news.js';
@@ -81,10 +81,15 @@ export class Overview {
     this.done = this.fill();
   }
 
-  // Asks for the reports of all zones, a few at a time. Zones that are not asked for any more are left.
+  // Asks for the counts of all zones and then for their reports, a few at a time. Zones that are not asked for any more are left.
   async fill() {
-    await Promise.all(this.zones.map(async (each) => {
-      if (each.counts) return;
+    const left = this.zones.filter((each) => !each.counts);
+    await Promise.all(left.map(async (each) => {
+      each.counts = await this.snapshot.countsByDesk(each.zone).catch(() => null); // then its reports tell what is wrong
+      if (each.counts) this.soon();
+    }));
+    await Promise.all(left.map(async (each) => {
+      if (this.snapshot.isEnded) return;
       try {
         each.counts = await this.snapshot.countsOf(each.zone, false);
       } catch (fault) {

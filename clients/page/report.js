@@ -100,6 +100,15 @@ export function datesOf(text, zone, name) {
   return new Map(report.rows.filter(({ date }) => typeof date === 'string').map(({ sysmod, reason, date }) => [sysmod + ' ' + reason, date]));
 }
 
+// The counts that a desk makes of a zone itself, from its JSON, as the overview shows them.
+export function countsIn(text, zone) {
+  const whole = json(text);
+  const { hiper, pe, other, unresolved, held, holds, resolved: good } = whole?.errsysmods ?? {};
+  const counts = { holds, hiper, pe, other, unresolved, held, good, fixes: whole?.missingfix?.holds };
+  if (whole?.zone !== zone || !Object.values(counts).every(Number.isInteger)) throw new NoReport();
+  return { accepted: 0, order: 0, ...counts };
+}
+
 export function json(text) {
   try {
     return JSON.parse(text);
