@@ -1,10 +1,9 @@
 #!/usr/bin/env python3
-"""Many connections side by side at one desk: none keeps another waiting, and each gets the replies to its own requests.
+"""Many connections side by side at one desk: none keeps another waiting. test_simulation.py tries what each is told.
 
-    test_side_by_side.py [SEED]
+    test_side_by_side.py [-v] [CLASS.TEST..]
 """
 import os
-import random
 import resource
 import socket
 import struct
@@ -13,9 +12,8 @@ import threading
 import time
 import unittest
 
-from service import PROGRAM, Desk, check, folder, free_port, main, numbers, same, write
+from service import PROGRAM, Desk, check, folder, free_port, main, same, write
 
-(SEED,) = numbers(20261128)
 SLOW = 1000
 SOON = 10  # seconds: half of what a desk waits for a head, on however busy a machine
 RESET = struct.pack("ii", 1, 0)
@@ -106,7 +104,7 @@ def open_desk(*words):
 class SideBySide(unittest.TestCase):
     @classmethod
     def setUpClass(cls):
-        cls.desk, cls.dice = Desk(CALLERS), random.Random(SEED)
+        cls.desk = Desk(CALLERS)
         cls.addClassCleanup(cls.desk.end)
         with connect(cls.desk.port) as connection:
             connection.sendall(request("PUT", "/zones/NORTH", NORTH, 1, b"SYSMOD,STATE\nUJ90001,APPLIED\n"))
@@ -190,39 +188,6 @@ class SideBySide(unittest.TestCase):
             connection.setsockopt(socket.SOL_SOCKET, socket.SO_LINGER, RESET)
             connection.close()
         same("after resets in each state the desk goes on", answered(desk.port), desk.zones)
-
-    def test_in_pieces(self):
-        """Twenty connections send twenty requests each, cut at random and mixed. Each gets the replies to its own, in order."""
-        desk, dice = self.desk, self.dice
-        paths = ["/zones", "/published", "/zones/NORTH/errsysmods", "/zones/NORTH/missingfix", "/nothing"]
-        asked = [request("GET", path, token) for path in paths for token in (NORTH, "south-token", "nobody")]
-        told = {text: answered(desk.port, text) for text in asked}
-        plans = [[dice.choice(asked) for _ in range(20)] for _ in range(20)]
-        lines = [connect(desk.port) for _ in plans]
-        left = [b"".join(plan) for plan in plans]
-        while any(left):
-            place = dice.choice([place for place, text in enumerate(left) if text])
-            cut = dice.randint(1, 200)
-            lines[place].sendall(left[place][:cut])
-            left[place] = left[place][cut:]
-        for place, (connection, plan) in enumerate(zip(lines, plans)):
-            reader = Reader(connection)
-            same("connection %d gets its own replies" % place, [reader.reply() for _ in plan], [told[text] for text in plan])
-            connection.close()
-
-    def test_changes_between(self):
-        """A change on one connection stands between the halves of a question on another."""
-        desk = self.desk
-        rows = write(os.path.join(folder(), "rows"), "SYSMOD,STATE\n")
-        with open(rows, "rb") as file:
-            body = file.read()
-        with connect(desk.port) as asks:
-            asks.sendall(request("GET", "/zones", "south-token")[:30])
-            changed = answered(desk.port, request("PUT", "/zones/LATER", "south-token", 1, body))
-            asks.sendall(request("GET", "/zones", "south-token")[30:])
-            reply = Reader(asks).reply()
-        check("the change is made", changed.startswith(b"HTTP/1.1 200 "), changed)
-        check("and the question that came whole after it sees it", b"LATER" in reply, reply)
 
     def test_places(self):
         """With four places the connection that has been idle longest gives way; --connections counts who was accepted."""
