@@ -29,7 +29,7 @@ with open(conf) as file:
     lines = file.read().replace("listen 8443", "listen 127.0.0.1:%(8443)d" % ports).replace(":8081 ", ":%(8081)d " % ports)
 with open(conf, "w") as file:
     file.write(lines)
-desk, publish, sync, front, job, _, end = re.findall(r"^```\n(.*?)^```$", text, re.M | re.S)
+desk, publish, sync, front, job, _, morning, news, end = re.findall(r"^```\n(.*?)^```$", text, re.M | re.S)
 environment = {**os.environ, "PATH": os.environ["PATH"] + ":/usr/sbin", "HOME": place, "no_proxy": "*"}
 
 
@@ -49,7 +49,9 @@ class FirstSteps(unittest.TestCase):
         check("it is published", "publication 1: ACCEPTED SYSMODS 8 HOLDS 5 RELEASES 0" in run(publish))
         # the PATH of an earlier step is that of the same terminal
         path = publish.splitlines()[0] + "\n"
-        check("the zone is sent, and has two rows", run(path + sync).endswith("ROWS 2\n"))
+        printed = run(path + sync)
+        check("the zone is sent, and has two rows", "GOOD   YES      PE\nROWS 2\n" in printed, printed)
+        check("its first news are told as such", "this is the first news of the zone MVSPROD" in printed, printed)
         run(front)
         atexit.register(subprocess.run, ["bash", "-c", end], cwd=place, env=environment, capture_output=True)
         browser = Browser()
@@ -76,6 +78,27 @@ class FirstSteps(unittest.TestCase):
         click(browser, "td.of-box input")
         click(browser, ".choice-bar .main")
         shows(browser, "3 SYSMODs to install, 1 of them received, 1 with holds to heed.", ".together")
+        click(browser, ".choice-bar .plain")
+        # the next morning
+        printed = run(path + morning)
+        check("it is published", "publication 2: ACCEPTED SYSMODS 1 HOLDS 1 RELEASES 0" in printed, printed)
+        check("the news are those of the page", news in printed, printed)
+        click(browser, "#again")
+        shows(browser, "HOLDDATA up to 2025-08-20 · publication 2", "#level")
+        click(browser, ".tab", "Errors2")
+        browser.until("document.querySelectorAll('.errsysmods td.of-box input').length === 2")
+        click(browser, "th.of-box input")
+        click(browser, ".tab", "Fixes1")
+        browser.until("document.querySelector('.missingfix td.of-box input')")
+        click(browser, "td.of-box input")
+        click(browser, ".choice-bar .main")
+        shows(browser, "4 SYSMODs to install, 1 of them received, 1 with holds to heed.", ".together")
+        click(browser, ".together [aria-label='Save as SMP/E job']")
+        saved = os.path.join(place, "MVSPROD-chosen.smpcntl.txt")
+        check("the job of three holds is saved", until(lambda: os.path.exists(saved)))
+        time.sleep(0.2)
+        command = re.search("`(BUREAU_HOME=north bureau-client job MVSPROD UJ92003 .*?)`", text)[1]
+        same("as the client prints it", without_time(open(saved).read()), without_time(run(path + command)))
         browser.end()
         run(end)
         # a terminal sends Ctrl-C, which a run in the background ignores
