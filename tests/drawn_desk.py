@@ -51,6 +51,19 @@ class Zone:
         rows = [{"date": "2025-06-%02d" % (at % 28 + 1), "reason": reason, "sysmod": sysmod} for at, (sysmod, reason) in enumerate(held)]
         return {"report": report, "rows": rows, "zone": self.name}
 
+    def counts(self):
+        """The counts of both reports, as a desk makes them of a zone."""
+        status = [min((one[1] for one in found), default="none") for _, found in self.holds]
+        classes = [hold[2] for hold, _ in self.holds]
+        by_class = {"hiper": classes.count("HIPER"), "pe": classes.count("PE")}
+        errors = {
+            "held": status.count("HELD"), **by_class, "holds": len(classes), "other": len(classes) - sum(by_class.values()),
+            "resolved": status.count("GOOD"), "rows": len(self.errors), "sysmods": len({hold[0] for hold, _ in self.holds}),
+            "unresolved": status.count("none"),
+        }
+        fixes = {row[75:84] for row in self.fixes}
+        return {"errsysmods": errors, "missingfix": {"holds": len(fixes), "rows": len(self.fixes)}, "zone": self.name}
+
     def plan(self, report):
         """Each hold's first GOOD resolver, and one more that the first one needs."""
         members, held, resolved, unresolved, blocked = [], [], [], [], {}
@@ -107,6 +120,8 @@ class DrawnDesk:
             return zone.report(parts[2]).encode()
         if zone and parts[2:] in (["errsysmods.json"], ["missingfix.json"]):
             return json.dumps(zone.dates(parts[2].removesuffix(".json")), separators=(",", ":")).encode()
+        if zone and parts[2:] == ["counts.json"]:
+            return json.dumps(zone.counts(), separators=(",", ":")).encode()
         if zone and len(parts) == 4 and parts[3] == "plan.json" and self.with_plans:
             return json.dumps(zone.plan(parts[2]), separators=(",", ":")).encode()
         if zone and len(parts) == 4 and parts[2] == "chains":

@@ -23,6 +23,7 @@ from service import TOP, folder, main
 from stand_in import StandIn, until
 
 LARGE = Zone("LARGE", 10000, 3000, 1)
+MANY = [Zone("Z%02d" % at, 2000, 40, at) for at in range(64)]
 ZONES = [Zone("Z@#$", 30, 5, 4), LARGE, Zone("CLEAN", 0, 0, 3), Zone("MIDDLE", 300, 40, 2)]
 HOLDS = {hold: found for hold, found in LARGE.holds}
 BEST = {"GOOD": 0, "HELD": 1}
@@ -41,6 +42,27 @@ YARDSTICK = """(async () => {
     table.remove();
     return performance.now() - began;
 })()""" % NORTH
+# And of many zones: their counts come through the front, three at a time, and a list of a line for each is drawn.
+ZONES_YARDSTICK = """(async () => {
+    const began = performance.now(), names = %s, list = document.createElement('ul');
+    const ask = async () => {
+        for (let name = names.shift(); name; name = names.shift()) {
+            const reply = await fetch('../zones/' + name + '/counts.json', { headers: { 'bureau-token': '%s' }, cache: 'no-store' });
+            list.append(Object.assign(document.createElement('li'), { textContent: name + JSON.stringify(await reply.json()) }));
+        }
+    };
+    await Promise.all([ask(), ask(), ask()]);
+    document.body.append(list);
+    await new Promise(done => requestAnimationFrame(() => setTimeout(done)));
+    list.remove();
+    return performance.now() - began;
+})()"""
+# All is asked anew, and as soon as all zones have their counts, one is chosen: the milliseconds of both.
+CHOSEN = """new Promise(done => { const began = performance.now(); document.getElementById('again').click();
+    const zone = took => () => requestAnimationFrame(document.querySelector('.errsysmods tbody tr.first')
+        ? () => done([took, performance.now() - began - took]) : zone(took));
+    const look = () => { if (document.querySelectorAll('.figures').length < 64) return requestAnimationFrame(look);
+        location.hash = '#%s/errors'; zone(performance.now() - began)(); }; look(); })"""
 # The report that the browser has kept of LARGE becomes one of yesterday which lacks each tenth row; and what it has kept goes.
 KEPT = """new Promise(done => { const opening = indexedDB.open('bureau', 1); opening.onsuccess = () => {
     const store = opening.result.transaction('zones', 'readwrite').objectStore('zones'), keys = store.getAllKeys();
@@ -186,7 +208,7 @@ class PageLarge(unittest.TestCase):
     def test_speed(self):
         """From the question to the table, and each step in it: the best of some, since the machine has other work. What
         is asked anew travels too, from the desk and through the front. On a machine that is busy all the time, a yardstick of the same run
-        tells how much longer a step may take."""
+        tells how much longer a step may take. A filter has a third of the time of the others."""
         browser = self.browser
         ready = "document.querySelector('.errsysmods tbody tr.first') && !document.querySelector('.wait')"
         steps = {
@@ -217,12 +239,14 @@ class PageLarge(unittest.TestCase):
                     best[name] = min(best.get(name, 1e9), browser.run(TIMED % (script, test)))
                     # what is still asked for, such as the counts of the other tabs, is another step's
                     browser.until("[...document.querySelectorAll('.tab-count')].every(c => c.innerText)")
-                most = max(300, TIMES * yardstick)
-                if max(best.values()) < most:
+                busy = max(1, TIMES * yardstick / 300)
+                most = {name: busy * (100 if slower == 1 and name.endswith("filtered") else 300) for name in steps}
+                if all(best[name] < most[name] for name in steps):
                     break
             told = ", ".join("%s %d ms" % pair for pair in {**best, "the yardstick": yardstick}.items())
             print("page: 10,000 rows, %d times slower: %s" % (slower, told))
-            same("all within %d ms, %d times slower" % (most, slower), {name: took for name, took in best.items() if took > most}, {})
+            late = {name: took for name, took in best.items() if took > most[name]}
+            same("all in time, %d times slower: 300 ms, and 100 for a filter, on a machine %.1f times as busy" % (slower, busy), late, {})
         browser.call("Emulation.setCPUThrottlingRate", rate=1)
         check("only what is seen is drawn", browser.run("document.querySelectorAll('tbody tr').length") < 120)
         go(browser, "#LARGE/errors?news=came")
@@ -232,6 +256,41 @@ class PageLarge(unittest.TestCase):
         click(browser, "#again")
         go(browser, "#LARGE/errors")
         browser.until("document.querySelector('tbody tr.first')")
+
+    def test_many_zones(self):
+        """With 64 zones of 2,000 rows the overview is there by their counts alone, before any report is asked for. A zone that is chosen
+        then does not wait for the reports of the others."""
+        browser, desk = self.browser, self.desk
+        desk.reply = DrawnDesk(MANY)
+        names = [zone.name for zone in MANY]
+        for name in names:
+            for path in ("errsysmods", "missingfix", "counts.json"):
+                desk.reply("GET /zones/%s/%s HTTP/1.1" % (name, path))
+        best, yardstick = 1e9, 1e9
+        for _ in range(6):
+            go(browser, "#")
+            browser.until("document.getElementById('message').innerText === ''", 60)  # all reports have come
+            yardstick = min(yardstick, browser.run(ZONES_YARDSTICK % (json.dumps(names), NORTH)))
+            desk.requests.clear()
+            took, opened = browser.run(CHOSEN % names[-1])
+            best = min(best, took)
+            asked = [first.split()[1].split("/")[2:] for first, *_ in desk.requests if first.startswith("GET /zones/")]
+            most = max(2000, 3 * yardstick)
+            if best < most:
+                break
+        print("page: 64 zones: the overview %d ms, a zone after it %d ms, the yardstick %d ms" % (best, opened, yardstick))
+        check("the overview within %d ms" % most, best < most, best)
+        same("their counts come before any report", [path for _, path in asked[:64]], ["counts.json"] * 64)
+        before = asked[64:].index([names[-1], "errsysmods"])
+        check("a zone that is chosen does not wait for the others", before < 32, before)
+        same("it has as many holds", number(browser), MANY[-1].counts()["errsysmods"]["holds"])
+        go(browser, "#")
+        browser.until("document.querySelectorAll('.figures').length === 64")
+        for name, tile in (("hiper", "class-hiper"), ("unresolved", "status-none"), ("holds", "of-all")):
+            shows(browser, "{:,}".format(sum(zone.counts()["errsysmods"][name] for zone in MANY)), ".tile." + tile)
+        desk.reply = DrawnDesk(ZONES)
+        click(browser, "#again")
+        browser.until("document.querySelectorAll('.figures').length === 4")
 
     def test_filters(self):
         """Class, status, receipt and text combine, and stand in the address."""

@@ -91,7 +91,7 @@ export class Snapshot {
   // One question, when it is its turn. What is URGENT comes before the others.
   async ask(path, isUrgent = true) {
     if (this.running >= AT_ONCE) {
-      await new Promise((turn) => (isUrgent ? this.waiting.unshift(turn) : this.waiting.push(turn)));
+      await new Promise((turn) => (isUrgent ? this.waiting.unshift({ path, turn }) : this.waiting.push({ path, turn })));
     } else {
       this.running += 1;
     }
@@ -99,9 +99,15 @@ export class Snapshot {
       return await this.patiently(path);
     } finally {
       const next = this.waiting.shift();
-      if (next) next();
+      if (next) next.turn();
       else this.running -= 1;
     }
+  }
+
+  // What waits for its turn comes next.
+  hasten(path) {
+    const at = this.waiting.findIndex((each) => each.path === path);
+    if (at > 0) this.waiting.unshift(...this.waiting.splice(at, 1));
   }
 
   // Where the same token asks in another tab too, a front has no room for some of its questions.
@@ -162,7 +168,8 @@ export class Snapshot {
   // The symptoms that a publisher keeps beside this page. Where there are none, nothing is said of them.
   async askSymptoms() {
     try {
-      this.served = new Symptoms(await this.send('symptoms.csv'));
+      const served = new Symptoms(await this.send('symptoms.csv'));
+      this.served = served.known.size > 0 ? served : null;
     } catch (fault) {
       this.served = null;
     }
@@ -193,9 +200,10 @@ export class Snapshot {
     return ['', 'zones', zone, ...parts].map(encodeURIComponent).join('/');
   }
 
-  report(zone, name, isUrgent) {
-    return this.kept(name + ' ' + zone, async () =>
-      new HoldReport(name, zone, await this.ask(this.pathOf(zone, name), isUrgent)).accept(this.acceptedOf(zone)));
+  report(zone, name, isUrgent = true) {
+    const path = this.pathOf(zone, name);
+    if (isUrgent) this.hasten(path);
+    return this.kept(name + ' ' + zone, async () => new HoldReport(name, zone, await this.ask(path, isUrgent)).accept(this.acceptedOf(zone)));
   }
 
   // The dates of the holds of a report. They come as JSON, which is larger, and so after the rest.
@@ -216,7 +224,7 @@ export class Snapshot {
   }
 
   // The counts of a zone. They stay, also where its reports are not kept.
-  async countsOf(zone, isUrgent) {
+  async countsOf(zone, isUrgent = true) {
     const both = ['errsysmods', 'missingfix'].map((name) => this.report(zone, name, isUrgent));
     const [errors, fixes] = await Promise.all(both);
     const counts = countsOf(errors.holds, fixes.holds, this.symptoms);

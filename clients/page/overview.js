@@ -4,6 +4,7 @@ import { counted, several, sumsByDay } from './words.js';
 import { sinceWords } from './news.js';
 import { ALL, addressOf } from './address.js';
 
+const PAUSE = 100; // milliseconds at least between two pictures of what has come: to draw many zones takes its time
 const BARS = [['hiper', 'HIPER'], ['pe', 'PE'], ['other', 'other']];
 
 // ADDRESS leads to one list over all zones.
@@ -100,19 +101,21 @@ export class Overview {
     }));
   }
 
+  // Shows what has come, a moment later. That no zone waits any more is shown at once.
   soon() {
-    this.isAsked ??= requestAnimationFrame(() => this.show());
+    const isWhole = this.zones.every((each) => each.counts || each.fault);
+    const pause = isWhole && !this.isWhole ? 0 : this.shown + PAUSE - performance.now();
+    this.isWhole = isWhole;
+    clearTimeout(this.waiting);
+    this.waiting = setTimeout(() => this.show(), pause);
   }
 
   show() {
-    this.isAsked = undefined;
     const known = this.zones.filter((each) => each.counts);
     const most = Math.max(0, ...known.map((each) => each.counts.holds));
-    for (const each of this.zones) each.element.replaceChildren(...this.lineOf(each, most));
+    for (const each of this.zones) this.draw(each, most);
     this.showNews();
-    const focused = document.activeElement;
-    this.list.replaceChildren(...[...this.zones].sort(byUrgency).map((each) => each.element));
-    if (focused?.isConnected) focused.focus();
+    this.order();
     const sum = (name) => known.reduce((all, each) => all + each.counts[name], 0);
     const zonesWith = (name) => known.filter((each) => each.counts[name] > 0).length;
     if (known.length === this.zones.length) this.showTrends();
@@ -123,6 +126,17 @@ export class Overview {
       words.textContent = 'in ' + zonesWith(name) + ' of ' + several(known.length, 'zone') + toOrder + apart;
       element.classList.toggle('zero', sum(name) === 0);
     }
+    this.shown = performance.now();
+  }
+
+  // Moves those zones that are not in their place. What had the focus keeps it.
+  order() {
+    const { list } = this;
+    const focused = list.contains(document.activeElement) ? document.activeElement : null;
+    [...this.zones].sort(byUrgency).forEach(({ element }, at) => {
+      if (list.children[at] !== element) list.insertBefore(element, list.children[at] ?? null);
+    });
+    if (focused && focused !== document.activeElement) focused.focus({ preventScroll: true });
   }
 
   // What is new in a zone, and its holds day by day as a small line.
@@ -161,6 +175,15 @@ export class Overview {
     number.textContent = '+' + counted(sum('came')) + ' −' + counted(sum('went'));
     words.textContent = '+' + counted(sum('hiper')) + ' HIPER, ' + counted(sum('changed')) + ' changed';
     element.classList.toggle('zero', sum('came') + sum('went') + sum('changed') === 0);
+  }
+
+  // Draws a zone's line anew where something of it has changed.
+  draw(each, most) {
+    const { news, days } = this.snapshot;
+    const parts = [each.counts, each.fault, news.get(each.zone), days.get(each.zone), most];
+    if (each.drawn?.every((part, at) => part === parts[at])) return;
+    each.drawn = parts;
+    each.element.replaceChildren(...this.lineOf(each, most));
   }
 
   lineOf({ zone, sysmods, counts, fault }, most) {

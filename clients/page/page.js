@@ -20,6 +20,12 @@ function say(text, isFault = false) {
   at('message').className = isFault ? 'fault' : '';
 }
 
+// Tells a screen reader alone, where the eye sees the same in its place, so that nothing is moved when it is over.
+function tell(text) {
+  say(text);
+  at('message').className = 'off';
+}
+
 // A token that the desk does not know is not kept, and nothing of it is shown.
 function faultOf(fault) {
   const words = wordsOf(fault);
@@ -132,7 +138,7 @@ async function showOverview() {
   const mine = new Overview(snapshot, faultOf);
   view = mine;
   at('main').replaceChildren(mine.element);
-  say('Asking for the reports of ' + several(snapshot.zones.length, 'zone') + '.');
+  tell('Asking for the reports of ' + several(snapshot.zones.length, 'zone') + '.');
   await mine.done;
   if (view !== mine) return;
   const failed = mine.zones.find((each) => each.fault);
