@@ -48,6 +48,9 @@ fn question(zone: Id, what: &str) -> Option<Call<'static>> {
         let wanted = wanted_by(rest)?;
         return Some(Call::MissingFix { zone, wanted });
     }
+    if what == "counts.json" {
+        return Some(Call::ZoneCounts { zone });
+    }
     chain(zone, what)
 }
 
