@@ -10,6 +10,7 @@ What the system does with time is not drawn: a failure may want the same seed se
 seconds. test_simulation_lies.py shows that it sees what is wrong.
 """
 import argparse
+import signal
 import sys
 import time
 import unittest
@@ -68,4 +69,5 @@ class Seeds(unittest.TestCase):
 
 if __name__ == "__main__":
     WORDS = read_words()
+    signal.signal(signal.SIGTERM, lambda *_: sys.exit(3))  # so that nothing is left
     main("simulation")

@@ -5,6 +5,8 @@
 
 Each lie (simulation/lies.py) stands between the desk and what is seen of it. It prints for each which seed saw it, and after how many steps.
 """
+import signal
+import sys
 import unittest
 
 from service import check, main
@@ -34,4 +36,5 @@ for each in LIES:
 
 
 if __name__ == "__main__":
+    signal.signal(signal.SIGTERM, lambda *_: sys.exit(3))  # so that nothing is left
     main("lies of the simulation")

@@ -1,4 +1,5 @@
 """A desk in service, from its start to its end, and what befalls it: pauses, kills, a full disk, want of memory, a slow reader of its log."""
+import ctypes
 import os
 import re
 import resource
@@ -50,7 +51,9 @@ class Life:
         return False
 
     def prepare(self):
-        """What stands in the desk's process before it: its descriptors, and that a limit of a file's length is an error and no signal."""
+        """What stands in the desk's process before it: its descriptors, that a limit of a file's length is an error and no signal, and that
+        it ends with the simulation (prctl, PR_SET_PDEATHSIG)."""
+        ctypes.CDLL(None).prctl(1, signal.SIGKILL)
         signal.signal(signal.SIGXFSZ, signal.SIG_IGN)
         if self.descriptors:
             resource.setrlimit(resource.RLIMIT_NOFILE, (self.descriptors, self.descriptors))
