@@ -34,7 +34,7 @@ class Content:
         self.write("zone", ["SYSMOD,STATE"])
         self.write("received", ["SYSMOD"])
         self.write("categories", ["CATEGORY"])
-        self.write("nothing", [])
+        self.write("nothing", ["++RELEASE(NOTHING) USER REASON(NOTHING)."])
 
     def write(self, name, lines):
         with open(os.path.join(self.room, name), "w", encoding="utf-8") as file:
