@@ -34,7 +34,7 @@ missingfix and chain tell the file after it.
 37 the list has more records than it may have
 42 the store cannot be opened, or its device failed
 43 there is no room for the store on its device
-44 the file is no store; or, for init, it is one already; or, for check, a row of the table is wrong
+44 the file is no store; or, for init, it is one already; or, for check, the table is wrong
 45 the store is of another version: see migrate
 46 the callers file does not begin with NAME,TOKEN
 47 a record is no caller: an id and a token of 8 to 64 of A-Z a-z 0-9 - . _ ~, neither of which came before

@@ -66,7 +66,7 @@ static SUBCOMMANDS: [Subcommand; 10] = [
     },
     Subcommand {
         name: "check",
-        about: "Looks through all of STORE, changes nothing, and prints how much each caller has",
+        about: "Looks through all of STORE, changes no row, and prints how much each caller has",
         arguments: &[STORE],
     },
 ];
