@@ -1,6 +1,7 @@
 pub mod CauseFacts
 pub mod KeyFacts
 pub mod OursFacts
+pub mod PublisherFacts
 pub mod RowFacts
 pub mod SaidFacts
 pub mod SayFacts
@@ -8,3 +9,4 @@ pub mod ScanFacts
 pub mod TallyFacts
 pub mod TypedFacts
 pub mod VariantFacts
+pub mod WrittenFacts

@@ -9,6 +9,7 @@ use Rattle.catalogue.specs.Conditional.{CondsAscend}
 use Rattle.catalogue.specs.Ids.{Ascend}
 use Rattle.catalogue.specs.declared.conditional.CondNeed.{CondNeed}
 use Rattle.catalogue.specs.declared.sysmod.Sysmod.{Sysmod}
+use Rattle.bureau_store.specs.Callers.{is_token}
 use Rattle.bureau_store.specs.declared.caller.CallerRow.{CallerRow}
 use Rattle.sqlite_value.specs.Order.{Row, column}
 use Rattle.sqlite_value.specs.declared.value.Value.{Value}
@@ -20,7 +21,7 @@ use Rattle.sql_tables.specs.Values.{categories_in, date_in, hold_kind_in, id_in,
 use Rattle.sql_tables.specs.Whole.{Head, IsCondition, IsHead, IsMember, IsZoneSysmod, Listed, ZoneSysmod, condition_row, member_row, row_of_head, row_of_zone_sysmod}
 use Rattle.sql_reads.specs.Columns.{indices_of}
 use Rattle.sql_checks.specs.Kept.{KeepsTo, table_of}
-use Rattle.sql_checks.specs.Known.{IsIdColumn, is_any_text}
+use Rattle.sql_checks.specs.Known.{IsIdColumn}
 use Rattle.sql_checks.specs.declared.table.StoreTable.{StoreTable}
 use Rattle.sql_checks.specs.declared.table.StoreTable.TheVariants as table
 use Rattle.sql_checks.proofs.SaidFacts.{categories_said, date_said, hold_kind_said, id_said, ids_said, optional_said, patterns_said, state_said, sysmod_kind_said}
@@ -74,7 +75,7 @@ id_at row index is =
     let some = some_of (id_in (column row index)) is in
     let said = id_said (column row index) some.0 some.1 in (some.0, said.0, said.1)
 
-text_at : (value : Value) → is_any_text value ≡ true → value ≡ Text (text_in value)
+text_at : (value : Value) → is_token (text_in value) ≡ true → value ≡ Text (text_in value)
 text_at (Text t) is = refl
 text_at (Blob b) is = cc
 text_at (Int n) is = cc

@@ -15,7 +15,7 @@ use Rattle.sqlite_value.specs.declared.value.Value.TheVariants.{Int}
 use Rattle.sql_reads.specs.Answering.{Answers}
 use Rattle.sql_reads.specs.Columns.{indices_of}
 use Rattle.sql_reads.specs.Version.{version_in}
-use Rattle.sql_tables.proofs.StopFacts.{read_on, was_clean}
+use Rattle.sql_tables.proofs.StopFacts.{no_read, read_on, was_clean}
 use Rattle.sql_tables.specs.Ours.{held_by}
 use Rattle.sql_tables.proofs.TreeFacts.{shown_after}
 use Rattle.sql_tables.specs.InTrees.{columns_of, stored_in}
@@ -29,10 +29,10 @@ use Rattle.sql_texts.specs.Schema.{bureau}
 use Rattle.sql_reads.proofs.VersionFacts.{one_again}
 use Rattle.sql_checks.proofs.SaidFacts.{number_said}
 use Rattle.sql_checks.proofs.OursFacts.{ours}
-use Rattle.sql_checks.specs.Checked.{Finds, IsFound, IsRowSeen, IsSeen, Looks, TellsVersion2, WrongIn}
+use Rattle.sql_checks.specs.Checked.{AreOthers, Finds, IsFound, IsPublisherSeen, IsRowSeen, IsSeen, Looks, TellsVersion2, WrongIn}
 use Rattle.sql_checks.specs.declared.checking.Finding.{Finding}
-use Rattle.sql_checks.specs.declared.checking.Finding.TheVariants.{Whole, OtherTables, OtherVersion, WrongRow}
-use Rattle.sql_checks.specs.Kept.{KeepTo}
+use Rattle.sql_checks.specs.declared.checking.Finding.TheVariants.{Whole, OtherTables, OtherOrder, OtherVersion, WrongRow, NoPublisher}
+use Rattle.sql_checks.specs.Kept.{AreKept, KeepTo}
 use Rattle.sql_checks.specs.Known.{AllKeep, Known, names_of, query_of}
 use Rattle.sql_checks.specs.declared.table.StoreTable.{StoreTable}
 
@@ -67,7 +67,7 @@ look_on old mid new a (Err e) First Second Fact first second step = record { rea
 all_there : (P : Row → Type 0) (xs ys : List Row) → IsPermutation xs ys → AllByRecursion P xs → AllByRecursion P ys
 all_there P xs ys permuted all = recursion_from_All P ys (All-permutation P xs ys permuted (All-from_recursion P xs all))
 
-every : (rows : List Row) → filter (passes [] []) rows ≡ rows
+pub every : (rows : List Row) → filter (passes [] []) rows ≡ rows
 every [] = refl
 every (row ∷ rows) = ap (λ others. row ∷ others) (every rows)
 
@@ -151,18 +151,30 @@ pub wrong_more : (stored : Stored) (table : StoreTable) (rest tables : List Stor
 wrong_more stored table rest tables are kept None all = subst (AllByRecursion (λ t. KeepTo t stored)) (sym are) (kept, all)
 wrong_more stored table rest tables are kept (Some wrong) is = is
 
+pub publisher_seen : (database : Database) (finding : Finding) → AreKept (held_by database) → IsPublisherSeen database finding → IsRowSeen database finding
+publisher_seen database Whole kept has = (kept, has)
+publisher_seen database OtherTables kept none = absurd none
+publisher_seen database OtherOrder kept none = absurd none
+publisher_seen database OtherVersion kept none = absurd none
+publisher_seen database (WrongRow table) kept none = absurd none
+publisher_seen database NoPublisher kept none = none
+
 pub row_seen : (database : Database) (finding : Finding) → TellsVersion2 database → IsRowSeen database finding → IsSeen database finding
-row_seen database Whole two kept = (two, kept)
+row_seen database Whole two seen = (two, seen.0, seen.1)
 row_seen database OtherTables two none = absurd none
+row_seen database OtherOrder two none = absurd none
 row_seen database OtherVersion two none = absurd none
 row_seen database (WrongRow table) two wrong = wrong
+row_seen database NoPublisher two none = none
 
 -- what is seen of a database that obeys its schema is found of it
 pub seen_found : (database : Database) → IsDatabase database → database.schema ≡ bureau → (finding : Finding) → IsSeen database finding → IsFound database finding
-seen_found database obeys has Whole seen = (λ numbered. ours database obeys has numbered seen.0 seen.1, seen.1)
+seen_found database obeys has Whole seen = (λ numbered. ours database obeys has numbered seen.0 seen.1, seen.1, seen.2)
 seen_found database obeys has OtherTables seen = absurd seen
+seen_found database obeys has OtherOrder seen = absurd seen
 seen_found database obeys has OtherVersion seen = (has, seen)
 seen_found database obeys has (WrongRow table) seen = (has, seen)
+seen_found database obeys has NoPublisher seen = (has, seen)
 
 pub found_so : {Fault : Type 0} (old new : State) (result : Result Finding Fault) → Looks old new result IsSeen → (IsTrue old.is_open → old.committed.schema ≡ bureau)
     → (IsTrue old.is_open → IsDatabase old.committed) → Finds old new result IsFound
@@ -172,3 +184,23 @@ found_so old new (Ok finding) look has obeys = record {
   told = λ clean is_open. seen_found old.committed (obeys is_open) (has is_open) finding (look.told clean is_open (has is_open));
 }
 found_so old new (Err e) look has obeys = record { reads = look.reads; is_open = tt; told = tt }
+
+-- ---- other tables
+
+others_so : (database : Database) (finding : Finding) → (database.schema ≡ bureau → ⊥) → AreOthers database.schema finding → IsFound database finding
+others_so database Whole other none = absurd none
+others_so database OtherTables other are = (other, are)
+others_so database OtherOrder other are = (other, are)
+others_so database OtherVersion other none = absurd none
+others_so database (WrongRow table) other none = absurd none
+others_so database NoPublisher other none = absurd none
+
+-- the tables aren't the bureau's as it lists them
+pub others_found : {Fault : Type 0} (at : State) (result : Result Finding Fault) → (IsTrue at.is_open → at.committed.schema ≡ bureau → ⊥)
+    → IfOk result (λ finding. IsTrue at.is_open → AreOthers at.committed.schema finding) → Finds at at result IsFound
+others_found at (Ok finding) other are = record {
+  reads = no_read at;
+  is_open = λ clean on. on;
+  told = λ clean on. others_so at.committed finding (other on) (are on);
+}
+others_found at (Err fault) other are = record { reads = no_read at; is_open = tt; told = tt }

@@ -1,29 +1,25 @@
 -- The columns of a row, and the facts on a table. The file of each table has the rules of its rows.
-use Rattle.std.specs.Prelude.{◌≡◌, ℕ, Bool, true, false, List, IsSome, Some}
+use Rattle.std.specs.Prelude.{◌≡◌, ℕ, List, IsSome, IsTrue, Some}
 use Rattle.std.specs.List.{AllByRecursion}
+use Rattle.bureau_store.specs.Callers.{is_token}
 use Rattle.bureau_store.specs.Tables.{PatternsAscend}
 use Rattle.catalogue.specs.Ids.{Ascend}
 use Rattle.sqlite.specs.Query.{Query}
 use Rattle.sqlite.specs.Table.{Table}
 use Rattle.sqlite_value.specs.Order.{Row, column}
-use Rattle.sqlite_value.specs.declared.value.Value.{Value}
-use Rattle.sqlite_value.specs.declared.value.Value.TheVariants.{Null, Int, Real, Text, Blob}
 use Rattle.sql_tables.specs.Stored.{Stored}
-use Rattle.sql_tables.specs.Values.{id_in, ids_in, patterns_in}
+use Rattle.sql_tables.specs.Values.{id_in, ids_in, patterns_in, text_in}
 use Rattle.sql_texts.specs.Schema.{columns_of}
 use Rattle.sql_reads.specs.Columns.{all_of}
 
 -- ---- what stands in a column
 
-abbrev pub is_any_text : Value → Bool
-is_any_text (Text t) = true
-is_any_text (Blob b) = false
-is_any_text (Int n) = false
-is_any_text (Real x) = false
-is_any_text Null = false
-
 abbrev pub IsIdColumn : Row → ℕ → Type 0
 IsIdColumn row index = IsSome (id_in (column row index))
+
+-- the text of a token
+abbrev pub IsTokenColumn : Row → ℕ → Type 0
+IsTokenColumn row index = IsTrue (is_token (text_in (column row index)))
 
 -- a list of ids that ascend, each once
 abbrev pub AreIdsColumn : Row → ℕ → Type 0

@@ -2,6 +2,8 @@ pub mod Checked
 pub mod Kept
 pub mod Known
 pub mod Looked
+pub mod Order
 pub mod Refused
 pub mod Shapes
 pub mod Tally
+pub mod Written

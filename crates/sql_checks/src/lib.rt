@@ -6,11 +6,12 @@
 //!   [`tally_text`]: the same as text
 //! - [`StoreTable`]: a table whose rows are checked
 //! - [`is_store_schema`]: whether tables and indexes are those of version 2, made as the bureau makes them
-//! - [`law`]: a law of every connection
+//! - [`law`]: laws on rows, and on every connection
 //!
-//! `specs/` has the rules of a row (`Kept`), the findings of a check (`Checked`), the amounts of a store (`Tally`),
-//! and why each of these is refused (`Refused`). A database that is found whole is the bureau's own (`IsOurs` of
-//! `sql_tables`), and with that begins all that is promised of a store.
+//! `specs/` has the rules of a row (`Kept`) and the rows that the bureau writes (`Written`), the findings of a check
+//! (`Checked`), the order in which tables may be listed (`Order`), the amounts of a store (`Tally`), and why each of
+//! these is refused (`Refused`). A database that is found whole is the bureau's own (`IsOurs` of `sql_tables`), and with
+//! that begins all that is promised of a store.
 #![tactic(auto)]
 
 mod asked;
@@ -18,6 +19,8 @@ mod checked;
 mod checking;
 pub mod law;
 mod looking;
+mod order;
+mod publisher;
 mod rules;
 mod said;
 mod scan;

@@ -87,8 +87,12 @@ fn has_shape(table: &Table, shape: &TableShape) -> bool
         && !table.is_counted
 }
 
-// Whether a table has this shape.
-fn is_table(alloc: Global, table: &Table, shape: &TableShape) -> Result<bool, AllocError>
+/// Whether a table has this shape.
+///
+/// # Errors
+///
+/// Memory ran out.
+pub(crate) fn is_table(alloc: Global, table: &Table, shape: &TableShape) -> Result<bool, AllocError>
     ensures { IfOk result (λ is. IsTrue is ↔ (table.now ≡ table_of_shape shape.now)) }
 {
     let ruled = has_rule(alloc, &table.checks, shape.rule)?;
@@ -111,8 +115,8 @@ fn are_tables(alloc: Global, tables: &[Table], shapes: &[TableShape]) -> Result<
     }
 }
 
-// Whether an index has this shape.
-fn is_index(index: &Index, shape: &IndexShape) -> bool
+/// Whether an index has this shape.
+pub(crate) fn is_index(index: &Index, shape: &IndexShape) -> bool
     ensures { IsTrue result ↔ (index.now ≡ index_of_shape shape.now) }
 {
     index.name.as_slice() == shape.name.as_bytes()

@@ -1,8 +1,10 @@
 //! Whether the value in a column of a row is one that the bureau writes.
-ghost use Rattle.std.specs.Prelude.{◌≡◌, ◌↔◌, IfOk, IsSome, IsTrue};
+ghost use Rattle.std.specs.Prelude.{◌≡◌, ◌&&◌, ◌↔◌, nat_le, IfOk, IsSome, IsTrue};
+ghost use Rattle.std.specs.List.{list_all};
+ghost use Rattle.bureau_store.specs.Callers as callers;
 ghost use Rattle.sqlite_value.specs.Order as order;
 ghost use Rattle.sqlite_value.specs.Value.{owned};
-ghost use Rattle.sql_checks.specs.Known.{AreIdsColumn, ArePatternsColumn, IsIdColumn, is_any_text};
+ghost use Rattle.sql_checks.specs.Known.{AreIdsColumn, ArePatternsColumn, IsIdColumn, IsTokenColumn};
 ghost use Rattle.sql_tables.specs.Values as value;
 
 use catalogue::Ids;
@@ -26,11 +28,39 @@ pub(crate) fn is_id(row: &Row, at: usize) -> bool
     id_in(column(row, at)).is_some()
 }
 
-/// Whether a column has a text.
-pub(crate) fn is_text(row: &Row, at: usize) -> bool
-    ensures { result ≡ is_any_text (order.column row.now at) }
+/// Whether a column has a token.
+pub(crate) fn is_token(row: &Row, at: usize) -> bool
+    ensures { IsTrue result ↔ IsTokenColumn row.now at }
 {
-    matches!(column(row, at), ValueRef::Text(_))
+    match column(row, at) {
+        ValueRef::Text(text) => is_token_text(text),
+        _ => false,
+    }
+}
+
+// Whether the text is a token: 8 to 64 bytes of its alphabet.
+fn is_token_text(text: &[u8]) -> bool
+    ensures { result ≡ callers.is_token text.now }
+{
+    is_token_length(text.len()) && are_token_bytes(text)
+}
+
+fn is_token_length(length: usize) -> bool
+    ensures { result ≡ (nat_le 8 length && nat_le length 64) }
+{
+    length >= 8 && length <= 64
+}
+
+fn are_token_bytes(text: &[u8]) -> bool
+    ensures { result ≡ list_all callers.is_token_byte text.now }
+{
+    text.iter().all(|b| is_token_byte(*b))
+}
+
+fn is_token_byte(b: u8) -> bool
+    ensures { result ≡ callers.is_token_byte b }
+{
+    matches!(b, b'A'..=b'Z' | b'a'..=b'z' | b'0'..=b'9' | b'-' | b'.' | b'_' | b'~')
 }
 
 /// Whether a column has a number of at least 0.

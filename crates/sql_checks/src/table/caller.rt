@@ -2,7 +2,7 @@
 
 use crate::checked::Checked;
 use crate::shapes::TableShape;
-use crate::values::{is_id, is_text};
+use crate::values::{is_id, is_token};
 use sql_rows::Callers;
 use sql_tables::NoMemory;
 use sqlite::Row;
@@ -10,11 +10,9 @@ use sqlite_schema::schema::Kind;
 use std::alloc::Global;
 
 impl Checked for Callers {
-    ghost use Rattle.std.specs.Prelude.{IsTrue};
-    ghost use Rattle.sqlite_value.specs.Order.{column};
-    ghost use Rattle.sql_checks.specs.Known.{IsIdColumn, is_any_text};
+    ghost use Rattle.sql_checks.specs.Known.{IsIdColumn, IsTokenColumn};
 
-    ghost keeps_to = { λ row. IsIdColumn row 0 × IsTrue (is_any_text (column row 1)) };
+    ghost keeps_to = { λ row. IsIdColumn row 0 × IsTokenColumn row 1 };
 
     fn shape() -> TableShape {
         TableShape {
@@ -29,7 +27,7 @@ impl Checked for Callers {
     }
 
     fn keeps(_alloc: Global, row: &Row) -> Result<bool, NoMemory> {
-        Ok(is_id(row, 0) && is_text(row, 1))
+        Ok(is_id(row, 0) && is_token(row, 1))
     }
 
     ghost as_shown = { λ row. (λ keeps. keeps, λ keeps. keeps) };

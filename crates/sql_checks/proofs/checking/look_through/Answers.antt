@@ -9,17 +9,17 @@ use Rattle.sql_checks.proofs.checking.look_through.Goals as goal
 
 pub returns-in-Ok-true-clause-looks : goal.returns-in-Ok-true-clause-looks
 returns-in-Ok-true-clause-looks g c =
-    look_on (state g.S.Store c.args.conn.now) (state g.S.Store c.is_version_2.new.conn) (state g.S.Store c.wrong_row.new.conn) c.in-Ok-true.field-0 c.wrong_row.result _ IsRowSeen IsSeen
-    c.in-Ok-true.ensures.looks c.wrong_row.ensures.looks (λ database finding told seen. row_seen database finding (told.0 c.in-Ok-true.field-0-test) seen)
+    look_on (state g.S.Store c.args.conn.now) (state g.S.Store c.is_version_2.new.conn) (state g.S.Store c.look_at_rows.new.conn) c.in-Ok-true.field-0 c.look_at_rows.result _ IsRowSeen IsSeen
+    c.in-Ok-true.ensures.looks c.look_at_rows.ensures.looks (λ database finding told seen. row_seen database finding (told.0 c.in-Ok-true.field-0-test) seen)
 
 pub returns-in-Ok-true-clause-cause : goal.returns-in-Ok-true-clause-cause
 returns-in-Ok-true-clause-cause g c =
-    IfErr-weaker c.wrong_row.result _ _
+    IfErr-weaker c.look_at_rows.result _ _
     (λ fault told device clean.
-    caused_so AreUnseen IsUnseen (state g.S.Store c.args.conn.now) (state g.S.Store c.wrong_row.new.conn) (λ limit database why. inr why)
-    (caused_after AreUnseen (state g.S.Store c.args.conn.now) (state g.S.Store c.is_version_2.new.conn) (state g.S.Store c.wrong_row.new.conn) c.in-Ok-true.ensures.looks.reads
-    c.in-Ok-true.ensures.looks.is_open c.wrong_row.ensures.looks.reads clean (told device clean)))
-    c.wrong_row.ensures.cause
+    caused_so AreUnseen IsUnseen (state g.S.Store c.args.conn.now) (state g.S.Store c.look_at_rows.new.conn) (λ limit database why. inr why)
+    (caused_after AreUnseen (state g.S.Store c.args.conn.now) (state g.S.Store c.is_version_2.new.conn) (state g.S.Store c.look_at_rows.new.conn) c.in-Ok-true.ensures.looks.reads
+    c.in-Ok-true.ensures.looks.is_open c.look_at_rows.ensures.looks.reads clean (told device clean)))
+    c.look_at_rows.ensures.cause
 
 pub returns-in-Err-clause-cause : goal.returns-in-Err-clause-cause
 returns-in-Err-clause-cause g c device clean =
