@@ -29,13 +29,13 @@ use Rattle.sqlite.specs.State.{HasCleanDisk, State}
 use Rattle.sql_checks.proofs.CauseFacts.{caused_after, caused_so, later_caused}
 use Rattle.sql_checks.proofs.ScanFacts.{look_on, look_so}
 use Rattle.sql_checks.proofs.TallyFacts.{read_looks}
-use Rattle.sql_checks.specs.Checked.{Finds, IsFound, IsOursIfNumbered, Looks}
+use Rattle.sql_checks.specs.Checked.{Finds, HasPublisher, IsFound, IsOursIfNumbered, Looks}
 use Rattle.sql_checks.specs.Kept.{AreKept}
 use Rattle.sql_checks.specs.Refused.{IsCausedBy, IsUnread, IsUnsaid, IsUntallied, SaysCallers, of_callers}
 use Rattle.sql_checks.specs.Tally.{IsTallyOf, tally_text}
 use Rattle.sql_checks.specs.declared.checking.Finding.{Finding}
-use Rattle.sql_checks.specs.declared.checking.Finding.TheVariants.{OtherTables, OtherVersion, Whole, WrongRow}
-use Rattle.sql_checks.specs.declared.table.StoreTable.{StoreTable}
+use Rattle.sql_checks.specs.declared.checking.Finding.TheVariants.{NoPublisher, OtherOrder, OtherTables, OtherVersion, Whole, WrongRow}
+use Rattle.sql_checks.specs.declared.table.StoreTable.TheVariants.{Caller}
 use Rattle.sql_checks.specs.declared.tallies.StoreTally.{StoreTally}
 use Rattle.sql_reads.specs.Version.{HasVersion}
 use Rattle.sql_reads.specs.declared.fault.ReadFault.{ReadFault}
@@ -53,6 +53,8 @@ use Rattle.store_runs.specs.Desk.{of_store}
 use Rattle.store_runs.specs.Ended.{HasEnded, HasFound, IsEndOf, IsRefused}
 use Rattle.store_runs.specs.Keeping.{HasNoTables, Keeps as Always, KeepsFound, TellsOnly}
 use Rattle.store_runs.specs.declared.checking.CheckFault.{CheckFault}
+use Rattle.store_runs.specs.declared.checking.CheckPlace.{CheckPlace}
+use Rattle.store_runs.specs.declared.checking.CheckPlace.TheVariants.{Table}
 use Rattle.store_runs.specs.declared.ended.Ended.{Ended}
 use Rattle.store_runs.specs.declared.ended.Ended.TheVariants.{Nothing, Left, Closed}
 use Rattle.transfer.specs.Transfer.{AppendsFront}
@@ -151,6 +153,7 @@ module _ (before opened after : State) (servable : IsServable before opened) (re
           conditions = (servable.found there).1;
           ours = subst IsOursIfNumbered same it.0.0;
           kept = subst (λ database. AreKept (held_by database)) same it.0.1;
+          publisher = subst HasPublisher same it.0.2;
         },
         λ ours. subst (λ database. IsTextOf (tables_of (held_by database)) text) same (it.1 (subst IsOurs (sym same) ours)),
       )
@@ -227,9 +230,9 @@ kept_read from found left (Closed last) finds rests reads ends = kept_closed fro
 some_told : (one other : CheckFault) → ◌≡◌ {A = Option CheckFault} (Some one) (Some other) → one ≡ other
 some_told one other same = cc
 
-untabled : {P : Type 0} (one other : CheckFault) (table : StoreTable) → one ≡ other → one.table ≡ None → other.table ≡ Some table → P
-untabled one other table same none some =
-    absurd (let both : ◌≡◌ {A = Option StoreTable} None (Some table) = sym none ∙ ap (λ (told : CheckFault). told.table) same ∙ some in cc)
+unplaced : {P : Type 0} (one other : CheckFault) (place : CheckPlace) → one ≡ other → one.place ≡ None → other.place ≡ Some place → P
+unplaced one other place same none some =
+    absurd (let both : ◌≡◌ {A = Option CheckPlace} None (Some place) = sym none ∙ ap (λ (told : CheckFault). told.place) same ∙ some in cc)
 
 same_fault : (one other : StoreFault) → in_no_table (of_store one) ≡ in_no_table (of_store other) → one ≡ other
 same_fault one other same = told_once one other (ap (λ (told : CheckFault). told.fault) same)
@@ -238,9 +241,11 @@ same_fault one other same = told_once one other (ap (λ (told : CheckFault). tol
 ours_seen : (database : Database) → IsOurs database → (finding : Finding) (told : CheckFault) (fault : StoreFault) → told ≡ in_no_table (of_store fault)
     → IsToldAs finding told → IsFound database finding → IsOfRead fault
 ours_seen database ours Whole told fault is said found = absurd said
-ours_seen database ours OtherTables told fault is said found = absurd (found ours.schema)
+ours_seen database ours OtherTables told fault is said found = absurd (found.0 ours.schema)
+ours_seen database ours OtherOrder told fault is said found = absurd (found.0 ours.schema)
 ours_seen database ours OtherVersion told fault is said found = absurd (found.1 (ap (map (shown (2 ∷ []))) ours.rows.version))
-ours_seen database ours (WrongRow table) told fault is said found = untabled (in_no_table (of_store fault)) _ table (sym is ∙ said) refl refl
+ours_seen database ours (WrongRow table) told fault is said found = unplaced (in_no_table (of_store fault)) _ (Table table) (sym is ∙ said) refl refl
+ours_seen database ours NoPublisher told fault is said found = unplaced (in_no_table (of_store fault)) _ (Table Caller) (sym is ∙ said) refl refl
 
 module _ {D : Type 0} {g : Ghosts D} (from : Image) (found left : Held (FileStore D g)) (finds : HasFound from found) (reads : OnlyReads (file_state found) (file_state left))
     (last : FileStore D g) (ends : HasEnded left last) where

@@ -1,5 +1,6 @@
 -- What `init` leaves of a database, and what it and an opening tell.
-use Rattle.std.proofs.Common.{◌≡◌, ◌∙◌, ℕ, List, Option, Some, Ok, IsTrue, ap, arith, inl, inr, refl, subst, sym, true}
+use Rattle.std.proofs.Common.{◌≡◌, ◌⊎◌, ◌∙◌, ℕ, List, Option, Some, Ok, IsTrue, ap, arith, inl, inr, refl, subst, sym, true}
+use Rattle.std.specs.Prelude.{Bool, is_none}
 use Rattle.std.specs.Io.KnownBytes.{Keeps}
 use Rattle.faults.specs.declared.any.AnyFault.{AnyFault}
 use Rattle.bureau_sql.proofs.CallersFacts.{callers_fit}
@@ -24,11 +25,15 @@ use Rattle.bureau_store.specs.Callers.{callers_of}
 use Rattle.bureau_store.specs.declared.caller.CallerRow.{CallerRow}
 use Rattle.bureau_store.specs.declared.fault.StoreFault.{StoreFault}
 use Rattle.store_runs.specs.Asked.{Asked, AsksFor, Connected, refused_with}
-use Rattle.store_runs.specs.Desk.{HasOpened, InitSurvives, IsInitLeft, IsInitRefused, IsInitRun, IsOpenRefused, of_store}
+use Rattle.store_runs.specs.Desk.{HasOpened, InitSurvives, IsInitLeft, IsInitRefused, IsInitRun, IsOpenRefused, of_store, of_unopened}
 use Rattle.store_runs.specs.Ended.{HasFound, IsEndOf, IsRefused}
-use Rattle.run_parts.specs.Outputs.{IsTold, run_status, IsToldAlone, Outputs}
-use Rattle.store_runs.specs.NamedStore.{IsInit}
-use Rattle.run_parts.specs.Files.{KnownFile, IsContent}
+use Rattle.run_parts.specs.Outputs.{IsEndedBy, IsTold, run_status, IsToldAlone, Outputs}
+use Rattle.run_parts.specs.ProgramFault.{of_program}
+use Rattle.run_parts.specs.declared.fault.ProgramFault.{ProgramFault}
+use Rattle.run_parts.specs.declared.fault.ProgramFault.TheVariants.{Memory, NotRead}
+use Rattle.faults.specs.Refusal.{IsRefusal}
+use Rattle.store_runs.specs.NamedStore.{IsInit, IsLookedAt}
+use Rattle.run_parts.specs.Files.{KnownFile}
 use Rattle.store_runs.specs.declared.ended.Ended.{Ended}
 use Rattle.store_runs.proofs.AskedFacts.{once_connected, once_refused}
 use Rattle.store_runs.proofs.StayFacts.{kept_found}
@@ -104,16 +109,24 @@ pub open_refused : (Has : StoreFault → Type 0) (fault : StoreFault) (any : Any
 open_refused Has fault any old new status has is told status_is =
     (fault, has, subst (λ (it : AnyFault). IsTold (Some it) old new) is told, status_is ∙ ap (λ it. run_status (Some it)) is)
 
+-- the callers file can't be read, or memory ran out
+pub not_read : (fault : ProgramFault) (outputs : Outputs) (status : ℕ) → IsRefusal Memory (λ fault. fault ≡ NotRead) fault → Keeps outputs.output outputs.written
+    → IsTold (Some (of_program fault)) outputs.errors outputs.told → status ≡ 3 → IsEndedBy NotRead outputs status ⊎ IsEndedBy Memory outputs status
+not_read fault outputs status (inl memory) keeps told is = inr (keeps, subst (λ (it : ProgramFault). IsTold (Some (of_program it)) outputs.errors outputs.told) memory told, is)
+not_read fault outputs status (inr unread) keeps told is = inl (keeps, subst (λ (it : ProgramFault). IsTold (Some (of_program it)) outputs.errors outputs.told) unread told, is)
+
 -- ---- over files
 
-module _ (files : List ℕ → KnownFile) (asked asked_after : Asked) (from : Image) {D : Type 0} {g : disk.Ghosts D} (ended : Ended D g) where
+module _ (files : List ℕ → KnownFile) (asked asked_after : Asked) (from : Image) {D : Type 0} {g : disk.Ghosts D} (ended : Ended D g)
+    (name callers source : List ℕ) (theirs : Option AnyFault) (is : IsLookedAt (files callers) source theirs) (makes : Bool) (makes_is : makes ≡ is_none theirs) (outputs : Outputs) (status : ℕ) where
   -- a connection was made, a store was made in its database or not, and it was ended
-  pub made_over_files : (name callers source : List ℕ) (outputs : Outputs) (status : ℕ) (found left : Held (FileStore D g)) → AsksFor asked asked_after name true from Connected → IsContent (files callers) source
+  pub made_over_files : (found left : Held (FileStore D g)) → AsksFor asked asked_after name makes from Connected
       → HasFound from found → IsEndOf left ended → IsAtRest (file_state found) → InitSurvives source (file_state found) (file_state left)
       → IsInitRun (λ outcome. IsInitLeft outcome source (file_state found) (file_state left)) source outputs.output outputs.written outputs.errors outputs.told status
       → IsInit files asked asked_after from name callers outputs status ended
-  made_over_files name callers source outputs status found left asks is finds ends rested stopped run = inl (record {
+  made_over_files found left asks finds ends rested stopped run = inl (record {
     source = source;
+    theirs = theirs;
     callers_are = is;
     made = record {
       outcome = run.outcome;
@@ -123,21 +136,27 @@ module _ (files : List ℕ → KnownFile) (asked asked_after : Asked) (from : Im
       status_is = run.status_is;
     };
     kept = kept_made from source run.outcome ended (record { found = found; finds = finds; left = left; used = (rested, run.left, stopped); ends = ends });
-    asks = once_connected asked asked_after name true from (λ fault. run.outcome ≡ Some (of_store fault)) ended left ends asks;
+    asks = once_connected asked asked_after name (is_none theirs) from (λ fault. run.outcome ≡ Some (of_store fault)) ended left ends
+        (subst (λ (it : Bool). AsksFor asked asked_after name it from Connected) makes_is asks);
   })
 
   -- no connection could be made
-  pub not_connected : (name callers : List ℕ) (outputs : Outputs) (status : ℕ) (fault : StoreFault) (any : AnyFault) → AsksFor asked asked_after name true from (refused_with fault ended)
-      → IsRefused true from fault ended → any ≡ of_store fault → Keeps outputs.output outputs.written → IsTold (Some any) outputs.errors outputs.told → status ≡ run_status (Some any)
+  pub not_connected : (fault : StoreFault) (any : AnyFault) → AsksFor asked asked_after name makes from (refused_with fault ended)
+      → IsRefused makes from fault ended → any ≡ of_unopened theirs fault → Keeps outputs.output outputs.written → IsTold (Some any) outputs.errors outputs.told → status ≡ run_status (Some any)
       → IsInit files asked asked_after from name callers outputs status ended
-  not_connected name callers outputs status fault any asks refused is keeps told status_is = inr (inl (record {
+  not_connected fault any asks refused same keeps told status_is = inr (inl (record {
+    source = source;
+    theirs = theirs;
+    callers_are = is;
     fault = fault;
-    refused = refused;
+    refused = subst (λ (it : Bool). IsRefused it from fault ended) makes_is refused;
     kept = kept_found from ended refused.left;
-    told = subst (λ (any : AnyFault). IsToldAlone any outputs status) is (keeps, told, status_is);
-    asks = once_refused asked asked_after name true from (λ told. told ≡ fault) ended fault refused.left refl asks;
+    told = subst (λ (any : AnyFault). IsToldAlone any outputs status) same (keeps, told, status_is);
+    asks = once_refused asked asked_after name (is_none theirs) from (λ told. told ≡ fault) ended fault refused.left refl
+        (subst (λ (it : Bool). AsksFor asked asked_after name it from (refused_with fault ended)) makes_is asks);
   }))
 
+module _ (files : List ℕ → KnownFile) (asked asked_after : Asked) (from : Image) {D : Type 0} {g : disk.Ghosts D} (ended : Ended D g) where
   -- the same of names that are the same
   pub same_init : (name name_slice callers callers_slice : List ℕ) (outputs : Outputs) (status : ℕ) → name_slice ≡ name → callers_slice ≡ callers
       → IsInit files asked asked_after from name_slice callers_slice outputs status ended → IsInit files asked asked_after from name callers outputs status ended

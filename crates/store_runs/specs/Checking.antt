@@ -1,5 +1,5 @@
 -- The output of `check`, and why it ends.
-use Rattle.std.specs.Prelude.{◌≡◌, ◌⊎◌, false, ℕ, IsTrue, List, map, Option, Some, None, Result, Ok, Err}
+use Rattle.std.specs.Prelude.{◌≡◌, ◌⊎◌, false, ℕ, IsTrue, List, codes, map, Option, Some, None, Result, Ok, Err}
 use Rattle.std.specs.Io.KnownBytes.{Appends, Keeps}
 use Rattle.std.specs.List.Sorted.{IsPermutation}
 use Rattle.faults.specs.FaultText.{text_of}
@@ -12,13 +12,13 @@ use Rattle.bureau_store.specs.declared.fault.StoreFault.{StoreFault}
 use Rattle.bureau_store.specs.declared.fault.StoreFault.TheVariants.{Device, Memory, Shape, Version}
 use Rattle.bureau_sql.specs.Opening.{HasConditions, HasTables, IsNoStore}
 use Rattle.bureau_sql.specs.SqlView.{IsAtRest}
-use Rattle.sql_checks.specs.Checked.{IsFound, IsOursIfNumbered}
+use Rattle.sql_checks.specs.Checked.{HasPublisher, IsFound, IsOursIfNumbered}
 use Rattle.sql_checks.specs.Kept.{AreKept, table_name}
 use Rattle.sql_checks.specs.Refused.{IsCausedBy, IsUnread, IsUnsaid, IsUntallied, SaysCallers, of_callers}
 use Rattle.sql_checks.specs.Tally.{IsTallyOf, tally_text}
 use Rattle.sql_checks.specs.declared.checking.Finding.{Finding}
-use Rattle.sql_checks.specs.declared.checking.Finding.TheVariants.{Whole, OtherTables, OtherVersion, WrongRow}
-use Rattle.sql_checks.specs.declared.table.StoreTable.{StoreTable}
+use Rattle.sql_checks.specs.declared.checking.Finding.TheVariants.{Whole, OtherTables, OtherOrder, OtherVersion, WrongRow, NoPublisher}
+use Rattle.sql_checks.specs.declared.table.StoreTable.TheVariants.{Caller}
 use Rattle.sql_checks.specs.declared.tallies.StoreTally.{StoreTally}
 use Rattle.sql_reads.specs.Version.{HasVersion}
 use Rattle.sql_reads.specs.declared.fault.ReadFault.{ReadFault}
@@ -39,11 +39,22 @@ use Rattle.store_runs.specs.Desk.{of_store}
 use Rattle.store_runs.specs.Ended.{IsRefused, IsUsed}
 use Rattle.store_runs.specs.Keeping.{KeepsFound, TellsOnly}
 use Rattle.store_runs.specs.declared.checking.CheckFault.{CheckFault}
+use Rattle.store_runs.specs.declared.checking.CheckPlace.{CheckPlace}
+use Rattle.store_runs.specs.declared.checking.CheckPlace.TheVariants.{Table, Listing}
 use Rattle.store_runs.specs.declared.ended.Ended.{Ended}
 
 -- a fault that is in no table
 abbrev pub in_no_table : AnyFault → CheckFault
-in_no_table fault = record { fault = fault; table = None }
+in_no_table fault = record { fault = fault; place = None }
+
+-- a store that is wrong at this place
+abbrev pub wrong_in : CheckPlace → CheckFault
+wrong_in place = record { fault = of_store Shape; place = Some place }
+
+-- the name of the table of a place; the tables and indexes are listed in `sqlite_schema`
+abbrev pub place_name : CheckPlace → List ℕ
+place_name (Table table) = table_name table
+place_name Listing = codes "sqlite_schema"
 
 -- ---- what is found
 
@@ -56,13 +67,14 @@ pub record IsTextOf (tables : Tables) (text : List ℕ) : Type 0 where
   pub tallied : IsTallyOf tables callers tally
   pub is : text ≡ tally_text tally
 
--- A desk takes the database for a store, it is the bureau's own, and each of its rows is one that a read takes.
+-- A desk takes the database for a store, it is the bureau's own, each of its rows is one that a read takes, and it has a publisher.
 pub record IsWholeStore (database : Database) : Type 0 where
   pub version : HasVersion (Some 2) database
   pub tables : HasTables database.schema
   pub conditions : HasConditions database.schema
   pub ours : IsOursIfNumbered database
   pub kept : AreKept (held_by database)
+  pub publisher : HasPublisher database
 
 -- it is such a store, and the text tells how much it has
 abbrev pub IsToldWhole : State → State → List ℕ → Type 0
@@ -74,15 +86,17 @@ IsToldWhole before after text =
 abbrev pub IsToldAs : Finding → CheckFault → Type 0
 IsToldAs Whole told = ⊥
 IsToldAs OtherTables told = told ≡ in_no_table (of_store Shape)
+IsToldAs OtherOrder told = told ≡ wrong_in Listing
 IsToldAs OtherVersion told = told ≡ in_no_table (of_store Version)
-IsToldAs (WrongRow table) told = told ≡ record { fault = of_store Shape; table = Some table }
+IsToldAs (WrongRow table) told = told ≡ wrong_in (Table table)
+IsToldAs NoPublisher told = told ≡ wrong_in (Table Caller)
 
 -- a desk wouldn't take the database for a store
 abbrev pub IsUnservable : State → State → CheckFault → Type 0
 IsUnservable before after told =
     (refused : StoreFault) × (told ≡ in_no_table (of_store refused)) × (HasCleanDisk after → IsNoStore before after refused)
 
--- it isn't the bureau's own, or a row of the table in the answer isn't one that the bureau writes
+-- it isn't the bureau's own, or a row of the table in the answer isn't one that the bureau writes, or it has no publisher
 abbrev pub IsUnsound : State → State → CheckFault → Type 0
 IsUnsound before after told = (finding : Finding) × IsToldAs finding told × (HasCleanDisk after → IsFound before.committed finding)
 
@@ -112,15 +126,15 @@ IsCheckOutput (Some told) before after old new =
     ((told ≡ in_no_table (of_program NotWritten)) × (text : List ℕ) × IsToldWhole before after text × AppendsFront old new text)
     ⊎ (IsWrong before after told × Keeps old new)
 
--- the line of a fault, with the table that has the wrong row
-abbrev pub check_line : CheckFault → Option StoreTable → List ℕ
+-- the line of a fault, with the name of the table that is wrong
+abbrev pub check_line : CheckFault → Option CheckPlace → List ℕ
 check_line told None = text_of told.fault
-check_line told (Some table) = line_in told.fault (table_name table)
+check_line told (Some place) = line_in told.fault (place_name place)
 
 -- standard error gets nothing, or the line that tells the fault, as far as it takes it
 abbrev pub IsCheckTold : Option CheckFault → Option (List ℕ) → Option (List ℕ) → Type 0
 IsCheckTold None old new = Keeps old new
-IsCheckTold (Some told) old new = AppendsFront old new (check_line told told.table)
+IsCheckTold (Some told) old new = AppendsFront old new (check_line told told.place)
 
 abbrev pub check_status : Option CheckFault → ℕ
 check_status None = 0

@@ -11,6 +11,8 @@ use Rattle.bureau_store.specs.declared.caller.CallerRow.{CallerRow}
 use Rattle.bureau_store.specs.declared.fault.CallerFault.{CallerFault}
 use Rattle.bureau_store.specs.declared.fault.CallerFault.TheVariants as callers
 use Rattle.bureau_store.specs.declared.fault.StoreFault.{StoreFault}
+use Rattle.bureau_store.specs.declared.fault.StoreFault.TheVariants.{Device, Shape, Size, Version}
+use Rattle.bureau_store.specs.declared.fault.StoreFault.TheVariants as refused
 use Rattle.bureau_sql.specs.Founded.{AreFounded, IsNotFounded, IsNotMade}
 use Rattle.bureau_sql.specs.Opening.{HasConditions, HasTables, IsNoStore}
 use Rattle.bureau_sql.specs.SqlState.{SqlState}
@@ -53,6 +55,21 @@ IsCallersFault source fault =
     ((refused : CallerFault) × (callers_of source ≡ Err refused) × (fault ≡ callers_fault.told refused))
     ⊎ (fault ≡ callers_fault.told callers.Memory)
     ⊎ (fault ≡ of_program Memory)
+
+-- a callers file has rows, or this fault
+abbrev pub MayHaveFault : List ℕ → Option AnyFault → Type 0
+MayHaveFault source None = (rows : List CallerRow) × AreRowsOf source rows
+MayHaveFault source (Some fault) = IsCallersFault source fault
+
+-- What is told of a store that can't be opened: its own fault. If its file isn't there, and none is made since the callers have a fault,
+-- it is theirs.
+abbrev pub of_unopened : Option AnyFault → StoreFault → AnyFault
+of_unopened None fault = of_store fault
+of_unopened (Some theirs) Shape = theirs
+of_unopened (Some theirs) refused.Memory = of_store refused.Memory
+of_unopened (Some theirs) Device = of_store Device
+of_unopened (Some theirs) Size = of_store Size
+of_unopened (Some theirs) Version = of_store Version
 
 -- that, or the store can't be made
 abbrev pub IsInitFault : List ℕ → AnyFault → Type 0

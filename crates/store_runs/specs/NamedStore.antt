@@ -1,54 +1,57 @@
 -- What `init`, `migrate` and `callers` do with a store, by the name of its file: what they read, which store they ask for, what is left of
 -- its files, what both streams get, and the exit status.
-use Rattle.std.specs.Prelude.{◌≡◌, ◌⊎◌, ℕ, List, false, true, Some}
+use Rattle.std.specs.Prelude.{◌≡◌, ◌⊎◌, ℕ, List, Option, Some, false, is_none}
 use Rattle.faults.specs.declared.any.AnyFault.{AnyFault}
 use Rattle.bureau_store.specs.declared.caller.CallerRow.{CallerRow}
 use Rattle.bureau_store.specs.declared.fault.StoreFault.{StoreFault}
 use Rattle.sqlite_disk.specs.declared.Disk as disk
 use Rattle.sqlite_wal.specs.Recovery.{Image}
 use Rattle.run_parts.specs.Files.{KnownFile, IsContent}
-use Rattle.run_parts.specs.Outputs.{Outputs, IsToldAlone}
+use Rattle.run_parts.specs.Outputs.{Outputs, IsEndedBy, IsToldAlone}
 use Rattle.run_parts.specs.ProgramFault.{of_program}
 use Rattle.run_parts.specs.declared.fault.ProgramFault.TheVariants.{NotRead, Memory}
 use Rattle.store_runs.specs.Asked.{Asked, AsksOnce}
 use Rattle.store_runs.specs.Callers.{IsCallersRun, KeepsCallers, files_set}
-use Rattle.store_runs.specs.Desk.{AreRowsOf, IsCallersFault, IsInitRun, LeavesMade, of_store}
+use Rattle.store_runs.specs.Desk.{AreRowsOf, IsCallersFault, IsInitRun, LeavesMade, MayHaveFault, of_store, of_unopened}
 use Rattle.store_runs.specs.Ended.{IsNothing, IsRefused}
 use Rattle.store_runs.specs.Keeping.{KeepsFound, KeepsMade, KeepsMigrated}
 use Rattle.store_runs.specs.Migrating.{IsMigrateRun, LeavesMigrated}
 use Rattle.store_runs.specs.declared.ended.Ended.{Ended}
 
--- the callers file has a fault
-abbrev pub HasCallerFault : KnownFile → AnyFault → Type 0
-HasCallerFault callers fault = (source : List ℕ) × IsContent callers source × IsCallersFault source fault
-
--- the callers file can't be read or has a fault, or memory ran out
-abbrev pub IsNotBegun : KnownFile → AnyFault → Type 0
-IsNotBegun callers fault = (fault ≡ of_program NotRead) ⊎ (fault ≡ of_program Memory) ⊎ HasCallerFault callers fault
+-- the callers file was read, and has this fault, if it has one
+pub record IsLookedAt (callers : KnownFile) (source : List ℕ) (fault : Option AnyFault) : Type 0 where
+  pub content : IsContent callers source
+  pub fault_is : MayHaveFault source fault
 
 -- Of the files by their names, of the stores that were asked for before the run and by its end, and of what those of its own held.
 module _ (files : List ℕ → KnownFile) (asked asked_after : Asked) (from : Image) {D : Type 0} {g : disk.Ghosts D} where
-  -- the callers file is read, and a store with its callers is made in the database that a connection finds in the store's files
+  -- A store with the callers of the callers file is made in the database that a connection finds in the store's files. A file that
+  -- isn't there was to be made for callers without a fault alone.
   pub record IsMade (name callers : List ℕ) (outputs : Outputs) (status : ℕ) (ended : Ended D g) : Type 0 where
     pub source : List ℕ
-    pub callers_are : IsContent (files callers) source
+    pub theirs : Option AnyFault
+    pub callers_are : IsLookedAt (files callers) source theirs
     pub made : IsInitRun (λ outcome. LeavesMade from source outcome ended) source outputs.output outputs.written outputs.errors outputs.told status
     pub kept : KeepsMade from source made.outcome ended
-    pub asks : AsksOnce asked asked_after name true from (λ fault. made.outcome ≡ Some (of_store fault)) ended
+    pub asks : AsksOnce asked asked_after name (is_none theirs) from (λ fault. made.outcome ≡ Some (of_store fault)) ended
 
-  -- no connection to the store's files can be made, and the fault is told
-  pub record IsNotMade (name : List ℕ) (outputs : Outputs) (status : ℕ) (ended : Ended D g) : Type 0 where
+  -- No connection to the store's files can be made, and the fault is told: before one of the callers, but where the file isn't there and
+  -- none is made.
+  pub record IsNotMade (name callers : List ℕ) (outputs : Outputs) (status : ℕ) (ended : Ended D g) : Type 0 where
+    pub source : List ℕ
+    pub theirs : Option AnyFault
+    pub callers_are : IsLookedAt (files callers) source theirs
     pub fault : StoreFault
-    pub refused : IsRefused true from fault ended
+    pub refused : IsRefused (is_none theirs) from fault ended
     pub kept : KeepsFound from ended
-    pub told : IsToldAlone (of_store fault) outputs status
-    pub asks : AsksOnce asked asked_after name true from (λ told. told ≡ fault) ended
+    pub told : IsToldAlone (of_unopened theirs fault) outputs status
+    pub asks : AsksOnce asked asked_after name (is_none theirs) from (λ told. told ≡ fault) ended
 
-  -- `init STORE CALLERS`. A fault of the callers file may be told before the store is asked for.
+  -- `init STORE CALLERS`. No store is asked for if the callers file can't be read, or memory ran out for that.
   abbrev pub IsInit : List ℕ → List ℕ → Outputs → ℕ → Ended D g → Type 0
   IsInit name callers outputs status ended =
-      IsMade name callers outputs status ended ⊎ IsNotMade name outputs status ended
-      ⊎ ((fault : AnyFault) × IsNotBegun (files callers) fault × IsToldAlone fault outputs status × IsNothing ended × (asked_after ≡ asked))
+      IsMade name callers outputs status ended ⊎ IsNotMade name callers outputs status ended
+      ⊎ ((IsEndedBy NotRead outputs status ⊎ IsEndedBy Memory outputs status) × IsNothing ended × (asked_after ≡ asked))
 
 -- `migrate STORE`
 pub record IsMigrate (asked asked_after : Asked) (from : Image) {D : Type 0} {g : disk.Ghosts D} (name : List ℕ) (outputs : Outputs) (status : ℕ) (ended : Ended D g) : Type 0 where
@@ -61,6 +64,14 @@ pub record HasRows (callers : KnownFile) (rows : List CallerRow) : Type 0 where
   pub source : List ℕ
   pub content : IsContent callers source
   pub rows_are : AreRowsOf source rows
+
+-- the callers file has a fault
+abbrev pub HasCallerFault : KnownFile → AnyFault → Type 0
+HasCallerFault callers fault = (source : List ℕ) × IsContent callers source × IsCallersFault source fault
+
+-- the callers file can't be read or has a fault, or memory ran out
+abbrev pub IsNotBegun : KnownFile → AnyFault → Type 0
+IsNotBegun callers fault = (fault ≡ of_program NotRead) ⊎ (fault ≡ of_program Memory) ⊎ HasCallerFault callers fault
 
 -- `callers STORE CALLERS`. The callers file is read and checked before the store is asked for.
 module _ (files : List ℕ → KnownFile) (asked asked_after : Asked) (from : Image) {D : Type 0} {g : disk.Ghosts D} where

@@ -14,7 +14,7 @@ ghost use Rattle.sql_checks.specs.declared.checking.Finding.TheVariants as findi
 ghost use Rattle.sql_tables.specs.Ours.{IsOurs, held_by};
 ghost use Rattle.sql_tables.specs.Reading.{OnlyReads};
 ghost use Rattle.sql_tables.specs.Stored.{tables_of};
-ghost use Rattle.store_runs.specs.Checking.{IsCheck, IsCheckOutput, IsCheckRun, IsCheckTold, IsSeenWhole, IsSeenWrong, IsTextOf, IsToldAs, IsToldOfRead, IsUntold, check_fault_in, check_line, check_status, in_no_table};
+ghost use Rattle.store_runs.specs.Checking.{IsCheck, IsCheckOutput, IsCheckRun, IsCheckTold, IsSeenWhole, IsSeenWrong, IsTextOf, IsToldAs, IsToldOfRead, IsUntold, check_fault_in, check_line, check_status, in_no_table, place_name, wrong_in};
 ghost use Rattle.transfer.specs.Transfer.{AppendsFront};
 
 use crate::desk::of_store;
@@ -30,16 +30,37 @@ use sqlite::{Alter, Connection, FileFrom, Start};
 use std::alloc::Global;
 use std::io::{self, Write};
 
-/// Why a check ends with a fault, and the table with a wrong row, if that is why.
+/// Where in a store something is wrong.
+#[derive(Clone, Copy, Debug)]
+pub enum CheckPlace {
+    /// In this table.
+    Table(StoreTable),
+    /// In the list of tables and indexes.
+    Listing,
+}
+
+impl CheckPlace {
+    /// The name of the table in the database.
+    fn name(self) -> &'static str
+        ensures { result.now ≡ place_name self }
+    {
+        match self {
+            CheckPlace::Table(table) => table.name(),
+            CheckPlace::Listing => "sqlite_schema",
+        }
+    }
+}
+
+/// Why a check ends with a fault, and where the store is wrong, if that is why.
 #[derive(Clone, Copy, Debug)]
 pub struct CheckFault {
     pub fault: AnyFault,
-    pub table: Option<StoreTable>,
+    pub place: Option<CheckPlace>,
 }
 
 /// Looks through the store in the database of a connection, and prints how much it has. Returns the exit status.
 ///
-/// It writes nothing to the database. A fault goes to `errors` alone, with the name of the table that has a wrong row.
+/// It writes nothing to the database. A fault goes to `errors` alone, with the name of the table that is wrong.
 pub fn run_check<S: Alter, W: Write, E: Write>(
     alloc: Global,
     conn: &mut Connection<S>,
@@ -130,12 +151,21 @@ fn wrong(found: Finding) -> CheckFault
     ensures { IsToldAs found result }
 {
     match found {
-        Finding::WrongRow(table) => CheckFault {
-            fault: of_store(StoreFault::Shape),
-            table: Some(table),
-        },
+        Finding::WrongRow(table) => wrong_in(CheckPlace::Table(table)),
+        Finding::NoPublisher => wrong_in(CheckPlace::Table(StoreTable::Caller)),
+        Finding::OtherOrder => wrong_in(CheckPlace::Listing),
         Finding::OtherVersion => in_no_table(of_store(StoreFault::Version)),
         Finding::OtherTables | Finding::Whole => in_no_table(of_store(StoreFault::Shape)),
+    }
+}
+
+// The fault for a store that is wrong at this place.
+fn wrong_in(place: CheckPlace) -> CheckFault
+    ensures { result ≡ wrong_in place }
+{
+    CheckFault {
+        fault: of_store(StoreFault::Shape),
+        place: Some(place),
     }
 }
 
@@ -188,7 +218,7 @@ fn print<W: Write>(writer: &mut W, text: &[u8]) -> Result<(), CheckFault>
 fn in_no_table(fault: AnyFault) -> CheckFault
     ensures { result ≡ in_no_table fault }
 {
-    CheckFault { fault, table: None }
+    CheckFault { fault, place: None }
 }
 
 // Writes how a check ended, if it ended with a fault, and returns the exit status.
@@ -205,12 +235,12 @@ fn told_in<E: Write>(errors: &mut E, outcome: Result<(), CheckFault>) -> u8
     }
 }
 
-// Writes a fault, with the name of its table.
+// Writes a fault, with the name of its place.
 fn tell_check<E: Write>(errors: &mut E, told: CheckFault) -> io::Result<()>
-    ensures { AppendsFront (E.contents errors.old) (E.contents errors.new) (check_line told told.table) }
+    ensures { AppendsFront (E.contents errors.old) (E.contents errors.new) (check_line told told.place) }
 {
-    match told.table {
-        Some(table) => tell_in(errors, told.fault, table.name()),
+    match told.place {
+        Some(place) => tell_in(errors, told.fault, place.name()),
         None => report(errors, told.fault),
     }
 }

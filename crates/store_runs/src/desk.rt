@@ -1,9 +1,8 @@
 //! Making a store in a database, or opening one there.
 ghost use Rattle.std.specs.Prelude.{◌≡◌, false, IfErr, IfOk, OnOk};
-ghost use Rattle.run_parts.specs.Files.{IsContent};
 ghost use Rattle.run_parts.specs.Outputs.{fault_in, outputs_of};
-ghost use Rattle.store_runs.specs.Desk.{AreRowsOf, HasOpened, InitSurvives, IsCallersFault, IsInitLeft, IsInitOutput, IsInitRun, IsNotOpened, init_text, of_store};
-ghost use Rattle.store_runs.specs.NamedStore.{IsInit, IsNotBegun};
+ghost use Rattle.store_runs.specs.Desk.{AreRowsOf, HasOpened, InitSurvives, IsCallersFault, IsInitLeft, IsInitOutput, IsInitRun, IsNotOpened, MayHaveFault, init_text, of_store, of_unopened};
+ghost use Rattle.store_runs.specs.NamedStore.{IsInit};
 ghost use Rattle.sqlite.specs.Held.{state};
 ghost use Rattle.sqlite.specs.State.{HasCleanDisk};
 ghost use Rattle.sqlite_wal.specs.Files.{image_at};
@@ -16,7 +15,7 @@ use crate::stores::Stores;
 use bureau_sql::{SqlStore, find_store, init};
 use bureau_store::{CallerRow, StoreFault, callers};
 use faults::AnyFault;
-use run_parts::{Files, numbered_line, printed, read_file, told};
+use run_parts::{Files, numbered_line, printed, read_file, refuse, told};
 use sqlite::{Alter, Connection, FileFrom, Start};
 use std::alloc::Global;
 use std::io::Write;
@@ -106,7 +105,8 @@ pub fn of_store(fault: StoreFault) -> AnyFault
 /// Makes a store in the file `store`, with the callers in the file `callers`. Returns the exit status, and what is left
 /// of the store's files.
 ///
-/// It makes a file that isn't there. If it would make one, a fault of the callers file is told before.
+/// A store that can't be opened is told before a fault of the callers file. A file that isn't there is made for callers
+/// without a fault alone.
 pub fn do_init<F: Files, S: Stores, D: Start, O: Write, E: Write>(
     files: &F,
     stores: &mut S,
@@ -122,37 +122,42 @@ pub fn do_init<F: Files, S: Stores, D: Start, O: Write, E: Write>(
         (outputs_of O.contents E.contents output.old output.new errors.old errors.new)
         result.0 result.1 }
 {
-    let callers = match read_callers(files, alloc, store, callers) {
+    let callers = match read_file(files, alloc, callers, &mut { RETRIES }) {
         Ok(callers) => callers,
-        Err(fault) => return (told(errors, Err(fault)), Ended::Nothing),
+        Err(fault) => return (refuse(errors, fault), Ended::Nothing),
     };
-    match stores.connect(store, true, start) {
+    let source = callers.as_slice();
+    let fault = fault_of(alloc, source);
+    let makes = fault.is_none();
+    match stores.connect(store, makes, start) {
         Ok(conn) => {
             let mut conn = conn;
-            let status = run_init(alloc, &mut conn, callers.as_slice(), output, errors);
+            let status = run_init(alloc, &mut conn, source, output, errors);
             (status, end(conn))
         }
-        Err((fault, ended)) => (told(errors, Err(of_store(fault))), ended),
+        Err((refused, ended)) => (told(errors, Err(of_unopened(fault, refused))), ended),
     }
 }
 
-// Reads the callers file. If the file of the store isn't there, a fault of the callers file is found before one is
-// made.
-fn read_callers<F: Files>(
-    files: &F,
-    alloc: Global,
-    store: &str,
-    callers: &str,
-) -> Result<Vec<u8>, AnyFault>
-    ensures callers { IfOk result (λ source.
-        IsContent (F.known_file files.now callers.now) source.items) }
-    ensures fault { IfErr result (IsNotBegun (F.known_file files.now callers.now)) }
+// The fault of a callers file, if there is one.
+fn fault_of(alloc: Global, source: &[u8]) -> Option<AnyFault>
+    ensures { MayHaveFault source.now result }
 {
-    let source = read_file(files, alloc, callers, &mut { RETRIES })?;
-    if files.open(store).is_err() {
-        let _rows = callers_in(alloc, source.as_slice())?;
+    match callers_in(alloc, source) {
+        Ok(_rows) => None,
+        Err(fault) => Some(fault),
     }
-    Ok(source)
+}
+
+// The fault of a run whose store can't be opened: that of the store. If a file isn't there, and none is made since the
+// callers have a fault, it is theirs.
+fn of_unopened(callers: Option<AnyFault>, store: StoreFault) -> AnyFault
+    ensures { result ≡ of_unopened callers store }
+{
+    match (callers, store) {
+        (Some(fault), StoreFault::Shape) => fault,
+        (_, store) => of_store(store),
+    }
 }
 
 /// The store that a connection holds; or why it holds none, and the connection, at rest.

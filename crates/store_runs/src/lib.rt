@@ -7,7 +7,7 @@
 //! - [`run_init`], [`run_open`], [`run_migrate`], [`run_callers`]: make a store, open it, make it one of version
 //!   2, or give it other callers, over a connection
 //! - [`check_file`], [`run_check`]: `check`, by the name of a file or over a connection; [`CheckFault`]: why it
-//!   ends with a fault
+//!   ends with a fault; [`CheckPlace`]: where a store is wrong
 //! - [`law`]: what an `init` that was stopped leaves, for the next run
 //! - [`callers_in`]: the callers of a callers file; [`of_store`]: the fault of a run for that of a store
 //! - [`Ended`]: the files of a store when a run ends; [`end`]: ends a connection
@@ -22,7 +22,7 @@ mod migrating;
 mod stores;
 
 pub use callers::{callers_file, run_callers};
-pub use checking::{CheckFault, check_file, run_check};
+pub use checking::{CheckFault, CheckPlace, check_file, run_check};
 pub use desk::{callers_in, do_init, of_store, run_init, run_open};
 pub use ended::{Ended, end};
 pub use migrating::{migrate_file, run_migrate};
