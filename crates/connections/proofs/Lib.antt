@@ -9,3 +9,5 @@ pub mod SideFacts
 pub mod RoundFacts
 pub mod CallFacts
 mod IntakeFacts
+mod FairFacts
+mod PreviewFacts

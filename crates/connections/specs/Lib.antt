@@ -7,3 +7,5 @@ pub mod Service
 pub mod Rounds
 pub mod Shares
 pub mod Memory
+pub mod Fair
+pub mod Preview

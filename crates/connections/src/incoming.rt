@@ -1,8 +1,10 @@
 //! The bytes that came over a connection.
-ghost use Rattle.std.specs.Prelude.{◌≡◌, ◌==◌, ◌||◌, ◌++◌, not, true, [], length, OnOk};
+ghost use Rattle.std.specs.Prelude.{◌≡◌, ◌==◌, ◌||◌, ◌++◌, not, true, [], ℕ, List, IfOk, IsTrue, length, OnOk};
 ghost use Rattle.std.specs.List.{list_any};
+ghost use Rattle.connections.specs.Preview.{IsPreview};
 ghost use Rattle.requests.specs.NextRequest.{IsUnfinished};
 
+use crate::preview::{Preview, preview_of};
 use faults::NoMemory;
 use requests::{Progress, read_whole};
 use std::alloc::Global;
@@ -82,6 +84,30 @@ impl Incoming {
         ensures short { result ≡ true → IsUnfinished self.old }
     {
         self.progress.is_short(self.bytes.bytes())
+    }
+
+    /// What these bytes would bring behind them, which lie unread.
+    ///
+    /// # Errors
+    ///
+    /// Memory ran out.
+    pub fn preview(&self, alloc: Global, unread: &[u8]) -> Result<Preview, NoMemory>
+        ensures { IfOk result (IsPreview (self.now ++ unread.now) (length unread.now)) }
+    {
+        if self.is_short_of(unread.len()) {
+            return Ok(Preview::Part);
+        }
+        preview_of(alloc, self.bytes.bytes(), unread)
+    }
+
+    /// Whether the next request is known to have more bytes than these and so many more.
+    pub fn is_short_of(&self, more: usize) -> bool
+        ensures { (unread : List ℕ) → length unread ≡ more → IsTrue result → IsUnfinished (self.now ++ unread) }
+    {
+        match self.progress.wanted().checked_sub(self.bytes.len()) {
+            Some(missing) => more < missing,
+            None => false,
+        }
     }
 
     /// Whether a request has begun in them: they are more than line ends.

@@ -8,6 +8,8 @@
 //! - [`Event`]: what happens to one of them
 //! - [`serve_events`]: goes through events in order; [`serve_event`]: serves one of them
 //! - [`serve_rounds`]: serves the events of [`Rounds`], until all connections were served; [`Halt`]
+//! - [`Turns`]: whose request is answered next: each caller has one turn before any has its second; [`Preview`]: whether a
+//!   request ends in bytes that lie unread, and whose it is
 //!
 //! ```
 //! use bureau::Bureau;
@@ -34,17 +36,21 @@ mod connection;
 mod event;
 mod incoming;
 mod outgoing;
+mod preview;
 mod rounds;
 mod service;
 mod serving;
 mod shares;
 mod slots;
+mod turns;
 
 pub use connection::{Connection, Phase};
 pub use event::Event;
 pub use incoming::Incoming;
 pub use outgoing::Outgoing;
+pub use preview::Preview;
 pub use rounds::{Halt, Round, RoundFault, Rounds, serve_rounds};
 pub use serving::{serve_event, serve_events};
 pub use shares::Shares;
 pub use slots::Connections;
+pub use turns::{Turns, fair_turns};
