@@ -1,2 +1,4 @@
 pub mod Patience
 pub mod Transfers
+pub mod Traffic
+pub mod Logged

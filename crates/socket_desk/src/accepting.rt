@@ -1,28 +1,38 @@
 //! New connections: each is accepted if there is a place, or an idle one gives way to it.
+ghost use Rattle.std.specs.Prelude.{OnErr, OnOk};
+ghost use Rattle.socket_desk.specs.Traffic.{Tells, TellsBut};
+
 use crate::fault::LoopFault;
 use crate::moment::Moment;
 use crate::patience::Stage;
+use crate::port::Door;
 use crate::side::{Listed, Side};
-use crate::sockets::{MOST, Sockets, stage};
+use crate::sockets::{MOST, Sockets, stage, tell};
+use crate::stream::Stream;
 use connections::{Connections, Event};
-use mio::net::TcpStream;
-use mio::{Interest, Token};
 use std::io::{self, ErrorKind};
 use std::time::Duration;
 
 // How long, in seconds, a connection is idle before it may give way to another: a request may be on its way.
 const GRACE: u64 = 1;
 
-impl Sockets {
+impl<T: Stream> Sockets<T> {
     /// Accepts what waits, as long as there is a place.
-    pub(crate) fn accept(
+    pub(crate) fn accept<D: Door<T>>(
         &mut self,
+        door: &D,
         connections: &Connections,
         now: Moment,
         told: &mut Vec<Event>,
-    ) -> Result<(), LoopFault> {
+    ) -> Result<(), LoopFault>
+        ensures told { OnOk result (Tells T.left T.written connections.now.slots.items
+            self.old.sides.items told.old.items self.new.sides.items told.new.items) }
+        ensures stopped { OnErr result (TellsBut T.left T.written connections.now.slots.items
+            self.old.sides.items told.old.items self.new.sides.items told.new.items) }
+    {
         for _ in 0..MOST {
-            if !self.accept_one(connections, now, told)? {
+            let more = self.accept_one(door, connections, now, told)?;
+            if !more {
                 self.more_wait = false;
                 return Ok(());
             }
@@ -31,21 +41,28 @@ impl Sockets {
     }
 
     // Accepts one, if one waits and there is a place. Whether more may wait.
-    fn accept_one(
+    fn accept_one<D: Door<T>>(
         &mut self,
+        door: &D,
         connections: &Connections,
         now: Moment,
         told: &mut Vec<Event>,
-    ) -> Result<bool, LoopFault> {
+    ) -> Result<bool, LoopFault>
+        ensures told { OnOk result (Tells T.left T.written connections.now.slots.items
+            self.old.sides.items told.old.items self.new.sides.items told.new.items) }
+        ensures stopped { OnErr result (TellsBut T.left T.written connections.now.slots.items
+            self.old.sides.items told.old.items self.new.sides.items told.new.items) }
+    {
         if self.left == 0 {
             return Ok(false);
         }
         let Some(slot) = self.place(connections, now) else {
             return Ok(false);
         };
-        match self.listener.accept() {
-            Ok((stream, _)) => self.take_in(slot, stream, now, told),
+        match door.accept() {
+            Ok(stream) => self.take_in(door, slot, stream, now, told),
             Err(error) if lacks_descriptor(&error) => self.accept_for_idlest(
+                door,
                 connections,
                 now,
                 told,
@@ -56,32 +73,44 @@ impl Sockets {
 
     // There is no descriptor for one that waits. The connection that has been idle longest gives its own, if one may give
     // way. Whether more may wait.
-    fn accept_for_idlest(
+    fn accept_for_idlest<D: Door<T>>(
         &mut self,
+        door: &D,
         connections: &Connections,
         now: Moment,
         told: &mut Vec<Event>,
-    ) -> Result<bool, LoopFault> {
+    ) -> Result<bool, LoopFault>
+        ensures told { OnOk result (Tells T.left T.written connections.now.slots.items
+            self.old.sides.items told.old.items self.new.sides.items told.new.items) }
+        ensures stopped { OnErr result (TellsBut T.left T.written connections.now.slots.items
+            self.old.sides.items told.old.items self.new.sides.items told.new.items) }
+    {
         let Some(slot) = self.idlest(connections, now) else {
             return Ok(false);
         };
         self.end(slot, told)?;
-        match self.listener.accept() {
-            Ok((stream, _)) => self.take_in(slot, stream, now, told),
+        match door.accept() {
+            Ok(stream) => self.take_in(door, slot, stream, now, told),
             Err(error) => Ok(is_gone(&error)),
         }
     }
 
     // A connection that was accepted takes a slot, unless the system can't tell of it. Whether more may wait: they may.
-    fn take_in(
+    fn take_in<D: Door<T>>(
         &mut self,
+        door: &D,
         slot: usize,
-        stream: TcpStream,
+        stream: T,
         now: Moment,
         told: &mut Vec<Event>,
-    ) -> Result<bool, LoopFault> {
+    ) -> Result<bool, LoopFault>
+        ensures told { (shown : _) → OnOk result (Tells T.left T.written shown
+            self.old.sides.items told.old.items self.new.sides.items told.new.items) }
+        ensures stopped { (shown : _) → OnErr result (TellsBut T.left T.written shown
+            self.old.sides.items told.old.items self.new.sides.items told.new.items) }
+    {
         let mut stream = stream;
-        if self.register(slot, &mut stream).is_ok() {
+        if door.register(slot, &mut stream).is_ok() {
             self.take_place(slot, stream, now, told)?;
         }
         Ok(true)
@@ -95,26 +124,27 @@ impl Sockets {
         }
     }
 
-    // The system is to tell of a socket by its slot.
-    fn register(&mut self, slot: usize, stream: &mut TcpStream) -> io::Result<()> {
-        stream.set_nodelay(true)?;
-        self.poll.registry().register(stream, Token(slot), Interest::READABLE | Interest::WRITABLE)
-    }
-
     // A socket takes a slot. A connection that stands there gives way, so the slot is the last of the free ones.
     fn take_place(
         &mut self,
         slot: usize,
-        stream: TcpStream,
+        stream: T,
         now: Moment,
         told: &mut Vec<Event>,
-    ) -> Result<(), LoopFault> {
+    ) -> Result<(), LoopFault>
+        ensures told { (shown : _) → OnOk result (Tells T.left T.written shown
+            self.old.sides.items told.old.items self.new.sides.items told.new.items) }
+        ensures stopped { (shown : _) → OnErr result (TellsBut T.left T.written shown
+            self.old.sides.items told.old.items self.new.sides.items told.new.items) }
+    {
         self.end(slot, told)?;
+        if slot >= self.sides.len() {
+            return Ok(());
+        }
         self.free.pop();
         self.put_back(slot, Side::new(stream, now));
         self.left = self.left.saturating_sub(1);
-        told.push(Event::Came(slot))?;
-        Ok(())
+        tell(told, Event::Came(slot))
     }
 
     // The slot of the connection that has been idle longest, if one may give way.
@@ -150,7 +180,12 @@ fn lacks_descriptor(error: &io::Error) -> bool {
 }
 
 // Whether a connection is idle, and not only since its request is on its way.
-fn may_give_way(connections: &Connections, slot: usize, side: &Side, now: Moment) -> bool {
+fn may_give_way<T: Stream>(
+    connections: &Connections,
+    slot: usize,
+    side: &Side<T>,
+    now: Moment,
+) -> bool {
     side.list == Listed::Nowhere
         && stage(connections, slot, side) == Stage::Idle
         && now.waited(&side.heard) >= Duration::from_secs(GRACE)

@@ -1,4 +1,9 @@
 //! The lines that a round has for the log.
+ghost use Rattle.std.specs.Prelude.{◌≡◌, ◌+◌, ◌<◌, [], IsTrue};
+ghost use Rattle.bureau_http.specs.ConnFault.{conn_told};
+ghost use Rattle.log_lines.specs.Lines.{fault_text, request_text};
+ghost use Rattle.socket_desk.specs.Logged.{IsPut, counted};
+
 use bureau_http::ConnFault;
 use faults::{AnyFault, NoMemory};
 use log_lines::{Line, Note, Word, fault_line, request_line, time_word};
@@ -46,7 +51,10 @@ impl Lines {
     }
 
     /// A round begins, of which nothing is told yet.
-    pub(crate) fn begin<C: Clock>(&mut self, clock: &C) {
+    pub(crate) fn begin<C: Clock>(&mut self, clock: &C)
+        ensures text { self.new.text.items ≡ [] }
+        ensures lost { self.new.lost ≡ 0 }
+    {
         self.text.clear();
         self.lost = 0;
         if self.room > 0 {
@@ -55,22 +63,39 @@ impl Lines {
     }
 
     /// The lines so far.
-    pub(crate) fn text(&self) -> &[u8] {
+    pub(crate) fn text(&self) -> &[u8]
+        ensures { result.now ≡ self.now.text.items }
+    {
         self.text.as_slice()
     }
 
     /// How many lines had no room among them.
-    pub(crate) fn lost(&self) -> u64 {
+    pub(crate) fn lost(&self) -> u64
+        ensures { result ≡ self.now.lost }
+    {
         self.lost
     }
 
     /// When the round was.
-    pub(crate) fn stamp(&self) -> &Word {
+    pub(crate) fn stamp(&self) -> &Word
+        ensures { result.now ≡ self.now.stamp }
+    {
         &self.stamp
     }
 
+    /// Whether there is none, and none had no room.
+    pub(crate) fn are_none(&self) -> bool
+        ensures text { IsTrue result → self.now.text.items ≡ [] }
+        ensures lost { IsTrue result → self.now.lost ≡ 0 }
+    {
+        self.text.is_empty() && self.lost == 0
+    }
+
     /// The reply to a request went out whole, so long after the request began.
-    pub(crate) fn request(&mut self, note: &Note, took: Duration) {
+    pub(crate) fn request(&mut self, note: &Note, took: Duration)
+        ensures { 0 < self.old.room → (millis : _) × IsPut self.old.text.items self.old.lost
+            (request_text self.old.stamp note.now millis) self.new.text.items self.new.lost }
+    {
         if self.room > 0 {
             let line = request_line(&self.stamp, note, millis(took));
             self.put(&line);
@@ -78,20 +103,35 @@ impl Lines {
     }
 
     /// A connection failed.
-    pub(crate) fn fault(&mut self, fault: ConnFault) {
+    pub(crate) fn fault(&mut self, fault: ConnFault)
+        ensures { 0 < self.old.room → IsPut self.old.text.items self.old.lost
+            (fault_text self.old.stamp (conn_told fault).number) self.new.text.items self.new.lost }
+    {
         if self.room > 0 {
             let line = fault_line(&self.stamp, u16::from(AnyFault::from(fault).number));
             self.put(&line);
         }
     }
 
-    fn put(&mut self, line: &Line) {
+    // A line is put behind the others, or left out if there is no room.
+    fn put(&mut self, line: &Line)
+        ensures { IsPut self.old.text.items self.old.lost line.now self.new.text.items self.new.lost }
+    {
         let line = line.as_slice();
-        if self.text.len().saturating_add(line.len()) > self.room
-            || self.text.extend_from_slice(line).is_err()
-        {
-            self.lost = self.lost.saturating_add(1);
+        if self.text.len().saturating_add(line.len()) > self.room {
+            return self.leave_out();
         }
+        if self.text.extend_from_slice(line).is_err() {
+            self.leave_out();
+        }
+    }
+
+    // A line is left out.
+    fn leave_out(&mut self)
+        ensures lost { self.new.lost ≡ counted (self.old.lost + 1) }
+        ensures text { self.new.text ≡ self.old.text }
+    {
+        self.lost = self.lost.saturating_add(1);
     }
 }
 

@@ -1,17 +1,20 @@
 //! Rounds of reads and writes over the sockets of one port, with the lines of the log.
+ghost use Rattle.socket_desk.specs.Logged.{AreLogged};
+
 use crate::fault::LoopFault;
 use crate::lines::Lines;
 use crate::log::Log;
 use crate::moment::Moment;
 use crate::patience::Patience;
+use crate::port::{Door, Port};
 use crate::sockets::Sockets;
-use crate::sweeping::EVENTS;
+use crate::sweeping::TICK;
 use connections::{Connections, Event, Round, RoundFault, Rounds};
-use mio::Events;
+use mio::net::TcpStream;
 use std::alloc::Global;
 use std::io::{self, Write};
 use std::net::{Net, SocketAddr};
-use std::time::{Clock, Instant};
+use std::time::{Clock, Duration, Instant};
 
 /// The sockets of a port.
 ///
@@ -22,8 +25,8 @@ use std::time::{Clock, Instant};
 /// the end of the round. What can't be written to it is left out, and nothing else depends on it.
 #[derive(Drop)]
 pub struct SocketRounds<'c, C, W> {
-    sockets: Sockets,
-    events: Events,
+    sockets: Sockets<TcpStream>,
+    port: Port,
     clock: &'c C,
     // When the desk looked last.
     last: Option<Moment>,
@@ -56,8 +59,8 @@ impl<'c, C: Clock, W: Write> SocketRounds<'c, C, W> {
             None => (Lines::none(alloc), None),
         };
         Ok(SocketRounds {
-            sockets: Sockets::new(net, alloc, address, slots, patience, lines)?,
-            events: Events::with_capacity(alloc, EVENTS)?,
+            sockets: Sockets::new(alloc, slots, patience, lines)?,
+            port: Port::new(net, alloc, address)?,
             clock,
             last: None,
             log,
@@ -71,7 +74,7 @@ impl<'c, C: Clock, W: Write> SocketRounds<'c, C, W> {
     ///
     /// The system's own.
     pub fn address(&self) -> io::Result<SocketAddr> {
-        self.sockets.address()
+        self.port.address()
     }
 
     /// What the log is written to, if one is kept.
@@ -90,14 +93,15 @@ impl<'c, C: Clock, W: Write> SocketRounds<'c, C, W> {
         told: &mut Vec<Event>,
     ) -> Result<Round, LoopFault> {
         if told.reserve(self.sockets.most_told()).is_err() {
-            self.sockets.rest(&mut self.events)?;
+            self.rest()?;
             return Ok(Round::Busy);
         }
         self.sockets.begin(left)?;
-        self.sockets.wait(&mut self.events)?;
+        let wait = self.patience();
+        self.port.wait(wait)?;
         let now = self.look()?;
         self.sockets.lines.begin(self.clock);
-        let round = self.sockets.round(connections, &mut self.events, now, told);
+        let round = self.sockets.round(&mut self.port, connections, now, told);
         self.write_lines();
         round?;
         Ok(if self.sockets.are_closed() {
@@ -105,6 +109,22 @@ impl<'c, C: Clock, W: Write> SocketRounds<'c, C, W> {
         } else {
             Round::Busy
         })
+    }
+
+    // There is no memory to tell of anything, so nothing is read or written. Waits for a while; what the system
+    // tells of sockets counts.
+    fn rest(&mut self) -> Result<(), LoopFault> {
+        self.port.wait(Duration::from_secs(TICK))?;
+        self.sockets.hear_of(self.port.events())
+    }
+
+    // How long it waits for the system to tell of sockets: not at all if there is more to do.
+    fn patience(&self) -> Duration {
+        if self.sockets.rests() {
+            Duration::from_secs(TICK)
+        } else {
+            Duration::ZERO
+        }
     }
 
     // The moment that it is.
@@ -119,12 +139,15 @@ impl<'c, C: Clock, W: Write> SocketRounds<'c, C, W> {
     }
 
     // Writes the lines of the round. Those that can't be written are left out.
-    fn write_lines(&mut self) {
+    fn write_lines(&mut self)
+        ensures { AreLogged W.contents self.old.log self.old.sockets.lines self.new.log }
+    {
         let lines = &self.sockets.lines;
+        if lines.are_none() {
+            return;
+        }
         if let Some(log) = &mut self.log {
-            if !lines.text().is_empty() || lines.lost() > 0 {
-                log.write(lines.text(), lines.lost(), lines.stamp());
-            }
+            log.write(lines.text(), lines.lost(), lines.stamp());
         }
     }
 }

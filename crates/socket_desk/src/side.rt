@@ -1,15 +1,15 @@
 //! The socket of a connection, and when it was heard of.
-ghost use Rattle.std.specs.Prelude.{◌≡◌, ◌-◌};
+ghost use Rattle.std.specs.Prelude.{◌≡◌, ◌-◌, IsTrue, true, false};
 ghost use Rattle.std.specs.Duration.{as_nanos};
+ghost use Rattle.std.specs.Io.KnownBytes.{Keeps};
 ghost use Rattle.socket_desk.specs.Patience.{is_late, judged_at};
+ghost use Rattle.socket_desk.specs.Traffic.{socket_of};
 
 use crate::moment::Moment;
 use crate::patience::{Patience, Stage};
+use crate::stream::Stream;
 use bureau_http::ConnFault;
 use connections::{Connection, Phase};
-use mio::net::TcpStream;
-use std::io::{self, ErrorKind, Read};
-use std::net::Shutdown;
 use std::time::Duration;
 
 /// Among which a connection waits for a visit.
@@ -57,8 +57,8 @@ impl Parting {
 
 /// The socket of a connection, and when it was heard of.
 #[derive(Drop)]
-pub(crate) struct Side {
-    pub(crate) stream: TcpStream,
+pub(crate) struct Side<T> {
+    pub(crate) stream: T,
     // when its request began, or its end
     pub(crate) since: Moment,
     // when bytes came or went last
@@ -77,8 +77,13 @@ pub(crate) struct Side {
     pub(crate) parting: Parting,
 }
 
-impl Side {
-    pub(crate) fn new(stream: TcpStream, now: Moment) -> Side {
+impl<T: Stream> Side<T> {
+    // That of a stream that has just come.
+    pub(crate) fn new(stream: T, now: Moment) -> Side<T>
+        ensures stream { result.stream ≡ stream }
+        ensures open { result.is_closing ≡ false }
+        ensures ahead { result.is_ahead ≡ true }
+    {
         Side {
             stream,
             since: now,
@@ -94,19 +99,29 @@ impl Side {
 
     // The desk has nothing more to write. What the client still sends is read for a while, since a socket that is
     // closed while bytes lie unread in it may lose its last reply (RFC 9112, section 9.6).
-    pub(crate) fn close(&mut self, now: Moment) {
-        let _ = self.stream.shutdown(Shutdown::Write);
+    pub(crate) fn close(&mut self, now: Moment)
+        ensures left { Keeps (T.left self.old.stream) (T.left self.new.stream) }
+        ensures written { Keeps (T.written self.old.stream) (T.written self.new.stream) }
+        ensures closing { self.new.is_closing ≡ true }
+        ensures ahead { self.new.is_ahead ≡ self.old.is_ahead }
+    {
+        self.stream.end();
         self.is_closing = true;
         self.since = now;
     }
 
-    // One read whose bytes nobody needs. Whether there may be more.
-    pub(crate) fn read_out(&mut self, room: &mut [u8]) -> io::Result<bool> {
-        Ok(self.stream.read(room)? > 0)
+    // Whether something may be written: the desk has not ended its side, and has noted what happened to it.
+    pub(crate) fn takes_more(&self) -> bool
+        ensures unclosed { IsTrue result → self.now.is_closing ≡ false }
+        ensures noted { IsTrue result → self.now.is_ahead ≡ false }
+    {
+        !self.is_closing && !self.is_ahead
     }
 
     // Bytes came or went. A request may begin with them, or after them.
-    pub(crate) fn hear(&mut self, now: Moment, begins: bool) {
+    pub(crate) fn hear(&mut self, now: Moment, begins: bool)
+        ensures { socket_of T.left T.written self.new ≡ socket_of T.left T.written self.old }
+    {
         self.heard = now;
         if begins {
             self.since = now;
@@ -119,7 +134,11 @@ impl Side {
     }
 
     // What came or went was told to the desk, and so many bytes may be read next.
-    pub(crate) fn let_read(&mut self, room: usize) {
+    pub(crate) fn let_read(&mut self, room: usize)
+        ensures stream { self.new.stream ≡ self.old.stream }
+        ensures closing { self.new.is_closing ≡ self.old.is_closing }
+        ensures noted { self.new.is_ahead ≡ false }
+    {
         self.is_ahead = false;
         self.told = self.heard;
         self.room = room;
@@ -142,14 +161,5 @@ impl Side {
             judged.waited(&self.heard),
             judged.waited(&self.since),
         )
-    }
-}
-
-// Whether the system would make a read or write wait, or it has failed. `None` if it is to be made again.
-pub(crate) fn waits(error: &io::Error) -> Option<bool> {
-    match error.kind() {
-        ErrorKind::WouldBlock => Some(true),
-        ErrorKind::Interrupted => None,
-        _ => Some(false),
     }
 }

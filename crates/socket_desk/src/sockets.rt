@@ -1,35 +1,31 @@
 //! Sockets that don't block, each in its slot, and whose turn it is.
+ghost use Rattle.std.specs.Prelude.{◌≡◌, ◌<◌, [], ◌∷◌, ◌++◌, length, map, None, Some, IfNone, IfSome, OnErr, OnOk, slice_get, slice_set};
+ghost use Rattle.connections.specs.Items.{event_of};
+ghost use Rattle.socket_desk.specs.Traffic.{IsNoted, Tells, TellsBut, socket_of, sockets_of};
+
 use crate::fault::LoopFault;
 use crate::lines::Lines;
 use crate::moment::Moment;
 use crate::patience::{Patience, Stage};
+use crate::port::{Door, slot_of};
 use crate::side::{Listed, Side};
+use crate::stream::Stream;
 use crate::visits::{ROOM, Visit};
 use connections::{Connections, Event};
-use mio::net::TcpListener;
-use mio::{Events, Interest, Poll, Token};
+use mio::Events;
 use std::alloc::Global;
 use std::collections::VecDeque;
-use std::io::{self, ErrorKind, Write};
-use std::net::{Net, Shutdown, SocketAddr};
 use std::time::Duration;
-
-// The token of the listener. Those of sockets are their slots.
-const LISTENER: usize = usize::MAX;
 
 // How many are visited in a round at most, of which there is something to tell: so what was read and not yet told
 // stays small. And how many are accepted.
 pub(crate) const MOST: usize = 64;
 
-// How often, in seconds, the loop looks for connections whose time is up, and tries again what the system may refuse
-// for a while: to accept a connection if no descriptor was left.
-pub(crate) const TICK: u64 = 1;
-
 /// Sockets, each in its slot.
 #[derive(Drop)]
-pub(crate) struct Sockets {
+pub(crate) struct Sockets<T> {
     pub(crate) alloc: Global,
-    pub(crate) sides: Vec<Option<Side>>,
+    pub(crate) sides: Vec<Option<Side<T>>>,
     // The slots without a socket.
     pub(crate) free: Vec<usize>,
     // Those that may have something to do, in the order of their turns.
@@ -42,28 +38,20 @@ pub(crate) struct Sockets {
     pub(crate) left: u32,
     // When it was looked for connections whose time is up, by the desk's own time.
     pub(crate) swept: Option<Duration>,
-    pub(crate) listener: TcpListener,
-    pub(crate) poll: Poll,
     pub(crate) room: Vec<u8>,
     pub(crate) patience: Patience,
     // What the log is to tell of this round.
     pub(crate) lines: Lines,
 }
 
-impl Sockets {
-    /// Listens on an address, with so many slots.
-    pub(crate) fn new<N: Net>(
-        net: &N,
+impl<T: Stream> Sockets<T> {
+    /// So many slots, all free.
+    pub(crate) fn new(
         alloc: Global,
-        address: SocketAddr,
         slots: usize,
         patience: Patience,
         lines: Lines,
-    ) -> Result<Sockets, LoopFault> {
-        let poll = Poll::new(net)?;
-        let mut listener = TcpListener::bind(net, address)?;
-        poll.registry()
-            .register(&mut listener, Token(LISTENER), Interest::READABLE)?;
+    ) -> Result<Sockets<T>, LoopFault> {
         let mut sides = Vec::with_capacity(alloc, slots)?;
         let mut free = Vec::with_capacity(alloc, slots)?;
         for slot in 0..slots {
@@ -79,27 +67,24 @@ impl Sockets {
             more_wait: true,
             left: 0,
             swept: None,
-            listener,
-            poll,
             room: Vec::from_elem(alloc, 0u8, ROOM)?,
             patience,
             lines,
         })
     }
 
-    pub(crate) fn address(&self) -> io::Result<SocketAddr> {
-        self.listener.local_addr()
-    }
-
     /// A round begins, and so many connections are to be accepted yet. Bodies for which there is room by now are
     /// read on.
-    pub(crate) fn begin(&mut self, left: u32) -> Result<(), LoopFault> {
+    pub(crate) fn begin(&mut self, left: u32) -> Result<(), LoopFault>
+        ensures { sockets_of T.left T.written self.new.sides.items
+            ≡ sockets_of T.left T.written self.old.sides.items }
+    {
         self.more_wait |= left > self.left;
         self.left = left;
         self.retry_short()
     }
 
-    /// Whether no socket is open, but that of the port.
+    /// Whether no socket is open.
     pub(crate) fn are_closed(&self) -> bool {
         self.free.len() == self.sides.len()
     }
@@ -110,55 +95,42 @@ impl Sockets {
         self.sides.len().saturating_add(3 * MOST)
     }
 
-    /// Waits for the system to tell of sockets, but not if there is more to do.
-    pub(crate) fn wait(&mut self, events: &mut Events) -> io::Result<()> {
-        let wait = if self.ready.is_empty() && !self.more_wait {
-            Duration::from_secs(TICK)
-        } else {
-            Duration::ZERO
-        };
-        self.poll_for(events, wait)
-    }
-
-    pub(crate) fn poll_for(&mut self, events: &mut Events, wait: Duration) -> io::Result<()> {
-        match self.poll.poll(events, Some(wait)) {
-            Err(error) if error.kind() != ErrorKind::Interrupted => Err(error),
-            _ => Ok(()),
-        }
-    }
-
-    /// There is no memory to tell of anything, so nothing is read or written. Waits for a while; what the system
-    /// tells of sockets counts.
-    pub(crate) fn rest(&mut self, events: &mut Events) -> Result<(), LoopFault> {
-        self.poll_for(events, Duration::from_secs(TICK))?;
-        self.hear_of(events)
+    /// Whether there is nothing to do unless the system tells of it.
+    pub(crate) fn rests(&self) -> bool {
+        self.ready.is_empty() && !self.more_wait
     }
 
     /// One read or write of each socket that is ready, beside connections as they stand. What came of it is to be told.
-    pub(crate) fn round(
+    pub(crate) fn round<D: Door<T>>(
         &mut self,
+        door: &mut D,
         connections: &Connections,
-        events: &mut Events,
         now: Moment,
         told: &mut Vec<Event>,
-    ) -> Result<(), LoopFault> {
-        self.hear_of(events)?;
+    ) -> Result<(), LoopFault>
+        ensures told { OnOk result (Tells T.left T.written connections.now.slots.items
+            self.old.sides.items told.old.items self.new.sides.items told.new.items) }
+        ensures stopped { OnErr result (TellsBut T.left T.written connections.now.slots.items
+            self.old.sides.items told.old.items self.new.sides.items told.new.items) }
+    {
+        self.hear_of(door.events())?;
         self.visit_ready(connections, now, told)?;
-        self.sweep_if_due(connections, events, now, told)?;
+        self.sweep_if_due(connections, door, now, told)?;
         if self.more_wait {
-            self.accept(connections, now, told)?;
+            self.accept(door, connections, now, told)?;
         }
         Ok(())
     }
 
     // Those of which the system tells get their turns after those that wait for theirs.
-    pub(crate) fn hear_of(&mut self, events: &Events) -> Result<(), LoopFault> {
+    pub(crate) fn hear_of(&mut self, events: &Events) -> Result<(), LoopFault>
+        ensures { sockets_of T.left T.written self.new.sides.items
+            ≡ sockets_of T.left T.written self.old.sides.items }
+    {
         for event in events.iter() {
-            let slot = event.token().0;
-            if slot == LISTENER {
-                self.more_wait = true;
-            } else {
-                self.list(slot, Listed::Ready)?;
+            match slot_of(event.token()) {
+                Some(slot) => self.list(slot, Listed::Ready)?,
+                None => self.more_wait = true,
             }
         }
         Ok(())
@@ -171,16 +143,37 @@ impl Sockets {
         connections: &Connections,
         now: Moment,
         told: &mut Vec<Event>,
-    ) -> Result<(), LoopFault> {
+    ) -> Result<(), LoopFault>
+        ensures told { OnOk result (Tells T.left T.written connections.now.slots.items
+            self.old.sides.items told.old.items self.new.sides.items told.new.items) }
+        ensures stopped { OnErr result (TellsBut T.left T.written connections.now.slots.items
+            self.old.sides.items told.old.items self.new.sides.items told.new.items) }
+    {
         for _ in 0..self.ready.len() {
             if told.len() >= MOST {
                 return Ok(());
             }
-            if let Some(slot) = self.ready.pop_front() {
-                self.visit(connections, slot, now, told)?;
-            }
+            self.visit_next(connections, now, told)?;
         }
         Ok(())
+    }
+
+    // The turn of the next one, if one waits.
+    fn visit_next(
+        &mut self,
+        connections: &Connections,
+        now: Moment,
+        told: &mut Vec<Event>,
+    ) -> Result<(), LoopFault>
+        ensures told { OnOk result (Tells T.left T.written connections.now.slots.items
+            self.old.sides.items told.old.items self.new.sides.items told.new.items) }
+        ensures stopped { OnErr result (TellsBut T.left T.written connections.now.slots.items
+            self.old.sides.items told.old.items self.new.sides.items told.new.items) }
+    {
+        match self.ready.pop_front() {
+            Some(slot) => self.visit(connections, slot, now, told),
+            None => Ok(()),
+        }
     }
 
     // One read or write of the socket in a slot, which is listed no more.
@@ -190,86 +183,95 @@ impl Sockets {
         slot: usize,
         now: Moment,
         told: &mut Vec<Event>,
-    ) -> Result<(), LoopFault> {
+    ) -> Result<(), LoopFault>
+        ensures told { OnOk result (Tells T.left T.written connections.now.slots.items
+            self.old.sides.items told.old.items self.new.sides.items told.new.items) }
+        ensures stopped { OnErr result (TellsBut T.left T.written connections.now.slots.items
+            self.old.sides.items told.old.items self.new.sides.items told.new.items) }
+    {
         let Some(mut side) = self.take_out(slot) else {
             return Ok(());
         };
         side.list = Listed::Nowhere;
-        let visit = self.transfer(connections, slot, &mut side, now, told)?;
-        if visit == Visit::Over {
-            return self.leave(slot, Listed::Nowhere);
-        }
-        self.put_back(slot, side);
-        match visit {
-            Visit::Goes => self.list(slot, Listed::Ready),
-            Visit::Short => self.list(slot, Listed::Short),
-            _ => Ok(()),
+        match self.transfer(connections, slot, &mut side, now) {
+            Visit::Told(event) => {
+                self.put_in(slot, side, Listed::Ready)?;
+                tell(told, event)
+            }
+            Visit::Goes => self.put_in(slot, side, Listed::Ready),
+            Visit::Waits => self.put_in(slot, side, Listed::Nowhere),
+            Visit::Short => self.put_in(slot, side, Listed::Short),
+            Visit::Failed => {
+                tell(told, Event::Failed(slot))?;
+                self.leave(slot, Listed::Nowhere)
+            }
+            Visit::Over => self.leave(slot, Listed::Nowhere),
         }
     }
 
+    // A socket that was taken out of its slot is put back, and waits among these for a visit.
+    fn put_in(&mut self, slot: usize, side: Side<T>, list: Listed) -> Result<(), LoopFault>
+        ensures { sockets_of T.left T.written self.new.sides.items
+            ≡ slice_set (sockets_of T.left T.written self.old.sides.items) slot
+            (Some (socket_of T.left T.written side)) }
+    {
+        self.put_back(slot, side);
+        self.list(slot, list)
+    }
+
     // A slot waits for a visit, unless it does already.
-    fn list(&mut self, slot: usize, list: Listed) -> Result<(), LoopFault> {
+    fn list(&mut self, slot: usize, list: Listed) -> Result<(), LoopFault>
+        ensures { sockets_of T.left T.written self.new.sides.items
+            ≡ sockets_of T.left T.written self.old.sides.items }
+    {
         let Some(mut side) = self.take_out(slot) else {
             return Ok(());
         };
-        if side.list == Listed::Nowhere {
-            side.list = list;
-            if list == Listed::Ready {
-                self.ready.push_back(slot)?;
-            } else {
-                self.short.push_back(slot)?;
-            }
+        if side.list != Listed::Nowhere {
+            self.put_back(slot, side);
+            return Ok(());
         }
+        side.list = list;
         self.put_back(slot, side);
+        self.wait_among(slot, list)
+    }
+
+    // A slot waits for a visit among these.
+    fn wait_among(&mut self, slot: usize, list: Listed) -> Result<(), LoopFault>
+        ensures { self.new.sides.items ≡ self.old.sides.items }
+    {
+        match list {
+            Listed::Nowhere => {}
+            Listed::Ready => self.ready.push_back(slot)?,
+            Listed::Short => self.short.push_back(slot)?,
+        }
         Ok(())
     }
 
     /// Ends the connection in a slot at once.
-    pub(crate) fn end(&mut self, slot: usize, told: &mut Vec<Event>) -> Result<(), LoopFault> {
+    pub(crate) fn end(&mut self, slot: usize, told: &mut Vec<Event>) -> Result<(), LoopFault>
+        ensures told { (shown : _) → OnOk result (Tells T.left T.written shown
+            self.old.sides.items told.old.items self.new.sides.items told.new.items) }
+        ensures stopped { (shown : _) → OnErr result (TellsBut T.left T.written shown
+            self.old.sides.items told.old.items self.new.sides.items told.new.items) }
+        ensures free { slot < length self.old.sides.items → slice_get self.new.sides.items slot ≡ Some None }
+        ensures slots { length self.new.sides.items ≡ length self.old.sides.items }
+    {
         let Some(side) = self.take_out(slot) else {
             return Ok(());
         };
-        if !side.is_closing {
-            told.push(Event::Late(slot))?;
+        if side.is_closing {
+            return self.leave(slot, side.list);
         }
+        tell(told, Event::Late(slot))?;
         self.leave(slot, side.list)
     }
 
-    /// The device has failed: replies that wait go out as far as the sockets take them at once. What the last round
-    /// told may not have been looked at. So nothing goes to a socket that came or was written to in it: what is
-    /// shown of its slot may have gone out already, or be the reply of the connection that was there before.
-    pub(crate) fn show_last(&mut self, connections: &Connections, now: Option<Moment>) {
-        for slot in 0..self.sides.len() {
-            if let Some(mut side) = self.take_out(slot) {
-                if !side.is_ahead {
-                    self.write_last(connections, slot, &mut side, now);
-                }
-                let _ = side.stream.shutdown(Shutdown::Write);
-            }
-        }
-    }
-
-    // One write, after which nothing more is written to the socket.
-    fn write_last(
-        &mut self,
-        connections: &Connections,
-        slot: usize,
-        side: &mut Side,
-        now: Option<Moment>,
-    ) {
-        let text = connections.outgoing(slot);
-        if text.is_empty() {
-            return;
-        }
-        if let (Ok(count), Some(now)) = (side.stream.write(text), now) {
-            if count == text.len() {
-                self.replied(connections, slot, side, now);
-            }
-        }
-    }
-
     /// An event of a slot was told, and so many bytes may be read next.
-    pub(crate) fn let_read(&mut self, slot: usize, room: usize) {
+    pub(crate) fn let_read(&mut self, slot: usize, room: usize)
+        ensures { IsNoted slot (sockets_of T.left T.written self.old.sides.items)
+            (sockets_of T.left T.written self.new.sides.items) }
+    {
         if let Some(mut side) = self.take_out(slot) {
             side.let_read(room);
             self.put_back(slot, side);
@@ -282,7 +284,10 @@ impl Sockets {
     }
 
     // Those of them for which there is room by now are ready.
-    fn retry_short(&mut self) -> Result<(), LoopFault> {
+    fn retry_short(&mut self) -> Result<(), LoopFault>
+        ensures { sockets_of T.left T.written self.new.sides.items
+            ≡ sockets_of T.left T.written self.old.sides.items }
+    {
         for _ in 0..self.short.len() {
             if let Some(slot) = self.short.pop_front() {
                 self.retry(slot)?;
@@ -292,7 +297,10 @@ impl Sockets {
     }
 
     // One of them; it stays among them if there is still no room.
-    fn retry(&mut self, slot: usize) -> Result<(), LoopFault> {
+    fn retry(&mut self, slot: usize) -> Result<(), LoopFault>
+        ensures { sockets_of T.left T.written self.new.sides.items
+            ≡ sockets_of T.left T.written self.old.sides.items }
+    {
         let Some(mut side) = self.take_out(slot) else {
             return Ok(());
         };
@@ -302,11 +310,18 @@ impl Sockets {
         } else {
             Listed::Short
         };
-        self.put_back(slot, side);
-        self.list(slot, list)
+        self.put_in(slot, side, list)
     }
 
-    fn take_out(&mut self, slot: usize) -> Option<Side> {
+    // Takes the socket out of a slot, if there is one.
+    pub(crate) fn take_out(&mut self, slot: usize) -> Option<Side<T>>
+        ensures some { IfSome result (λ taken. slice_get self.old.sides.items slot ≡ Some (Some taken)) }
+        ensures new { IfSome result (λ taken.
+            self.new.sides.items ≡ slice_set self.old.sides.items slot None) }
+        ensures none { IfNone result (self.new.sides.items ≡ self.old.sides.items) }
+        ensures free { IfNone result (slot < length self.old.sides.items
+            → slice_get self.old.sides.items slot ≡ Some None) }
+    {
         if slot < self.sides.len() {
             self.sides[slot].take()
         } else {
@@ -314,14 +329,19 @@ impl Sockets {
         }
     }
 
-    pub(crate) fn put_back(&mut self, slot: usize, side: Side) {
+    // Puts a socket into a slot.
+    pub(crate) fn put_back(&mut self, slot: usize, side: Side<T>)
+        ensures { self.new.sides.items ≡ slice_set self.old.sides.items slot (Some side) }
+    {
         if slot < self.sides.len() {
             self.sides[slot] = Some(side);
         }
     }
 
     // A slot gets free. It was listed there.
-    fn leave(&mut self, slot: usize, listed: Listed) -> Result<(), LoopFault> {
+    fn leave(&mut self, slot: usize, listed: Listed) -> Result<(), LoopFault>
+        ensures { self.new.sides.items ≡ self.old.sides.items }
+    {
         match listed {
             Listed::Nowhere => {}
             Listed::Ready => self.ready.retain(|other| *other != slot),
@@ -333,8 +353,18 @@ impl Sockets {
     }
 }
 
+/// Tells an event, after those that were told.
+pub(crate) fn tell(told: &mut Vec<Event>, event: Event) -> Result<(), LoopFault>
+    ensures told { OnOk result
+        (map event_of told.new.items ≡ map event_of told.old.items ++ event_of event ∷ []) }
+    ensures same { OnErr result (map event_of told.new.items ≡ map event_of told.old.items) }
+{
+    told.push(event)?;
+    Ok(())
+}
+
 /// At which stage the connection in a slot is.
-pub(crate) fn stage(connections: &Connections, slot: usize, side: &Side) -> Stage {
+pub(crate) fn stage<T: Stream>(connections: &Connections, slot: usize, side: &Side<T>) -> Stage {
     if side.is_closing {
         return Stage::Closing;
     }

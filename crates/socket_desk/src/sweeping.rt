@@ -1,32 +1,46 @@
 //! Connections whose time is up: each ends, once the system has nothing more to tell of it.
+ghost use Rattle.std.specs.Prelude.{◌≡◌, OnErr, OnOk};
+ghost use Rattle.socket_desk.specs.Traffic.{Tells, TellsBut, sockets_of};
+
 use crate::fault::LoopFault;
 use crate::moment::Moment;
 use crate::patience::Stage;
-use crate::sockets::{Sockets, TICK, stage};
+use crate::port::{Door, EVENTS, are_all};
+use crate::sockets::{Sockets, stage};
+use crate::stream::Stream;
 use bureau_http::ConnFault;
 use connections::{Connections, Event};
-use mio::Events;
 use std::time::Duration;
 
-/// How many events of sockets one wait tells at most.
-pub(crate) const EVENTS: usize = 1024;
+// How often, in seconds, the loop looks for connections whose time is up, and tries again what the system may refuse
+// for a while: to accept a connection if no descriptor was left.
+pub(crate) const TICK: u64 = 1;
 
-impl Sockets {
+impl<T: Stream> Sockets<T> {
     /// Looks for connections whose time is up, if that is due and the system has told all that lies there: after a pause
     /// of the desk one wait may tell of a part of them, or of none.
-    pub(crate) fn sweep_if_due(
+    pub(crate) fn sweep_if_due<D: Door<T>>(
         &mut self,
         connections: &Connections,
-        events: &mut Events,
+        door: &mut D,
         now: Moment,
         told: &mut Vec<Event>,
-    ) -> Result<(), LoopFault> {
-        if self.is_due(now) && self.hear_all(events)? {
-            self.swept = Some(now.own);
-            self.more_wait = true;
-            self.sweep(connections, now, told)?;
+    ) -> Result<(), LoopFault>
+        ensures told { OnOk result (Tells T.left T.written connections.now.slots.items
+            self.old.sides.items told.old.items self.new.sides.items told.new.items) }
+        ensures stopped { OnErr result (TellsBut T.left T.written connections.now.slots.items
+            self.old.sides.items told.old.items self.new.sides.items told.new.items) }
+    {
+        if !self.is_due(now) {
+            return Ok(());
         }
-        Ok(())
+        let has_heard = self.hear_all(door)?;
+        if !has_heard {
+            return Ok(());
+        }
+        self.swept = Some(now.own);
+        self.more_wait = true;
+        self.sweep(connections, now, told)
     }
 
     // Whether it is time to look for connections whose time is up.
@@ -39,11 +53,14 @@ impl Sockets {
 
     // Hears all that the system has to tell at once: a wait that tells fewer events than it could has told them all.
     // False if there may be more.
-    fn hear_all(&mut self, events: &mut Events) -> Result<bool, LoopFault> {
+    fn hear_all<D: Door<T>>(&mut self, door: &mut D) -> Result<bool, LoopFault>
+        ensures { sockets_of T.left T.written self.new.sides.items
+            ≡ sockets_of T.left T.written self.old.sides.items }
+    {
         for _ in 0..self.sides.len() / EVENTS + 2 {
-            self.poll_for(events, Duration::ZERO)?;
-            self.hear_of(events)?;
-            if events.iter().count() < EVENTS {
+            door.wait(Duration::ZERO)?;
+            self.hear_of(door.events())?;
+            if are_all(door.events()) {
                 return Ok(true);
             }
         }
@@ -56,14 +73,36 @@ impl Sockets {
         connections: &Connections,
         now: Moment,
         told: &mut Vec<Event>,
-    ) -> Result<(), LoopFault> {
+    ) -> Result<(), LoopFault>
+        ensures told { OnOk result (Tells T.left T.written connections.now.slots.items
+            self.old.sides.items told.old.items self.new.sides.items told.new.items) }
+        ensures stopped { OnErr result (TellsBut T.left T.written connections.now.slots.items
+            self.old.sides.items told.old.items self.new.sides.items told.new.items) }
+    {
         for slot in 0..self.sides.len() {
-            if self.is_late(connections, slot, now) {
-                self.tell_late(connections, slot);
-                self.end(slot, told)?;
-            }
+            self.sweep_one(connections, slot, now, told)?;
         }
         Ok(())
+    }
+
+    // Ends the connection in a slot if its time is up.
+    fn sweep_one(
+        &mut self,
+        connections: &Connections,
+        slot: usize,
+        now: Moment,
+        told: &mut Vec<Event>,
+    ) -> Result<(), LoopFault>
+        ensures told { OnOk result (Tells T.left T.written connections.now.slots.items
+            self.old.sides.items told.old.items self.new.sides.items told.new.items) }
+        ensures stopped { OnErr result (TellsBut T.left T.written connections.now.slots.items
+            self.old.sides.items told.old.items self.new.sides.items told.new.items) }
+    {
+        if !self.is_late(connections, slot, now) {
+            return Ok(());
+        }
+        self.tell_late(connections, slot);
+        self.end(slot, told)
     }
 
     // Whether the time of the connection in a slot is up.
@@ -75,7 +114,9 @@ impl Sockets {
     }
 
     // The time of a connection is up. That it can't be read, or written, is told of one with a request alone.
-    fn tell_late(&mut self, connections: &Connections, slot: usize) {
+    fn tell_late(&mut self, connections: &Connections, slot: usize)
+        ensures { self.new.sides.items ≡ self.old.sides.items }
+    {
         let Some(Some(side)) = self.sides.get(slot) else {
             return;
         };

@@ -1,0 +1,2 @@
+mod TrafficFacts
+mod LogFacts
