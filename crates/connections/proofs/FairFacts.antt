@@ -228,10 +228,6 @@ none_next t at caller h none other =
     let next : suc at ≡ at + 1 = omega (arith) in
     subst (λ n. IsNoneOf caller (callers_in (map waits_of (take n t)))) next (none_to t at caller h none other)
 
-pub on_err : {A E P : Type 0} (r : Result A E) → P → OnErr r P
-on_err (Ok a) p = tt
-on_err (Err e) p = p
-
 pub joined_ok : {A E : Type 0} (r : Result A E) (old new : List Waiting) (at : ℕ) (caller : Caller) (slot : ℕ) (found : Waiting) → slice_get old at ≡ Some found → (waits_of found).caller ≡ caller
     → OnOk r (IsMore at true slot old new) → OnOk r (Joins caller slot (map waits_of old) (map waits_of new))
 joined_ok (Ok u) old new at caller slot found get is more = joined_at old new at caller slot found get is more

@@ -102,7 +102,8 @@ impl Incoming {
 
     /// Whether the next request is known to have more bytes than these and so many more.
     pub fn is_short_of(&self, more: usize) -> bool
-        ensures { (unread : List ℕ) → length unread ≡ more → IsTrue result → IsUnfinished (self.now ++ unread) }
+        ensures { (unread : List ℕ) → length unread ≡ more → IsTrue result
+            → IsUnfinished (self.now ++ unread) }
     {
         match self.progress.wanted().checked_sub(self.bytes.len()) {
             Some(missing) => more < missing,
