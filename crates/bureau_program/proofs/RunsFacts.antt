@@ -7,14 +7,15 @@ use Rattle.bureau_store.specs.SetCallers.{with_callers}
 use Rattle.bureau_store.specs.Tables.{AreInOrder, Tables, opened}
 use Rattle.bureau_store.specs.declared.caller.Caller.{Caller}
 use Rattle.bureau_store.specs.declared.caller.CallerRow.{CallerRow}
-use Rattle.bureau.specs.Course.{Callers, IsAloneWhereItStays, IsCourse, Stage}
+use Rattle.bureau.specs.Course.{Callers, IsCourse, Stage}
 use Rattle.bureau.specs.Call.{Call}
 use Rattle.bureau.specs.Joint.{CallBy, IsRun, IsStep, tables_left}
 use Rattle.bureau.specs.Kept.{IsToldOfNoTables, IsWithOneRefused, TellNothing}
 use Rattle.bureau.specs.Outcome.{Answer, Outcome, accepted, answer_of, answered, forbidden, may_ask, no_room, outcome, outcome_allowed}
 use Rattle.bureau.specs.View.{view_of}
 use Rattle.bureau.proofs.AgreesFacts.{view_caller}
-use Rattle.bureau.proofs.CourseFacts.{course_of, join_courses}
+use Rattle.bureau.proofs.AgainFacts.{acts_once_in, stays_stale_in}
+use Rattle.bureau.proofs.CourseFacts.{alone_in, course_of, join_courses}
 use Rattle.bureau.proofs.KeptFacts.{not_503}
 use Rattle.bureau.proofs.RepeatFacts.{split_run, run_join}
 use Rattle.connections.specs.Rounds.{Log}
@@ -32,9 +33,6 @@ use Rattle.store_runs.specs.declared.ended.Ended.TheVariants.{Nothing, Left, Clo
 use Rattle.store_runs.proofs.StayFacts.{kept_tables}
 use Rattle.bureau_program.proofs.KeepingFacts.{in_order}
 use Rattle.bureau_program.proofs.StayingFacts.{all_have, has_the_publisher, publisher_stays}
-
-abbrev pub Isolation : Type 0
-Isolation = (opening closing : Tables) (stages : List Stage) → AreInOrder opening → IsCourse opening stages closing → IsAloneWhereItStays opening stages
 
 not_asked : (caller : Caller) (call : Call) (this : Tables) → may_ask caller call ≡ false → outcome (view_of caller this) call ≡ answered forbidden
 not_asked caller call this refused =
@@ -145,16 +143,18 @@ all_joined run (next ∷ runs) this now later =
     )
 
 -- all of them, from the tables that the first one finds
-one_course : Isolation → (opening : Tables) (files : List FileRun) (runs : List Run) (this : Tables) → AreInOrder opening → AreRunsIn files runs
+one_course : (opening : Tables) (files : List FileRun) (runs : List Run) (this : Tables) → AreInOrder opening → AreRunsIn files runs
     → AreRuns (λ at. at ≡ opening) runs this → AreOneCourse opening runs this
-one_course isolation opening files [] this ordered within are = record {
+one_course opening files [] this ordered within are = record {
   all = [];
   joined = refl;
   course = are;
-  alone = isolation opening this [] ordered are;
+  alone = alone_in opening this [] ordered are;
+  once = acts_once_in opening this [] are;
+  stale = stays_stale_in opening this [] are;
   stays = λ has. tt;
 }
-one_course isolation opening files (run ∷ runs) this ordered within are =
+one_course opening files (run ∷ runs) this ordered within are =
     let it = all_joined run runs this are.1 are.2 in
     let whole : IsCourse opening it.0 this = subst (λ (at : Tables). IsCourse at it.0 this) are.0 it.2 in
     let have = all_have files (run ∷ runs) this it.0 within it.1 in
@@ -162,7 +162,9 @@ one_course isolation opening files (run ∷ runs) this ordered within are =
       all = it.0;
       joined = it.1;
       course = whole;
-      alone = isolation opening this it.0 ordered whole;
+      alone = alone_in opening this it.0 ordered whole;
+      once = acts_once_in opening this it.0 whole;
+      stale = stays_stale_in opening this it.0 whole;
       stays = λ has. publisher_stays opening.callers it.0 has have;
     }
 
@@ -204,22 +206,22 @@ all_held (Other left ∷ files) from last Begins held are = ∥∥₁_elim held 
     ) in r))
 
 -- from such tables
-pub held_after : Isolation → (opening : Tables) (image : Image) → HoldTables image (λ this. this ≡ opening)
+pub held_after : (opening : Tables) (image : Image) → HoldTables image (λ this. this ≡ opening)
     → (files : List FileRun) (last : Image) → AreRunsOver image files last → HoldAfter opening files last
-held_after isolation opening image held files last are = ∥∥₁_elim held squash₁ (λ it.
+held_after opening image held files last are = ∥∥₁_elim held squash₁ (λ it.
     let ordered : AreInOrder opening = subst AreInOrder it.2 (in_order image it.0 it.1) in
     ∥∥₁_map (all_held files image last (λ this. this ≡ opening) held are) (λ more.
     let r : (this : Tables) × HoldsStore last this × ((runs : List Run) × AreRunsIn files runs × AreRuns (λ at. at ≡ opening) runs this × AreOneCourse opening runs this) = (
       more.0,
       more.1,
-      (more.2.0, more.2.1, more.2.2, one_course isolation opening files more.2.0 more.0 ordered more.2.1 more.2.2),
+      (more.2.0, more.2.1, more.2.2, one_course opening files more.2.0 more.0 ordered more.2.1 more.2.2),
     ) in r))
 
 -- from the store that `init` made
-pub held_since : Isolation → (source : List ℕ) (image : Image) → HoldCallers source image → (files : List FileRun) (last : Image) → AreRunsOver image files last
+pub held_since : (source : List ℕ) (image : Image) → HoldCallers source image → (files : List FileRun) (last : Image) → AreRunsOver image files last
     → HoldSinceInit source files last
-held_since isolation source image made files last are =
-    (made.0, made.1, has_the_publisher source made.0 made.1, held_after isolation (opened made.0) image made.2 files last are)
+held_since source image made files last are =
+    (made.0, made.1, has_the_publisher source made.0 made.1, held_after (opened made.0) image made.2 files last are)
 
 -- and one more run
 one_more : (from : Image) (files : List FileRun) (last : Image) (run : FileRun) → AreRunsOver from files last → IsRunOver last run → AreRunsOver from (files ++ run ∷ []) (left_by run)
@@ -255,9 +257,9 @@ module _ {D : Type 0} {g : disk.Ghosts D} (from : Image) where
   nothing_kept (Left it) none = absurd none
   nothing_kept (Closed last) none = absurd none
 
-pub goes_on : Isolation → {D : Type 0} {g : disk.Ghosts D} (from : Image) (log log_after : Log) (outcome : Option AnyFault) (ended : Ended D g)
+pub goes_on : {D : Type 0} {g : disk.Ghosts D} (from : Image) (log log_after : Log) (outcome : Option AnyFault) (ended : Ended D g)
     → KeepsServed from log log_after outcome ended → GoesOn from log log_after outcome ended
-goes_on isolation from log log_after why ended kept well source image made runs are left may =
+goes_on from log log_after why ended kept well source image made runs are left may =
     let this : FileRun = Serves log log_after why left in
-    held_since isolation source image made (runs ++ this ∷ []) left
+    held_since source image made (runs ++ this ∷ []) left
     (one_more image runs from this are (serves_over from ended well left may log log_after why kept))

@@ -7,7 +7,7 @@ use Rattle.bureau_store.specs.Tables.{Tables, opened}
 use Rattle.bureau_store.specs.declared.caller.Caller.TheVariants.{Publisher}
 use Rattle.bureau_store.specs.declared.caller.CallerRow.{CallerRow}
 use Rattle.bureau_store.specs.declared.fault.StoreFault.TheVariants.{Device}
-use Rattle.bureau.specs.Course.{Called, Callers, IsAloneWhereItStays, IsCourse, Stage, Stays}
+use Rattle.bureau.specs.Course.{ActsOnceIn, Called, Callers, IsAloneWhereItStays, IsCourse, Stage, Stays, StaysStaleIn}
 use Rattle.bureau.specs.Joint.{CallBy, IsRun}
 use Rattle.bureau.specs.Kept.{TellNothing, tables_with}
 use Rattle.bureau.specs.Outcome.{answer_of, no_room, outcome}
@@ -153,6 +153,10 @@ pub record AreOneCourse (opening : Tables) (runs : List Run) (this : Tables) : T
   pub joined : AreJoined runs this all
   pub course : IsCourse opening all this
   pub alone : IsAloneWhereItStays opening all
+  -- A change acts once, in whichever run it comes again, as long as its caller stays. So does one that was told 503 at a stop, and
+  -- was made: it stands among the stages with the answer that it would have had.
+  pub once : ActsOnceIn opening all this
+  pub stale : StaysStaleIn opening all this
   -- The publisher stays, if it was there in the beginning, since each callers file has it.
   pub stays : HaveThePublisher opening.callers → Stays Publisher opening.callers all
 

@@ -24,7 +24,9 @@ use store_runs::Ended;
 /// A stop in `serve` leaves the tables after all that was acknowledged; or, if the device failed, perhaps those with
 /// the one change that was on its way. A stop in `callers` leaves the tables before it or after it. So it is over all
 /// runs: each reply to a caller who stays, other than 503, is that of a bureau which got only some of the calls before
-/// it. These are the publisher's and that caller's own, and perhaps the one on its way at each stop.
+/// it. These are the publisher's and that caller's own, and perhaps the one on its way at each stop. A change acts
+/// once: sent again after a stop it is told what it was told before, or would have been. What a stop may leave of a run
+/// is said from its end on (`Leaves`); that an earlier stop leaves no more is argued in `docs/PROVED.md`, *Trusted*.
 /// [`what_a_run_keeps`] says that each run of the program is such a run.
 pub fn any_number_of_runs()
     ensures made { (source : List ℕ) (image : Image) → HoldCallers source image

@@ -1,9 +1,8 @@
-use Rattle.bureau.proofs.CourseFacts.{alone_in}
 use Rattle.bureau_program.proofs.RunsFacts.{held_after, held_since}
 use Rattle.bureau_program.proofs.law.any_number_of_runs.Goals as goal
 
 pub returns-clause-made : goal.returns-clause-made
-returns-clause-made c = held_since alone_in
+returns-clause-made c = held_since
 
 pub returns-clause-tables : goal.returns-clause-tables
-returns-clause-tables c = held_after alone_in
+returns-clause-tables c = held_after
