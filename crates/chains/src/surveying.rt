@@ -1,5 +1,5 @@
 //! All verdicts of one zone.
-ghost use Rattle.std.specs.Prelude.{◌≡◌, List, IfOk, map};
+ghost use Rattle.std.specs.Prelude.{◌≡◌, List, IfOk, length, map};
 ghost use Rattle.catalogue.specs.Content.{Content};
 ghost use Rattle.catalogue.specs.Ids.{Ascend};
 ghost use Rattle.catalogue.specs.View.{MayAsk, Tells};
@@ -66,6 +66,13 @@ impl Survey {
     {
         let resolution = resolve(alloc, &cut.nodes)?;
         Ok(Survey { cut, resolution })
+    }
+
+    /// The number of ids that it has verdicts on.
+    pub fn count(&self) -> usize
+        ensures { result ≡ length self.now.members }
+    {
+        self.cut.members.len()
     }
 
     /// Gives the verdict on a SYSMOD.
