@@ -1,8 +1,8 @@
 -- What is kept of the whole catalogue stays right where it is added to, or loses something, and over a publication.
-use Rattle.std.proofs.Common.{◌≡◌, ◌++◌, ◌∷◌, [], ℕ, List, None, Some, inl, inr, refl, subst, sym}
+use Rattle.std.proofs.Common.{◌≡◌, ◌⊎◌, ◌++◌, [], ℕ, List, None, Option, Some, inl, inr, refl, slice_get, subst, sym}
 use Rattle.std.specs.Prelude.{IfSome}
 use Rattle.std.specs.List.{Contains}
-use Rattle.std.proofs.lemmas.List.Elements.{Contains-append_left, Contains-push_cases}
+use Rattle.std.proofs.lemmas.List.Elements.{Contains-append_left}
 use Rattle.lemmas.proofs.ListFacts.{none_inside}
 use Rattle.lemmas.proofs.ResultFacts.{if_some, some_is}
 use Rattle.catalogue.specs.Content.{Content, IsInOrder}
@@ -14,6 +14,7 @@ use Rattle.listings.specs.Marks.{IsListingBut}
 use Rattle.listings.specs.Sights.{IsListing, ListingLists}
 use Rattle.chains.specs.Surveys.{IsSurvey, SurveyLists}
 use Rattle.listings.proofs.MarkFacts.{listing_but, more_marks, still_listed}
+use Rattle.chain_cache.proofs.KeptFacts.{inside_at}
 use Rattle.chain_cache.specs.Cache.{AreSurveys, MayBeMarked, SurveyedLists, ZoneSurvey, nothing_surveyed}
 
 -- what is catalogued is put
@@ -50,24 +51,24 @@ same_listing : (content : Content) (old new : SurveyedLists) → new.listing ≡
 same_listing content old new same marked were =
     subst (λ found. IfSome found (IsListingBut content new.marks)) (sym same) (subst (λ marks. IfSome old.listing (IsListingBut content marks)) (sym marked) were.listing)
 
--- some surveys may be gone
-pub right_fewer : (content : Content) (old new : SurveyedLists) → new.listing ≡ old.listing → new.marks ≡ old.marks → ((kept : ZoneSurvey) → Contains new.zones kept → Contains old.zones kept)
-    → AreSurveys content old → AreSurveys content new
-right_fewer content old new same marked fewer were = record {
-  listing = same_listing content old new same marked were;
-  each = λ kept member. were.each kept (fewer kept member);
-}
-
--- a survey is put
+-- some surveys may be gone, and one is put
 pub right_put : (content : Content) (old new : SurveyedLists) (rows : List ZoneRow) (survey : SurveyLists) → new.listing ≡ old.listing → new.marks ≡ old.marks
-    → new.zones ≡ old.zones ++ record { rows = rows; survey = survey } ∷ [] → IsSurvey content rows survey → AreSurveys content old → AreSurveys content new
-right_put content old new rows survey same marked now is were = record {
+    → ((kept : ZoneSurvey) → Contains new.zones kept → Contains old.zones kept ⊎ (kept ≡ record { rows = rows; survey = survey })) → IsSurvey content rows survey → AreSurveys content old
+    → AreSurveys content new
+right_put content old new rows survey same marked each is were = record {
   listing = same_listing content old new same marked were;
-  each = λ kept member. elim (Contains-push_cases old.zones (record { rows = rows; survey = survey }) kept (subst (λ zones. Contains zones kept) now member)) [
+  each = λ kept member. elim (each kept member) [
     | inl earlier ↦ were.each kept earlier
-    | inr this ↦ subst (λ (kept : ZoneSurvey). IsSurvey content kept.rows kept.survey) this is
+    | inr this ↦ subst (λ (kept : ZoneSurvey). IsSurvey content kept.rows kept.survey) (sym this) is
   ];
 }
+
+-- one that is found is that of its zone
+pub found_right : (content : Content) (surveys : SurveyedLists) (at : ℕ) (rows : List ZoneRow) (survey lent : SurveyLists) → slice_get surveys.zones at ≡ Some (record { rows = rows; survey = survey })
+    → IfSome (slice_get surveys.zones at) (λ kept. lent ≡ kept.survey) → AreSurveys content surveys → IsSurvey content rows lent
+found_right content surveys at rows survey lent is lends were =
+    let now : lent ≡ survey = subst (λ (found : Option ZoneSurvey). IfSome found (λ kept. lent ≡ kept.survey)) is lends in
+    subst (IsSurvey content rows) (sym now) (were.each (record { rows = rows; survey = survey }) (inside_at surveys.zones at (record { rows = rows; survey = survey }) is))
 
 -- ---- over a publication
 

@@ -1,5 +1,6 @@
 -- Kept frames. An entry is an id with its frame. The one that was used last stands first.
-use Rattle.std.specs.Prelude.{◌⊎◌, [], ◌≡◌, ◌≤◌, ◌+◌, ◌-◌, ◌++◌, ℕ, Bool, true, false, List, ◌∷◌, Contains, IfSome, IsSome, None, Option, Some, filter, is_some, length, min, not, slice_get, take}
+use Rattle.std.specs.Prelude.{◌⊎◌, [], ◌≡◌, ◌≤◌, ◌+◌, ◌*◌, ◌-◌, ◌++◌, ℕ, Bool, true, false, List, ◌∷◌, Contains, IfSome, IsSome, None, Option, Some, filter, is_some, length, min, not, slice_get, take}
+use Rattle.std.specs.List.{sum_by}
 use Rattle.std.specs.Map.{lookup}
 use Rattle.lru.specs.LruCache.{promoted}
 use Rattle.zone_lists.specs.declared.zones.ZoneRow.{ZoneRow}
@@ -34,9 +35,14 @@ pub record IsFresh (surveys : SurveyedLists) : Type 0 where
 abbrev pub MayBeMarked : List (List ℕ) → SurveyedLists → SurveyedLists → Type 0
 MayBeMarked ids old new = (new ≡ record { listing = old.listing; marks = old.marks ++ ids; zones = [] }) ⊎ (new ≡ nothing_surveyed)
 
--- surveys are kept of at most 16 zones
-abbrev pub AreFew : SurveyedLists → Type 0
-AreFew surveys = length surveys.zones ≤ 16
+-- The bytes that are counted for a zone with its survey: 8 for each of its rows, 100 for each id on which the survey has a verdict,
+-- and 65,536 besides.
+abbrev pub survey_bytes : ZoneSurvey → ℕ
+survey_bytes kept = 65536 + 8 * length kept.rows + 100 * length kept.survey.members
+
+-- all surveys together take at most 256 MiB
+abbrev pub AreBounded : SurveyedLists → Type 0
+AreBounded surveys = sum_by survey_bytes surveys.zones ≤ 268435456
 
 -- the whole cache: frames, the number of them for which there is room, the number of frames that were put so far, and the
 -- parts on the whole catalogue

@@ -7,7 +7,7 @@ ghost use Rattle.catalogue.specs.Ids.{Ascend};
 ghost use Rattle.catalogue.specs.Touched.{AgreeOutside};
 ghost use Rattle.catalogue.specs.View.{MayAsk, Tells};
 ghost use Rattle.catalogue.specs.declared.fault.SourceFault.TheVariants.{Device};
-ghost use Rattle.chain_cache.specs.Cache.{AreFew, AreFilled, CacheLists, IsAsked, IsFilled, IsFresh, IsRightFor, KeepsFrames, MayBeMarked, after_hit, has, nothing_surveyed, untouched};
+ghost use Rattle.chain_cache.specs.Cache.{AreBounded, AreFilled, CacheLists, IsAsked, IsFilled, IsFresh, IsRightFor, KeepsFrames, MayBeMarked, after_hit, has, nothing_surveyed, untouched};
 ghost use Rattle.chain_cache.specs.Lent.{ends_filled};
 ghost use Rattle.verdicts.specs.Candidates.{candidates_unless_there};
 ghost use Rattle.chains.specs.Frames.{FrameLists, IsFrame};
@@ -41,7 +41,8 @@ pub(crate) const NODES_MOST: usize = 256;
 /// the cache looks over the whole zone. For that it reads once what is catalogued, whatever the zone. It keeps this
 /// listing over publications: it marks the ids that they touch, and reads them anew before the next survey. It finds
 /// candidates in the listing, and asks the source for ids that are marked. If many SYSMODs are asked for, it reads the
-/// listing first. It keeps the surveys of up to 16 zones until the next publication.
+/// listing first. Until the next publication it keeps the surveys of zones,
+/// those that were used last: as many as take 256 MiB.
 #[derive(Debug, Drop)]
 pub struct ChainCache {
     frames: Frames,
@@ -50,7 +51,7 @@ pub struct ChainCache {
 }
 
 impl Model for ChainCache {
-    ghost use Rattle.chain_cache.specs.Cache.{AreFew, CacheLists};
+    ghost use Rattle.chain_cache.specs.Cache.{AreBounded, CacheLists};
 
     ghost Value = { CacheLists };
 
@@ -61,7 +62,7 @@ impl Model for ChainCache {
       surveys = cache.surveys;
     } };
 
-    ghost invariant = { λ cache. AreFew cache.surveys };
+    ghost invariant = { λ cache. AreBounded cache.surveys };
 }
 
 impl ChainCache {
@@ -166,7 +167,7 @@ impl ChainCache {
         ensures right { Tells P.content_view source.old source.new
             (λ content. IsRightFor self.old content → IsRightFor self.new content) }
         ensures err { OnErr result (self.new ≡ self.old) }
-        ensures few { AreFew self.new.surveys }
+        ensures bounded { AreBounded self.new.surveys }
     {
         if self.use_kept(id) {
             return Ok(true);
@@ -187,7 +188,7 @@ impl ChainCache {
         ensures filled { result ≡ true → (frame : FrameLists) × IsFilled id.now frame self.old self.new }
         ensures same { result ≡ false → self.new ≡ self.old }
         ensures right { (content : Content) → IsRightFor self.old content → IsRightFor self.new content }
-        ensures few { AreFew self.new.surveys }
+        ensures bounded { AreBounded self.new.surveys }
     {
         self.frames.promote(id)
     }
@@ -248,12 +249,12 @@ impl ChainCache {
         ensures right { Tells P.content_view source.old source.new
             (λ content. IsRightFor self.old content → IsRightFor self.new content) }
         ensures frames { KeepsFrames self.old self.new }
-        ensures few { AreFew self.new.surveys }
+        ensures bounded { AreBounded self.new.surveys }
     {
         self.surveys.read_listing(alloc, source)?;
         let survey = self.surveys.survey(alloc, zone)?;
         let verdict = survey.verdict(alloc, id)?;
-        self.surveys.keep(zone, survey)?;
+        self.surveys.keep(zone, survey);
         Ok(verdict)
     }
 }
@@ -278,13 +279,13 @@ impl<P: Published> Judge<P> for ChainCache {
         ensures right { Tells P.content_view source.old source.new
             (λ content. IsRightFor self.old content → IsRightFor self.new content) }
         ensures asked { IsAsked id.now self.old self.new }
-        ensures few { AreFew self.new.surveys }
+        ensures bounded { AreBounded self.new.surveys }
     {
         if self.use_kept(id) {
             return Ok(self.first_verdict(alloc, zone, id)?);
         }
-        if let Some(survey) = self.surveys.of(zone) {
-            return Ok(survey.verdict(alloc, id)?);
+        if let Some(at) = self.find_survey(zone) {
+            return Ok(self.survey_at(at).verdict(alloc, id)?);
         }
         let is_first = self.fill_small(alloc, source, id, NODES_MOST)?;
         if is_first {
@@ -310,10 +311,10 @@ impl<P: Published> Judge<P> for ChainCache {
             (λ content. IsRightFor self.old content → IsRightFor self.new content) }
         ensures filled { (n : ℕ) × (between : CacheLists) × AreFilled (take n ids.now) self.old between
             × KeepsFrames between self.new }
-        ensures few { AreFew self.new.surveys }
+        ensures bounded { AreBounded self.new.surveys }
     {
-        if let Some(survey) = self.surveys.of(zone) {
-            return Ok(survey.statuses(alloc, ids)?);
+        if let Some(at) = self.find_survey(zone) {
+            return Ok(self.survey_at(at).statuses(alloc, ids)?);
         }
         if self.is_for_survey(ids) {
             return self.statuses_by_survey(alloc, source, zone, ids);
@@ -356,10 +357,10 @@ impl<P: Published> Judge<P> for ChainCache {
             (λ content. IsRightFor self.old content → IsRightFor self.new content) }
         ensures filled { (n : ℕ) × (between : CacheLists) × AreFilled (take n ids.now) self.old between
             × KeepsFrames between self.new }
-        ensures few { AreFew self.new.surveys }
+        ensures bounded { AreBounded self.new.surveys }
     {
-        if let Some(survey) = self.surveys.of(zone) {
-            return Ok(survey.united(alloc, ids)?);
+        if let Some(at) = self.find_survey(zone) {
+            return Ok(self.survey_at(at).united(alloc, ids)?);
         }
         if self.is_for_survey(ids) {
             return self.united_by_survey(alloc, source, zone, ids);
@@ -390,7 +391,7 @@ impl<P: Published> Judge<P> for ChainCache {
             (λ content. IsRightFor self.old content → IsRightFor self.new content) }
         ensures fresh { 256 < length ids.now → OnOk result (IsFresh self.new.surveys) }
         ensures frames { KeepsFrames self.old self.new }
-        ensures few { AreFew self.new.surveys }
+        ensures bounded { AreBounded self.new.surveys }
     {
         self.read_for_many(alloc, source, ids)?;
         self.surveys.candidates(alloc, source, zone, ids)

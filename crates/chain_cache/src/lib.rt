@@ -21,6 +21,7 @@
 
 mod cache;
 mod dropping;
+mod kept_surveys;
 mod many;
 mod surveys;
 

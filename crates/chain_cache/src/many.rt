@@ -1,9 +1,10 @@
 //! Answers on many SYSMODs at once.
-ghost use Rattle.std.specs.Prelude.{◌≡◌, ◌<◌, ℕ, IfOk, IfSome, OnOk, length, map, take};
+ghost use Rattle.std.specs.Prelude.{◌≡◌, ◌<◌, ℕ, IfOk, IfSome, OnOk, Some, length, map, slice_get, take};
 ghost use Rattle.catalogue.specs.Ids.{Ascend};
 ghost use Rattle.catalogue.specs.View.{MayAsk, Tells};
 ghost use Rattle.catalogue.specs.declared.fault.SourceFault.TheVariants.{Device};
-ghost use Rattle.chain_cache.specs.Cache.{AreFew, AreFilled, IsFresh, IsRightFor, KeepsFrames};
+ghost use Rattle.chain_cache.specs.Cache.{AreBounded, AreFilled, IsFresh, IsRightFor, KeepsFrames};
+ghost use Rattle.chains.specs.Surveys.{SurveyLists};
 ghost use Rattle.verdicts.specs.Judge as judge;
 ghost use Rattle.verdicts.specs.United.{united};
 ghost use Rattle.verdicts.specs.Verdicts.{verdict_of};
@@ -11,6 +12,7 @@ ghost use Rattle.verdicts.specs.Verdicts.{verdict_of};
 use crate::ChainCache;
 use crate::cache::NODES_MOST;
 use catalogue::{Published, SourceFault};
+use chains::Survey;
 use mcs_reader::Id;
 use std::alloc::Global;
 use std::collections::BTreeSet;
@@ -28,6 +30,25 @@ impl ChainCache {
     /// no more of them.
     pub(crate) fn is_for_survey(&self, ids: &[Id]) -> bool {
         ids.len() > FEW || self.surveys.is_wide(ids.len())
+    }
+
+    /// Finds the survey of a zone with these rows, if it is kept. It counts as used.
+    pub(crate) fn find_survey(&mut self, zone: &Zone) -> Option<usize>
+        ensures same { self.new ≡ self.old }
+        ensures within { IfSome result (λ at. at < length self.old.surveys.zones) }
+        ensures found { IfSome result (λ at. (survey : SurveyLists)
+            × (slice_get self.old.surveys.zones at ≡ Some (record { rows = zone.now; survey = survey }))) }
+        ensures bounded { AreBounded self.new.surveys }
+    {
+        self.surveys.find(zone)
+    }
+
+    /// The survey that stands there.
+    pub(crate) fn survey_at(&self, at: usize) -> &Survey
+        requires { at < length self.now.surveys.zones }
+        ensures { IfSome (slice_get self.now.surveys.zones at) (λ kept. result.now ≡ kept.survey) }
+    {
+        self.surveys.at(at)
     }
 
     /// Remembers that frames were too large for so many SYSMODs.
@@ -49,7 +70,7 @@ impl ChainCache {
             (λ content. IsRightFor self.old content → IsRightFor self.new content) }
         ensures fresh { 256 < length ids.now → OnOk result (IsFresh self.new.surveys) }
         ensures frames { KeepsFrames self.old self.new }
-        ensures few { AreFew self.new.surveys }
+        ensures bounded { AreBounded self.new.surveys }
     {
         self.surveys.read_if(alloc, source, ids.len() > FEW)
     }
@@ -69,12 +90,12 @@ impl ChainCache {
         ensures right { Tells P.content_view source.old source.new
             (λ content. IsRightFor self.old content → IsRightFor self.new content) }
         ensures frames { KeepsFrames self.old self.new }
-        ensures few { AreFew self.new.surveys }
+        ensures bounded { AreBounded self.new.surveys }
     {
         self.surveys.read_listing(alloc, source)?;
         let survey = self.surveys.survey(alloc, zone)?;
         let statuses = survey.statuses(alloc, ids)?;
-        self.surveys.keep(zone, survey)?;
+        self.surveys.keep(zone, survey);
         Ok(statuses)
     }
 
@@ -125,12 +146,12 @@ impl ChainCache {
         ensures right { Tells P.content_view source.old source.new
             (λ content. IsRightFor self.old content → IsRightFor self.new content) }
         ensures frames { KeepsFrames self.old self.new }
-        ensures few { AreFew self.new.surveys }
+        ensures bounded { AreBounded self.new.surveys }
     {
         self.surveys.read_listing(alloc, source)?;
         let survey = self.surveys.survey(alloc, zone)?;
         let found = survey.united(alloc, ids)?;
-        self.surveys.keep(zone, survey)?;
+        self.surveys.keep(zone, survey);
         Ok(found)
     }
 

@@ -1,15 +1,16 @@
 //! The parts of the cache on the whole catalogue: the listing that was read, and surveys of zones.
-ghost use Rattle.std.specs.Prelude.{◌≡◌, ◌<◌, ◌++◌, true, IfOk, Some, IfSome, IsSome, OnOk, Contains, length, map, option_map};
+ghost use Rattle.std.specs.Prelude.{◌≡◌, ◌<◌, ◌++◌, true, IfOk, Some, IfSome, IsSome, OnOk, length, map, option_map, slice_get};
 ghost use Rattle.catalogue.specs.Content.{Content};
 ghost use Rattle.catalogue.specs.Ids.{Ascend, in_order};
 ghost use Rattle.catalogue.specs.Seen.{seen_in};
 ghost use Rattle.catalogue.specs.View.{MayAsk, Tells};
 ghost use Rattle.catalogue.specs.declared.fault.SourceFault.TheVariants.{Device};
-ghost use Rattle.chain_cache.specs.Cache.{AreFew, AreSurveys, IsFresh, MayBeMarked, ZoneSurvey, nothing_surveyed};
+ghost use Rattle.chain_cache.specs.Cache.{AreBounded, AreSurveys, IsFresh, MayBeMarked, nothing_surveyed};
 ghost use Rattle.verdicts.specs.Candidates.{candidates_unless_there};
 ghost use Rattle.listings.specs.Marks.{IsAtHand};
-ghost use Rattle.chains.specs.Surveys.{IsSurvey};
+ghost use Rattle.chains.specs.Surveys.{IsSurvey, SurveyLists};
 
+use crate::kept_surveys::KeptSurveys;
 use catalogue::{Published, Seen, SourceFault};
 use chains::{Listing, Survey, candidates_for, listing_of};
 use mcs_reader::{Id, NoMemory};
@@ -18,48 +19,16 @@ use std::marker::Model;
 use supersede::Zone;
 use verdicts::sort_each_once;
 
-// The number of zones whose surveys are kept.
-const MOST: usize = 16;
-
 // The most ids that are marked in the listing. A publication of some hundred SYSMODs touches so many.
 const MARKS_MOST: usize = 2048;
 
-/// A zone with its survey.
-#[derive(Debug, Drop)]
-struct Surveyed {
-    zone: Zone,
-    survey: Survey,
-}
-
-impl Model for Surveyed {
-    ghost use Rattle.chain_cache.specs.Cache.{ZoneSurvey};
-
-    ghost Value = { ZoneSurvey };
-
-    ghost view = { λ surveyed. record { rows = surveyed.zone; survey = surveyed.survey } };
-}
-
-impl Surveyed {
-    fn is_of(&self, zone: &Zone) -> bool
-        ensures { result ≡ true → self.now.rows ≡ zone.now }
-    {
-        self.zone.is_same(zone)
-    }
-
-    fn survey(&self) -> &Survey
-        ensures { result.now ≡ self.now.survey }
-    {
-        &self.survey
-    }
-}
-
-/// The listing, if it was read, and surveys of at most so many zones.
+/// The listing, if it was read, and surveys of zones.
 #[derive(Debug, Drop)]
 pub(crate) struct Surveys {
     listing: Option<Listing>,
     // The ids that were touched since the listing was read. Room for them is made with the listing.
     marks: Vec<Id>,
-    kept: Vec<Surveyed>,
+    kept: KeptSurveys,
     // The least number of SYSMODs for which frames were too large since the last publication, if they were. It decides
     // only what is tried first.
     wide_from: Option<usize>,
@@ -73,7 +42,7 @@ impl Model for Surveys {
     ghost view = { λ surveys. record {
       listing = surveys.listing;
       marks = surveys.marks.items;
-      zones = surveys.kept.items;
+      zones = surveys.kept;
     } };
 }
 
@@ -85,22 +54,27 @@ impl Surveys {
         Surveys {
             listing: None,
             marks: Vec::new(alloc),
-            kept: Vec::new(alloc),
+            kept: KeptSurveys::new(alloc),
             wide_from: None,
         }
     }
 
-    /// The survey of a zone with these rows, if it is kept.
-    pub(crate) fn of(&self, zone: &Zone) -> Option<&Survey>
-        ensures { IfSome result
-            (λ survey. Contains self.now.zones (record { rows = zone.now; survey = survey.now })) }
+    /// Finds the survey of a zone with these rows, if it is kept. It counts as used.
+    pub(crate) fn find(&mut self, zone: &Zone) -> Option<usize>
+        ensures same { self.new ≡ self.old }
+        ensures within { IfSome result (λ at. at < length self.old.zones) }
+        ensures found { IfSome result (λ at. (survey : SurveyLists)
+            × (slice_get self.old.zones at ≡ Some (record { rows = zone.now; survey = survey }))) }
     {
-        for surveyed in &self.kept {
-            if surveyed.is_of(zone) {
-                return Some(surveyed.survey());
-            }
-        }
-        None
+        self.kept.find(zone)
+    }
+
+    /// The survey that stands there.
+    pub(crate) fn at(&self, at: usize) -> &Survey
+        requires { at < length self.now.zones }
+        ensures { IfSome (slice_get self.now.zones at) (λ kept. result.now ≡ kept.survey) }
+    {
+        self.kept.at(at)
     }
 
     /// Whether a listing is kept, and frames were too large for no more SYSMODs than these.
@@ -255,27 +229,13 @@ impl Surveys {
         }
     }
 
-    /// Keeps the survey of a zone. If the most are kept already, they all go first.
-    pub(crate) fn keep(&mut self, zone: &Zone, survey: Survey) -> Result<(), NoMemory>
+    /// Keeps the survey of a zone, if there is room and memory for it.
+    pub(crate) fn keep(&mut self, zone: &Zone, survey: Survey)
         ensures right { (content : Content) → IsSurvey content zone.now survey
             → AreSurveys content self.old → AreSurveys content self.new }
-        ensures few { AreFew self.old → AreFew self.new }
+        ensures bounded { AreBounded self.old → AreBounded self.new }
     {
-        let zone = zone.copy()?;
-        self.make_room();
-        self.kept.push(Surveyed { zone, survey })?;
-        Ok(())
-    }
-
-    fn make_room(&mut self)
-        ensures listing { self.new.listing ≡ self.old.listing }
-        ensures marks { self.new.marks ≡ self.old.marks }
-        ensures zones { (kept : ZoneSurvey) → Contains self.new.zones kept → Contains self.old.zones kept }
-        ensures room { length self.new.zones < 16 }
-    {
-        if self.kept.len() >= MOST {
-            self.kept.clear();
-        }
+        self.kept.put(zone, survey);
     }
 
     /// Marks the ids that a publication touches in the listing, and drops all surveys. If there is no room for so many
