@@ -4,7 +4,7 @@ ghost use Rattle.std.specs.Prelude.{◌≡◌, ◌≢◌, ◌⊎◌};
 use crate::database::{names_a_file, open_database};
 use bureau_store::StoreFault;
 use sqlite::{Connection, Error, ErrorCode, FileFrom, FileStore, Start};
-use std::fs::{File, OpenOptions, Permissions};
+use std::fs::{OpenOptions, Permissions, metadata};
 use std::io;
 use std::os::unix::fs::{OpenOptionsExt, PermissionsExt};
 use std::path::Path;
@@ -50,9 +50,10 @@ impl Stores for StoreFiles<'_> {
     }
 }
 
-// Whether there is no file of this name, in a folder that is there.
+// Whether there is no file of this name, in a folder that is there. It opens none: a pipe without a writer would keep
+// it waiting.
 fn is_missing(rt: &HostRuntime, name: &str) -> bool {
-    match File::open(rt, name) {
+    match metadata(rt, name) {
         Err(error) if error.kind() == io::ErrorKind::NotFound => {
             match Path::new(name).parent() {
                 Some(folder) if !folder.as_str().is_empty() => folder.is_dir(rt),

@@ -12,7 +12,7 @@ use testing::assert_equal_at;
 type Row = (&'static [&'static str], u32, u8, &'static str);
 
 // 64 retries serve all files of a run.
-static ROWS: [Row; 13] = [
+static ROWS: [Row; 15] = [
     (&["replay", "callers", "empty", "empty"], 21, 0, ""),
     (
         &["replay", "callers", "empty", "empty"],
@@ -42,6 +42,8 @@ static ROWS: [Row; 13] = [
     (&["init", STORE, "callers"], 64, 3, "FAULT 41\n"),
     (&["init", STORE, "callers"], 65, 3, "FAULT 71\n"),
     (&["init", "another store", "callers"], 0, 3, "FAULT 42\n"),
+    (&["init", "another store", "empty"], 0, 3, "FAULT 42\n"),
+    (&["init", STORE, "empty"], 0, 1, "FAULT 46\n"),
     (&["serve", STORE], 0, 1, "FAULT 44\n"),
     (&["migrate", "another store"], 0, 3, "FAULT 42\n"),
     (&["check", "another store"], 0, 3, "FAULT 42\n"),
