@@ -70,7 +70,8 @@ impl Surveyed {
 
 // The bytes that are counted for a zone with its survey, if a number can say it.
 fn bytes_of(zone: &Zone, survey: &Survey) -> Option<usize>
-    ensures { IfSome result (λ bytes. bytes ≡ survey_bytes (record { rows = zone.now; survey = survey.now })) }
+    ensures { IfSome result
+        (λ bytes. bytes ≡ survey_bytes (record { rows = zone.now; survey = survey.now })) }
 {
     let rows = zone.rows().len().checked_mul(ROW)?;
     let ids = survey.count().checked_mul(ID)?;
@@ -207,7 +208,8 @@ impl KeptSurveys {
     pub(crate) fn put(&mut self, zone: &Zone, survey: Survey)
         ensures each { (one : ZoneSurvey) → Contains self.new one
             → Contains self.old one ⊎ (one ≡ record { rows = zone.now; survey = survey }) }
-        ensures bounded { sum_by survey_bytes self.old ≤ 268435456 → sum_by survey_bytes self.new ≤ 268435456 }
+        ensures bounded { sum_by survey_bytes self.old ≤ 268435456
+            → sum_by survey_bytes self.new ≤ 268435456 }
     {
         let Some(bytes) = bytes_of(zone, &survey) else {
             return
