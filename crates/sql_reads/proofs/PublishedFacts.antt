@@ -108,3 +108,17 @@ holds_shown stored id rows found ordered shows said =
         let it = read_from hold_found stored.holds hold inside in
         Contains-permutation (filter_map hold_found (filter (is_of id) stored.holds)) found hold permuted
         (map_found hold_found (filter (is_of id) stored.holds) it.0 hold (kept_inside (is_of id) stored.holds it.0 it.1 (hold_of id it.0 hold it.2 ∙ at)) it.2)
+
+-- the rows that are shown of all say all holds
+pub all_holds_shown : (stored : Stored) (rows : List Row) (found : List Hold) → IsInKeyOrder found
+    → IsPermutation (map (shown (indices_of schema.hold_row)) (filter (λ row. true) stored.holds)) rows → map Some found ≡ map hold_found rows → found ≡ (tables_of stored).content.holds
+all_holds_shown stored rows found ordered shows said =
+    holds_read (filter_map hold_found stored.holds) found (λ key. true) ordered
+    (λ hold inside. (Contains-permutation found (filter_map hold_found stored.holds) hold (IsPermutation-sym (filter_map hold_found stored.holds) found permuted) inside, refl))
+    (λ hold inside at. Contains-permutation (filter_map hold_found stored.holds) found hold permuted inside)
+    ∙ filter_true (tables_of stored).content.holds
+  where
+    permuted : IsPermutation (filter_map hold_found stored.holds) found
+    permuted =
+        subst (λ kept. IsPermutation (filter_map hold_found kept) found) (filter_true stored.holds)
+        (table_said hold_found (shown (indices_of schema.hold_row)) (filter (λ row. true) stored.holds) rows found shows said)

@@ -138,7 +138,7 @@ table_found tree tests indices order params trees rows test alike answer =
     (table_answer tree tests (map suc indices) order trees params rows answer)
 
 -- a test that every row passes
-pub filter_true : (rows : List Row) → filter (λ row. true) rows ≡ rows
+pub filter_true : {A : Type 0} (rows : List A) → filter (λ row. true) rows ≡ rows
 filter_true [] = refl
 filter_true (row ∷ rows) = ap (λ others. row ∷ others) (filter_true rows)
 

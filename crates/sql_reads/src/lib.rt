@@ -6,7 +6,7 @@
 //! - [`all_callers`], [`caller_of`], [`last`]: callers, and the last change of each
 //! - [`zones`], [`zone_count`], [`has_zone`], [`zone`], [`zone_rows`], [`patterns`], [`received`]: the data of a
 //!   client; [`held_in`]: the holds on its SYSMODs
-//! - [`ids`], [`sysmod`], [`superseders`], [`holds_on`], [`counts`]: the published content
+//! - [`ids`], [`sysmod`], [`superseders`], [`holds`], [`holds_on`], [`counts`]: the published content
 //! - [`seen`], [`is_run`]: the records and holds of many SYSMODs at once
 //! - [`each_zone`], [`names_ascend`]: the zones in a client's rows
 //! - [`AllColumns`]: the text that shows all columns of a table
@@ -45,7 +45,7 @@ pub use joins::{held_in, superseders, zone};
 pub use many::{is_run, seen};
 pub use rows::rows_of;
 pub use table::caller::{all_callers, caller_of};
-pub use table::hold_row::holds_on;
+pub use table::hold_row::{holds, holds_on};
 pub use table::last_change::last;
 pub use table::received_list::received;
 pub use table::sysmod::{ids, sysmod};

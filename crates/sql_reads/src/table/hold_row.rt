@@ -15,7 +15,7 @@ use crate::scan::Scanned;
 use crate::selection::{Selection, select};
 use holddata::{Hold, key_cmp};
 use mcs_reader::Id;
-use sql_rows::Holds;
+use sql_rows::{All, Holds};
 use sql_tables::{NoMemory, hold_in};
 use sqlite::{Alter, Connection, Row};
 use std::alloc::Global;
@@ -66,6 +66,24 @@ impl Selection<Id> for Holds {
     }
 }
 
+// All holds, in the order of their keys.
+impl Selection<All> for Holds {
+    ghost use Rattle.std.specs.Prelude.{◌∷◌, []};
+    ghost use Rattle.sql_texts.specs.Schema.{hold_columns};
+
+    ghost shown = { indices_of schema.hold_row };
+
+    ghost names = { hold_columns };
+
+    ghost order = { 1 ∷ 2 ∷ 3 ∷ [] };
+
+    #[tactic(auto, unfolding(sqlite::specs::Listing::understood, sqlite_tied::specs::Compute::everything))]
+    fn text() -> &'static str {
+        "SELECT sysmod, kind, reason, fmid, class, dated, resolver, categories FROM hold_row \
+         ORDER BY sysmod, kind, reason"
+    }
+}
+
 impl Scanned for Holds {
     ghost use Rattle.std.specs.Prelude.{◌∷◌, [], refl};
     ghost use Rattle.sql_texts.specs.Schema.{hold_columns};
@@ -108,6 +126,22 @@ pub fn holds_on<S: Alter>(
     ensures in_key_order { IfOk result (λ holds. IsInKeyOrder holds.items) }
 {
     let rows = select::<Id, Holds, S>(conn, id)?;
+    entries(alloc, rows.as_slice())
+}
+
+/// Reads all holds, in the order of their keys.
+///
+/// # Errors
+///
+/// Those of [`ReadFault`].
+pub fn holds<S: Alter>(alloc: Global, conn: &mut Connection<S>) -> Result<Vec<Hold>, ReadFault>
+    requires rest { conn.old.in_transaction ≡ false }
+    ensures mode { conn.new.in_transaction ≡ false }
+    ensures finds { Finds (state S.Store conn.old) (state S.Store conn.new) result
+        (λ stored holds. holds.items ≡ (tables_of stored).content.holds) }
+    ensures in_key_order { IfOk result (λ holds. IsInKeyOrder holds.items) }
+{
+    let rows = select::<All, Holds, S>(conn, &All)?;
     entries(alloc, rows.as_slice())
 }
 
