@@ -15,4 +15,5 @@ pub mod OpenFacts
 pub mod OpensFacts
 pub mod RoomFacts
 pub mod SeenFacts
+pub mod SparedFacts
 pub mod FoundedFacts

@@ -6,13 +6,14 @@ use Rattle.std.specs.Option.{option_map}
 use Rattle.bureau_store.specs.Caller.{caller_with}
 use Rattle.bureau_store.specs.Tables.{zone_named}
 use Rattle.bureau_store.specs.declared.caller.Caller.{Caller}
+use Rattle.holddata.specs.declared.hold.Hold.{Hold}
 use Rattle.sqlite.specs.State.{HasCleanDisk, State}
 use Rattle.sql_tables.specs.Ours.{IsOurs, held_by}
 use Rattle.sql_tables.specs.Reading.{OnlyReads}
 use Rattle.zone_lists.specs.declared.zones.ZoneRow.{ZoneRow}
 use Rattle.sql_tables.specs.Stored.{Stored, tables_of}
 use Rattle.sql_tables.proofs.StopFacts.{was_clean}
-use Rattle.bureau_sql.specs.Recent.{AreCountsOf, AreReadFrom, AreZonesOf, HasMore, HasNew, IsRecent, RecentLists}
+use Rattle.bureau_sql.specs.Recent.{AreCountsOf, AreReadFrom, AreZonesOf, HasMore, HasNew, IsBookOf, IsRecent, RecentLists}
 
 -- what the committed rows are after a read, they were before
 module _ (old new : State) (reads : OnlyReads old new) (Fact : Stored → Type 0) where
@@ -47,7 +48,7 @@ module _ (old mid : State) (recent recent' : RecentLists) (reads : OnlyReads old
 
   pub tokens_more : (token : List ℕ) (found : Result (Option Caller) Fault) → Told found (λ stored answer. answer ≡ caller_with (tables_of stored).callers token)
       → HasMore (λ answer read. (answer ≡ Some read.caller) × (read.token ≡ token)) found recent.tokens recent'.tokens
-      → (recent'.zones ≡ recent.zones) × (recent'.rows ≡ recent.rows) × (recent'.counts ≡ recent.counts) → IsRecent mid recent'
+      → (recent'.zones ≡ recent.zones) × (recent'.rows ≡ recent.rows) × (recent'.counts ≡ recent.counts) × (recent'.book ≡ recent.book) → IsRecent mid recent'
   tokens_more token found told more others clean is_open ours =
       let before = recent_after old mid recent reads was clean is_open ours in
       record {
@@ -60,12 +61,13 @@ module _ (old mid : State) (recent recent' : RecentLists) (reads : OnlyReads old
         zones = λ read inside. before.zones read (subst (λ list. Contains list read) others.0 inside);
         rows = λ read inside. before.rows read (subst (λ list. Contains list read) others.1 inside);
         counts = subst (λ it. IfSome it (AreCountsOf (tables_of (held_by mid.committed)))) (sym others.2) before.counts;
+        book = subst (λ it. IfSome it (IsBookOf (tables_of (held_by mid.committed)))) (sym others.3) before.book;
       }
 
   pub zones_more : (client : List ℕ) (found : Result (Vec (List ℕ × ℕ)) Fault)
       → Told found (λ stored answer. answer.items ≡ map (λ zone. (zone.0, length zone.1.rows)) ((tables_of stored).zones client))
       → HasMore (λ answer read. read ≡ record { client = client; zones = answer.items }) found recent.zones recent'.zones
-      → (recent'.tokens ≡ recent.tokens) × (recent'.rows ≡ recent.rows) × (recent'.counts ≡ recent.counts) → IsRecent mid recent'
+      → (recent'.tokens ≡ recent.tokens) × (recent'.rows ≡ recent.rows) × (recent'.counts ≡ recent.counts) × (recent'.book ≡ recent.book) → IsRecent mid recent'
   zones_more client found told more others clean is_open ours =
       let before = recent_after old mid recent reads was clean is_open ours in
       record {
@@ -78,12 +80,13 @@ module _ (old mid : State) (recent recent' : RecentLists) (reads : OnlyReads old
         ];
         rows = λ read inside. before.rows read (subst (λ list. Contains list read) others.1 inside);
         counts = subst (λ it. IfSome it (AreCountsOf (tables_of (held_by mid.committed)))) (sym others.2) before.counts;
+        book = subst (λ it. IfSome it (IsBookOf (tables_of (held_by mid.committed)))) (sym others.3) before.book;
       }
 
   pub rows_more : (client zone : List ℕ) (found : Result (Option (Vec ZoneRow)) Fault)
       → Told found (λ stored answer. option_map (λ rows. rows.items) answer ≡ option_map (λ table. table.rows) (zone_named zone ((tables_of stored).zones client)))
       → HasMore (λ answer read. (option_map (λ rows. rows.items) answer ≡ Some read.rows) × (read.client ≡ client) × (read.zone ≡ zone)) found recent.rows recent'.rows
-      → (recent'.tokens ≡ recent.tokens) × (recent'.zones ≡ recent.zones) × (recent'.counts ≡ recent.counts) → IsRecent mid recent'
+      → (recent'.tokens ≡ recent.tokens) × (recent'.zones ≡ recent.zones) × (recent'.counts ≡ recent.counts) × (recent'.book ≡ recent.book) → IsRecent mid recent'
   rows_more client zone found told more others clean is_open ours =
       let before = recent_after old mid recent reads was clean is_open ours in
       record {
@@ -99,11 +102,12 @@ module _ (old mid : State) (recent recent' : RecentLists) (reads : OnlyReads old
               (subst (λ owner. Some read.rows ≡ option_map (λ table. table.rows) (zone_named zone (tables.zones owner))) (sym now.2.1) there)
         ];
         counts = subst (λ it. IfSome it (AreCountsOf (tables_of (held_by mid.committed)))) (sym others.2) before.counts;
+        book = subst (λ it. IfSome it (IsBookOf (tables_of (held_by mid.committed)))) (sym others.3) before.book;
       }
 
   pub counts_more : (found : Result (ℕ × ℕ) Fault) → Told found (λ stored answer. AreCountsOf (tables_of stored) answer)
-      → HasNew found recent.counts recent'.counts
-      → (recent'.tokens ≡ recent.tokens) × (recent'.zones ≡ recent.zones) × (recent'.rows ≡ recent.rows) → IsRecent mid recent'
+      → HasNew (λ counts. counts) found recent.counts recent'.counts
+      → (recent'.tokens ≡ recent.tokens) × (recent'.zones ≡ recent.zones) × (recent'.rows ≡ recent.rows) × (recent'.book ≡ recent.book) → IsRecent mid recent'
   counts_more found told more others clean is_open ours =
       let before = recent_after old mid recent reads was clean is_open ours in
       record {
@@ -115,6 +119,25 @@ module _ (old mid : State) (recent recent' : RecentLists) (reads : OnlyReads old
           | inr now ↦
               let fact = told_of found (λ stored answer. AreCountsOf (tables_of stored) answer) now.0 now.1 told clean is_open ours in
               subst (λ it. IfSome it (AreCountsOf (tables_of (held_by mid.committed)))) (sym now.2) fact
+        ];
+        book = subst (λ it. IfSome it (IsBookOf (tables_of (held_by mid.committed)))) (sym others.3) before.book;
+      }
+
+  pub book_more : (found : Result (Vec Hold) Fault) → Told found (λ stored answer. answer.items ≡ (tables_of stored).content.holds)
+      → HasNew (λ holds. holds.items) found recent.book recent'.book
+      → (recent'.tokens ≡ recent.tokens) × (recent'.zones ≡ recent.zones) × (recent'.rows ≡ recent.rows) × (recent'.counts ≡ recent.counts) → IsRecent mid recent'
+  book_more found told more others clean is_open ours =
+      let before = recent_after old mid recent reads was clean is_open ours in
+      record {
+        tokens = λ read inside. before.tokens read (subst (λ list. Contains list read) others.0 inside);
+        zones = λ read inside. before.zones read (subst (λ list. Contains list read) others.1 inside);
+        rows = λ read inside. before.rows read (subst (λ list. Contains list read) others.2 inside);
+        counts = subst (λ it. IfSome it (AreCountsOf (tables_of (held_by mid.committed)))) (sym others.3) before.counts;
+        book = elim more [
+          | inl same ↦ subst (λ it. IfSome it (IsBookOf (tables_of (held_by mid.committed)))) (sym same) before.book
+          | inr now ↦
+              let fact = told_of found (λ stored answer. answer.items ≡ (tables_of stored).content.holds) now.0 now.1 told clean is_open ours in
+              subst (λ it. IfSome it (IsBookOf (tables_of (held_by mid.committed)))) (sym now.2) fact
         ];
       }
 

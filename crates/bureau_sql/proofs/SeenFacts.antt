@@ -8,7 +8,7 @@ use Rattle.catalogue.specs.View.{Asks, HasFailed, IsLawful, IsOpen, MayAsk, View
 use Rattle.catalogue.specs.declared.sysmod.Sysmod.{Sysmod}
 
 module _ {Source Held : Type 0} (view : View Source Held) (lawful : IsLawful view) where
-  failed_after : (old mid new : Source) → view.keeps old mid → HasFailed view mid new → HasFailed view old new
+  pub failed_after : (old mid new : Source) → view.keeps old mid → HasFailed view mid new → HasFailed view old new
   failed_after old mid new keeps (inl more) = inl (omega (arith, (lawful.keeps old mid keeps).goes.failures_rise, more))
   failed_after old mid new keeps (inr most) = inr most
 

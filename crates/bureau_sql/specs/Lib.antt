@@ -7,6 +7,7 @@ pub mod Migrated
 pub mod Opening
 pub mod Recent
 pub mod Outgrown
+pub mod Spared
 pub mod SqlState
 pub mod SqlView
 pub mod Told

@@ -4,6 +4,7 @@ use Rattle.std.specs.Option.{option_map}
 use Rattle.bureau_store.specs.Caller.{caller_with}
 use Rattle.bureau_store.specs.Tables.{Tables, zone_named}
 use Rattle.bureau_store.specs.declared.caller.Caller.{Caller}
+use Rattle.holddata.specs.declared.hold.Hold.{Hold}
 use Rattle.sqlite.specs.State.{HasCleanDisk, State}
 use Rattle.sql_tables.specs.Ours.{IsOurs, held_by}
 use Rattle.sql_tables.specs.Stored.{tables_of}
@@ -32,9 +33,11 @@ pub record RecentLists : Type 0 where
   pub rows : List RowsRead
   -- how many SYSMODs and holds are published, if that was read
   pub counts : Option (ℕ × ℕ)
+  -- all holds, if they were read
+  pub book : Option (List Hold)
 
 abbrev pub nothing_read : RecentLists
-nothing_read = record { tokens = []; zones = []; rows = []; counts = None }
+nothing_read = record { tokens = []; zones = []; rows = []; counts = None; book = None }
 
 -- the tables have what was read
 abbrev pub IsTokenOf : Tables → TokenRead → Type 0
@@ -49,12 +52,16 @@ AreRowsOf tables read = Some read.rows ≡ option_map (λ table. table.rows) (zo
 abbrev pub AreCountsOf : Tables → (ℕ × ℕ) → Type 0
 AreCountsOf tables counts = (counts.0 ≡ length tables.content.sysmods) × (counts.1 ≡ length tables.content.holds)
 
+abbrev pub IsBookOf : Tables → List Hold → Type 0
+IsBookOf tables holds = holds ≡ tables.content.holds
+
 -- each is what the tables have
 pub record AreReadFrom (tables : Tables) (recent : RecentLists) : Type 0 where
   pub tokens : (read : TokenRead) → Contains recent.tokens read → IsTokenOf tables read
   pub zones : (read : ZonesRead) → Contains recent.zones read → AreZonesOf tables read
   pub rows : (read : RowsRead) → Contains recent.rows read → AreRowsOf tables read
   pub counts : IfSome recent.counts (AreCountsOf tables)
+  pub book : IfSome recent.book (IsBookOf tables)
 
 -- Of an open connection whose database is ours, each is what the committed tables have.
 abbrev pub IsRecent : State → RecentLists → Type 0
@@ -65,6 +72,6 @@ abbrev pub HasMore : {Read Found Fault : Type 0} → (Found → Read → Type 0)
 HasMore {Read} {Found} Is found old new =
     (read : Read) → Contains new read → Contains old read ⊎ ((answer : Found) × (found ≡ Ok answer) × Is answer read)
 
--- the same of what is kept once
-abbrev pub HasNew : {Found Fault : Type 0} → Result Found Fault → Option Found → Option Found → Type 0
-HasNew {Found} found old new = (new ≡ old) ⊎ ((answer : Found) × (found ≡ Ok answer) × (new ≡ Some answer))
+-- the same of what is kept once, a part of the answer
+abbrev pub HasNew : {Found Kept Fault : Type 0} → (Found → Kept) → Result Found Fault → Option Kept → Option Kept → Type 0
+HasNew {Found} part found old new = (new ≡ old) ⊎ ((answer : Found) × (found ≡ Ok answer) × (new ≡ Some (part answer)))

@@ -30,10 +30,12 @@
 //! ```
 #![tactic(auto)]
 
+mod book;
 mod changes;
 mod commit;
 mod finding;
 mod fit;
+mod held;
 pub mod law;
 mod making;
 mod migrating;
@@ -43,6 +45,7 @@ mod recent;
 mod set_callers;
 mod store;
 mod tables;
+mod zone_holds;
 
 pub use finding::find_store;
 pub use making::init;

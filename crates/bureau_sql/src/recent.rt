@@ -1,12 +1,16 @@
 //! A cache of what a store has read since its last change. It answers that again, so that a client that asks often
 //! costs little.
 ghost use Rattle.std.specs.Prelude.{◌≡◌, ◌⊎◌, Contains, IfOk, IfSome, Some, map, option_map};
+ghost use Rattle.std.specs.Result.{result_map_both};
 ghost use Rattle.bureau_sql.specs.Recent.{HasMore, HasNew, nothing_read};
 ghost use Rattle.bureau_store.specs.Caller.{IsProper};
 ghost use Rattle.bureau_store.specs.Tables.{NamesAscend};
+ghost use Rattle.holddata.specs.HoldBook.{IsInKeyOrder};
 ghost use Rattle.zone_lists.specs.ZoneList.{RowsAscend};
 
+use crate::book::Book;
 use bureau_store::Caller;
+use holddata::Hold;
 use mcs_reader::Id;
 use sql_reads::ReadFault;
 use std::alloc::Global;
@@ -70,7 +74,7 @@ impl Model for RowsRead {
 }
 
 /// Answers of reads since the last change, of each kind at most so many. If there is no memory to keep or to copy one,
-/// it is read anew.
+/// it is read anew. All holds are kept once.
 #[derive(Drop)]
 pub(crate) struct Recent {
     tokens: Vec<TokenRead>,
@@ -78,6 +82,7 @@ pub(crate) struct Recent {
     rows: Vec<RowsRead>,
     // How many SYSMODs and holds are published.
     counts: Option<(u64, u64)>,
+    book: Book,
 }
 
 impl Model for Recent {
@@ -90,6 +95,7 @@ impl Model for Recent {
       zones = recent.zones.items;
       rows = recent.rows.items;
       counts = recent.counts;
+      book = recent.book;
     } };
 }
 
@@ -103,6 +109,7 @@ impl Recent {
             zones: Vec::new(alloc),
             rows: Vec::new(alloc),
             counts: None,
+            book: Book::unread(),
         }
     }
 
@@ -114,6 +121,7 @@ impl Recent {
         self.zones.clear();
         self.rows.clear();
         self.counts = None;
+        self.book.forget();
     }
 }
 
@@ -180,7 +188,7 @@ impl Recent {
         ensures tokens { HasMore (λ answer read. (answer ≡ Some read.caller) × (read.token ≡ token.now))
             found.now self.old.tokens self.new.tokens }
         ensures others { (self.new.zones ≡ self.old.zones) × (self.new.rows ≡ self.old.rows)
-            × (self.new.counts ≡ self.old.counts) }
+            × (self.new.counts ≡ self.old.counts) × (self.new.book ≡ self.old.book) }
     {
         let Ok(answer) = found else { return };
         let Some(caller) = answer else { return };
@@ -202,7 +210,7 @@ impl Recent {
         ensures zones { HasMore (λ answer read. read ≡ record { client = client.now; zones = answer.items })
             found.now self.old.zones self.new.zones }
         ensures others { (self.new.tokens ≡ self.old.tokens) × (self.new.rows ≡ self.old.rows)
-            × (self.new.counts ≡ self.old.counts) }
+            × (self.new.counts ≡ self.old.counts) × (self.new.book ≡ self.old.book) }
     {
         let Ok(zones) = found else { return };
         let Ok(zones) = Vec::from_slice(alloc, zones) else {
@@ -225,7 +233,7 @@ impl Recent {
             × (read.client ≡ client.now) × (read.zone ≡ zone.now))
             found.now self.old.rows self.new.rows }
         ensures others { (self.new.tokens ≡ self.old.tokens) × (self.new.zones ≡ self.old.zones)
-            × (self.new.counts ≡ self.old.counts) }
+            × (self.new.counts ≡ self.old.counts) × (self.new.book ≡ self.old.book) }
     {
         let Ok(answer) = found else { return };
         let Some(rows) = answer else { return };
@@ -238,13 +246,71 @@ impl Recent {
 
     /// Keeps how many SYSMODs and holds are published, if the read found it.
     pub(crate) fn keep_counts(&mut self, found: &Result<(u64, u64), ReadFault>)
-        ensures counts { HasNew found.now self.old.counts self.new.counts }
+        ensures counts { HasNew (λ counts. counts) found.now self.old.counts self.new.counts }
         ensures others { (self.new.tokens ≡ self.old.tokens) × (self.new.zones ≡ self.old.zones)
-            × (self.new.rows ≡ self.old.rows) }
+            × (self.new.rows ≡ self.old.rows) × (self.new.book ≡ self.old.book) }
     {
         if let Ok(counts) = found {
             self.counts = Some(*counts);
         }
+    }
+}
+
+impl Recent {
+    /// All holds, if they are kept.
+    pub(crate) fn holds(&self) -> Option<&[Hold]>
+        ensures same { option_map (λ holds. holds.now) result ≡ self.now.book }
+        ensures in_key_order { IfSome result (λ holds. IsInKeyOrder holds.now) }
+    {
+        self.book.holds()
+    }
+
+    /// Keeps all holds, if the read found them and they aren't too many. Joins are counted anew.
+    pub(crate) fn keep_book(&mut self, found: Result<Vec<Hold>, ReadFault>) -> Result<(), ReadFault>
+        requires in_key_order { IfOk found (λ holds. IsInKeyOrder holds.items) }
+        ensures book { HasNew (λ holds. holds.items) found self.old.book self.new.book }
+        ensures others { (self.new.tokens ≡ self.old.tokens) × (self.new.zones ≡ self.old.zones)
+            × (self.new.rows ≡ self.old.rows) × (self.new.counts ≡ self.old.counts) }
+        ensures told { result ≡ result_map_both (λ holds. tt) (λ fault. fault) found }
+    {
+        match found {
+            Ok(holds) => {
+                self.book.keep(holds);
+                Ok(())
+            }
+            Err(fault) => {
+                self.book.count_anew();
+                Err(fault)
+            }
+        }
+    }
+
+    /// Counts a join of a client's zone with the table of holds, if its rows were read.
+    pub(crate) fn count_join(&mut self, client: &Id, zone: &Id)
+        ensures { self.new ≡ self.old }
+    {
+        let rows = self.row_count(client, zone);
+        self.book.count_join(rows);
+    }
+
+    // The number of a zone's rows, if they were read.
+    fn row_count(&self, client: &Id, zone: &Id) -> usize {
+        for read in &self.rows {
+            if read.zone == *zone && read.client == *client {
+                return read.rows.len();
+            }
+        }
+        0
+    }
+
+    /// Whether all holds should be counted, since they aren't kept and many rows were joined with them.
+    pub(crate) fn wants_book(&self) -> bool {
+        self.book.is_wanted()
+    }
+
+    /// Whether to read so many holds costs no more than the joins did.
+    pub(crate) fn is_book_worth(&self, holds: u64) -> bool {
+        self.book.is_worth(holds)
     }
 }
 

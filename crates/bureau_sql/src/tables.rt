@@ -101,9 +101,11 @@ impl<S: Alter> Store for SqlStore<S> {
     }
 
     fn held_in(&mut self, client: &Id, zone: &Id, kind: Kind) -> Result<Vec<Hold>, StoreFault> {
-        self.check_open(StoreFault::Device)?;
-        let found = sql_reads::held_in(self.alloc, &mut self.conn, client, zone, kind);
-        self.answered(found)
+        self.read_book()?;
+        if let Some(holds) = self.held_by_book(client, zone, kind)? {
+            return Ok(holds);
+        }
+        self.held_by_join(client, zone, kind)
     }
 
     // It forgets what was read before the change.

@@ -1,0 +1,112 @@
+//! All holds, as they were read since the last change.
+ghost use Rattle.std.specs.Prelude.{◌≡◌, ◌⊎◌, IfSome, None, Some, option_map};
+ghost use Rattle.holddata.specs.HoldBook.{IsInKeyOrder};
+
+use holddata::Hold;
+use std::marker::Model;
+
+// The most holds that are kept, and the most bytes that their categories take. Besides these, a hold takes less than
+// 200 bytes.
+const MOST: u64 = 40_000;
+
+const CATEGORIES: usize = 8 << 20;
+
+// Up to so many rows are joined with the holds before these are counted, which takes about as long.
+const FEW: u64 = 5_000;
+
+/// All holds, if they were read since the last change. They are kept up to 40,000, and up to 8 MiB of categories: less
+/// than 16 MiB in all. A contract sees the holds. Beside them stands how many rows of zones were joined with the table
+/// of holds since.
+#[derive(Drop)]
+pub(crate) struct Book {
+    holds: Option<Vec<Hold>>,
+    joined: u64,
+}
+
+impl Model for Book {
+    ghost use Rattle.std.specs.Prelude.{IfSome, List, Option, option_map};
+    ghost use Rattle.holddata.specs.HoldBook.{IsInKeyOrder};
+    ghost use Rattle.holddata.specs.declared.hold.Hold.{Hold};
+
+    ghost Value = { Option (List Hold) };
+
+    ghost view = { λ book. option_map (λ holds. holds.items) book.holds };
+
+    ghost invariant = { λ book. IfSome book.holds (λ holds. IsInKeyOrder holds.items) };
+}
+
+impl Book {
+    /// No holds were read yet.
+    pub(crate) fn unread() -> Self
+        ensures { result ≡ None }
+    {
+        Book {
+            holds: None,
+            joined: 0,
+        }
+    }
+
+    /// Forgets them.
+    pub(crate) fn forget(&mut self)
+        ensures { self.new ≡ None }
+    {
+        self.holds = None;
+        self.joined = 0;
+    }
+
+    /// Keeps these holds, unless they are too many. Joins are counted anew.
+    pub(crate) fn keep(&mut self, holds: Vec<Hold>)
+        requires { IsInKeyOrder holds.items }
+        ensures { (self.new ≡ self.old) ⊎ (self.new ≡ Some holds.items) }
+    {
+        self.joined = 0;
+        if fits(holds.as_slice()) {
+            self.holds = Some(holds);
+        }
+    }
+
+    /// The holds, if they are kept.
+    pub(crate) fn holds(&self) -> Option<&[Hold]>
+        ensures same { option_map (λ holds. holds.now) result ≡ self.now }
+        ensures in_key_order { IfSome result (λ holds. IsInKeyOrder holds.now) }
+    {
+        match &self.holds {
+            Some(holds) => Some(holds.as_slice()),
+            None => None,
+        }
+    }
+
+    /// Counts joins anew.
+    pub(crate) fn count_anew(&mut self)
+        ensures { self.new ≡ self.old }
+    {
+        self.joined = 0;
+    }
+
+    /// Counts the rows of a join.
+    pub(crate) fn count_join(&mut self, rows: usize)
+        ensures { self.new ≡ self.old }
+    {
+        self.joined = self.joined.saturating_add(rows as u64);
+    }
+
+    /// Whether the holds aren't kept, and so many rows were joined with them that they should be counted.
+    pub(crate) fn is_wanted(&self) -> bool {
+        self.holds.is_none() && self.joined >= FEW
+    }
+
+    /// Whether to read so many holds costs no more than the joins did. To find the holds of a row takes as long as to
+    /// read four in their order.
+    pub(crate) fn is_worth(&self, holds: u64) -> bool {
+        holds <= MOST && holds <= self.joined.saturating_mul(4)
+    }
+}
+
+// Whether these are few enough to be kept.
+fn fits(holds: &[Hold]) -> bool {
+    let mut bytes = 0usize;
+    for hold in holds {
+        bytes = bytes.saturating_add(hold.categories.joined().len());
+    }
+    holds.len() as u64 <= MOST && bytes <= CATEGORIES
+}
