@@ -147,6 +147,18 @@ class Lists(unittest.TestCase):
             same("a RESTORE that did not end: " + name, (status, out), (0, "SYSMOD,STATE\nUJ2,APPLIED\n"))
             check("is named", "RESTORE did not end: 1 (UJ1)" in err, err)
 
+    def test_reader_that_goes(self):
+        """Whoever reads a long list goes, as `head -1` does: the run ends there, and tells what it tells others."""
+        site, places = folder(), range(30000)
+        entries = ('{"entryname":"UA%05d","zonename":"T","subentries":{"INSTALLDATE":["25001"]}}' % place for place in places)
+        listed = write(site + "/listed", '{"entries":[%s]}' % ",".join(entries))
+        sent = write(site + "/sent", "".join("++PTF(UA%05d).\n++VER(Z038) FMID(HBB77E0).\n" % place for place in places))
+        for words, line in (([ZONE_CSV, "zone", "T", listed], "SYSMOD,STATE\n"), ([PUBLICATION, sent], "++PTF(UA00000).\n")):
+            told = subprocess.Popen(words, stdout=subprocess.PIPE, stderr=subprocess.PIPE, env={**os.environ, "BUREAU_PROGRAM": PROGRAM})
+            first = told.stdout.readline()
+            told.stdout.close()
+            same(words[0], (told.wait(), first.decode(), told.stderr.read().decode()), (0, line, run(*words)[2]))
+
     def test_publications(self):
         status, out, err = run(PUBLICATION, "smpptfin.txt")
         same("the sample", (status, out), (1, kept("publication.txt")))

@@ -24,7 +24,8 @@ pub(crate) fn run<S: Surroundings, T: Stores, D: Start, I: Read, O: Write, E: Wr
     output: &mut O,
     errors: &mut E,
 ) -> (u8, Ended<FileFrom<D>>)
-    ensures { (ended : _) × IsCopiedEnd ended result.1 × IsRun (S.known_words surroundings.old)
+    ensures { (ended : _) × IsCopiedEnd ended result.1
+        × IsRun (S.known_words surroundings.old) (S.known_watched surroundings.old)
         (found_in (S.known_file surroundings.old) (T.asked stores.old) (T.asked stores.new)
         (S.known_port surroundings.old) (S.is_over surroundings.new)
         (S.log surroundings.old) (S.log surroundings.new))

@@ -8,17 +8,22 @@ use std::fs::{OpenOptions, Permissions, metadata};
 use std::io;
 use std::os::unix::fs::{OpenOptionsExt, PermissionsExt};
 use std::path::Path;
-use store_runs::{Ended, Stores};
+use store_runs::{Ended, Refusal, Stores};
 
 /// The stores that the system's own files have, by the paths of these.
 #[derive(Drop)]
 pub(crate) struct StoreFiles<'a> {
     rt: &'a HostRuntime,
+    // Why the last one couldn't be opened, as far as that is known.
+    refusal: Refusal,
 }
 
 impl<'a> StoreFiles<'a> {
     pub(crate) fn new(rt: &'a HostRuntime) -> StoreFiles<'a> {
-        StoreFiles { rt }
+        StoreFiles {
+            rt,
+            refusal: Refusal::Unknown,
+        }
     }
 }
 
@@ -44,9 +49,19 @@ impl Stores for StoreFiles<'_> {
         }
         match open_database(self.rt, name, start) {
             Ok(conn) => Ok(conn),
-            Err((error, Some(left))) => Err((fault_of(error), Ended::Left(left))),
-            Err((error, None)) => Err((fault_of(error), Ended::Nothing)),
+            Err((refused, Some(left))) => {
+                self.refusal = refused.refusal;
+                Err((fault_of(refused.error), Ended::Left(left)))
+            }
+            Err((refused, None)) => {
+                self.refusal = refused.refusal;
+                Err((fault_of(refused.error), Ended::Nothing))
+            }
         }
+    }
+
+    fn refusal(&self) -> Refusal {
+        self.refusal
     }
 }
 

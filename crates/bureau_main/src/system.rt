@@ -6,10 +6,11 @@ use connections::{Connections, Event, Round, RoundFault, Rounds};
 use run_parts::Files;
 use socket_desk::{LoopFault, Patience, SocketRounds};
 use std::alloc::Global;
+use std::env;
 use std::fs::File;
 use std::hash::RandomState;
+use std::io::{self, IsTerminal};
 use std::net::{Ipv4Addr, SocketAddr};
-use std::{env, io};
 
 /// The system's own words, files, ports and clocks.
 #[derive(Drop)]
@@ -89,6 +90,8 @@ impl Surroundings for System<'_> {
 
     ghost known_words = { λ _. None };
 
+    ghost known_watched = { λ _. None };
+
     ghost known_port = { λ _ _ _ _. Unit {0} };
 
     fn words(&self, alloc: Global) -> Result<Vec<String>, LineFault> {
@@ -100,6 +103,10 @@ impl Surroundings for System<'_> {
                 Err(LineFault::Words(String::from_str(alloc, text)?))
             }
         }
+    }
+
+    fn is_watched(&self) -> bool {
+        self.rt.stderr().is_terminal()
     }
 
     fn listen(&mut self, alloc: Global, port: u16, most_open: u32, log: bool) -> io::Result<()> {

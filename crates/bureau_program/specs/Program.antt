@@ -1,12 +1,12 @@
 -- A run: from the words of a command line to what it reads, what both streams get, and the exit status.
-use Rattle.std.specs.Prelude.{◌≡◌, ◌≢◌, ◌⊎◌, ℕ, Bool, false, [], List, map, Option, Some, Result, Ok, Err, IfSome, string_bytes}
+use Rattle.std.specs.Prelude.{◌≡◌, ◌≢◌, ◌⊎◌, ℕ, Bool, false, if◌then◌else◌, [], List, map, Option, Some, Result, Ok, Err, IfSome, string_bytes}
 use Rattle.std.specs.Io.KnownBytes.{Keeps}
 use Rattle.clap.specs.Words.{fault_of}
 use Rattle.sqlite_disk.specs.declared.Disk as disk
 use Rattle.sqlite_wal.specs.Recovery.{Image}
 use Rattle.connections.specs.Rounds.{Log}
 use Rattle.connections.specs.declared.rounds.RoundFault.{RoundFault}
-use Rattle.command_line.specs.Line.{bureau_app, IsLineOf}
+use Rattle.command_line.specs.Line.{bureau_app, IsLineOf, seen}
 use Rattle.command_line.specs.declared.line.Line.{Line}
 use Rattle.command_line.specs.declared.line.Line.TheVariants as line
 use Rattle.command_line.specs.declared.line.LineFault.{LineFault}
@@ -96,8 +96,8 @@ module _ (found : Found) (from : Image) {D : Type 0} {g : disk.Ghosts D} where
       IsReport found.files (Report MissingFix) files input rest outputs status × NobodyCame found × AsksForNone ended
   IsAnswered (Ok (line.Chain sysmod files)) input rest outputs status ended =
       IsChain found.files (string_bytes sysmod) files input rest outputs status × NobodyCame found × AsksForNone ended
-  IsAnswered (Ok (line.Check store)) input rest outputs status ended =
-      Keeps input rest × NobodyCame found × IsCheck found.asked found.asked_after from (string_bytes store) outputs status ended
+  IsAnswered (Ok (line.Check store explain)) input rest outputs status ended =
+      Keeps input rest × NobodyCame found × IsCheck explain found.asked found.asked_after from (string_bytes store) outputs status ended
   IsAnswered (Ok (line.Callers store callers)) input rest outputs status ended =
       Keeps input rest × NobodyCame found × IsCallers found.files found.asked found.asked_after from (string_bytes store) (string_bytes callers) outputs status ended
   IsAnswered (Err (line_fault.Words text)) input rest outputs status ended =
@@ -110,9 +110,18 @@ IsUnderstoodAs words (Ok asked) = IsLineOf words asked
 IsUnderstoodAs words (Err (line_fault.Words text)) = (asked : Line) → IsLineOf words asked → fault_of bureau_app words ≢ []
 IsUnderstoodAs words (Err line_fault.Memory) = Unit {0}
 
--- A whole run of the program, from its words, if they are known, and its files to its streams, its status, and what is left
--- of a store's files, which held this as it began.
-pub record IsRun (words : Option (List (List ℕ))) (found : Found) (from : Image) {D : Type 0} {g : disk.Ghosts D} (input rest : Option (List ℕ)) (outputs : Outputs) (status : ℕ) (ended : Ended D g) : Type 0 where
+-- what is done: the line, as it is done where someone looks on or where nobody does
+abbrev pub seen_by : Bool → Result Line LineFault → Result Line LineFault
+seen_by watched (Ok asked) = Ok (if watched then seen asked else asked)
+seen_by watched (Err fault) = Err fault
+
+-- A whole run of the program, from its words and whether standard error is a terminal, if they are known, and its files to its
+-- streams, its status, and what is left of a store's files, which held this as it began.
+pub record IsRun (words : Option (List (List ℕ))) (terminal : Option Bool) (found : Found) (from : Image) {D : Type 0} {g : disk.Ghosts D} (input rest : Option (List ℕ)) (outputs : Outputs) (status : ℕ) (ended : Ended D g) : Type 0 where
   pub line : Result Line LineFault
   pub understood : IfSome words (λ known. IsUnderstoodAs known line)
-  pub answered : IsAnswered found from line input rest outputs status ended
+  pub watched : Bool
+  pub watches : IfSome terminal (λ known. watched ≡ known)
+  pub done : Result Line LineFault
+  pub done_is : done ≡ seen_by watched line
+  pub answered : IsAnswered found from done input rest outputs status ended

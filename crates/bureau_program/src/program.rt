@@ -1,10 +1,10 @@
 //! A run of the program: it does what its words say, over files and the three streams.
-ghost use Rattle.std.specs.Prelude.{◌≡◌, map, string_bytes, IfErr, IfOk};
+ghost use Rattle.std.specs.Prelude.{◌≡◌, map, string_bytes, IfErr, IfOk, IfSome};
 ghost use Rattle.faults.specs.Refusal.{IsRefusal};
 ghost use Rattle.sqlite_wal.specs.Files.{image_at};
 ghost use Rattle.run_parts.specs.Files.{AreContents, IsContent};
 ghost use Rattle.run_parts.specs.Outputs.{outputs_of};
-ghost use Rattle.bureau_program.specs.Program.{IsAnswered, IsReplay, IsRun, found_in};
+ghost use Rattle.bureau_program.specs.Program.{IsAnswered, IsReplay, IsRun, IsUnderstoodAs, found_in, seen_by};
 
 use crate::replay::run_replay;
 use crate::serving::{Service, run_serve};
@@ -23,7 +23,7 @@ use transfer::RETRIES;
 ///
 /// It reads standard input only if `-` stands for a FILE of `holds` or of a report. It opens every other FILE by its
 /// name. Output goes to standard output, and a fault's line to standard error. Connections come only if the line is
-/// one of `serve`. The run asks for the line's STORE, once, and for no other store. `start` stands for what its files
+/// one of `serve`. Where someone looks on, a report and `check` tell more, as with their options. The run asks for the line's STORE, once, and for no other store. `start` stands for what its files
 /// hold as the run begins.
 pub fn run<S: Surroundings, T: Stores, D: Start, I: Read, O: Write, E: Write>(
     surroundings: &mut S,
@@ -34,7 +34,7 @@ pub fn run<S: Surroundings, T: Stores, D: Start, I: Read, O: Write, E: Write>(
     output: &mut O,
     errors: &mut E,
 ) -> (u8, Ended<FileFrom<D>>)
-    ensures { IsRun (S.known_words surroundings.old)
+    ensures { IsRun (S.known_words surroundings.old) (S.known_watched surroundings.old)
         (found_in (S.known_file surroundings.old) (T.asked stores.old) (T.asked stores.new)
         (S.known_port surroundings.old) (S.is_over surroundings.new)
         (S.log surroundings.old) (S.log surroundings.new))
@@ -43,10 +43,8 @@ pub fn run<S: Surroundings, T: Stores, D: Start, I: Read, O: Write, E: Write>(
         (outputs_of O.contents E.contents output.old output.new errors.old errors.new)
         result.0 result.1 }
 {
-    let line = match surroundings.words(alloc) {
-        Ok(words) => line_of(alloc, words.as_slice()),
-        Err(fault) => Err(fault),
-    };
+    let line = line_asked(surroundings, alloc);
+    let line = seen_by(surroundings.is_watched(), line);
     let done = answer(
         surroundings,
         stores,
@@ -61,6 +59,26 @@ pub fn run<S: Surroundings, T: Stores, D: Start, I: Read, O: Write, E: Write>(
     // here.
     drop(line);
     done
+}
+
+// The line that the words are understood as.
+fn line_asked<S: Surroundings>(surroundings: &S, alloc: Global) -> Result<Line, LineFault>
+    ensures { IfSome (S.known_words surroundings.now) (λ known. IsUnderstoodAs known result) }
+{
+    match surroundings.words(alloc) {
+        Ok(words) => line_of(alloc, words.as_slice()),
+        Err(fault) => Err(fault),
+    }
+}
+
+// The line as it is done where someone looks on, or as it is.
+fn seen_by(watched: bool, line: Result<Line, LineFault>) -> Result<Line, LineFault>
+    ensures { result ≡ seen_by watched line }
+{
+    match line {
+        Ok(line) => Ok(if watched { line.seen() } else { line }),
+        Err(fault) => Err(fault),
+    }
 }
 
 // Does what a line says.
@@ -172,8 +190,9 @@ fn answer<S: Surroundings, T: Stores, D: Start, I: Read, O: Write, E: Write>(
                 errors,
             )
         }
-        Ok(Line::Check { store }) => {
-            check_file(stores, alloc, store.as_str(), start, output, errors)
+        Ok(Line::Check { store, explain }) => {
+            let store = store.as_str();
+            check_file(stores, alloc, store, *explain, start, output, errors)
         }
         Err(LineFault::Words(text)) => (explain(errors, text.as_str()), Ended::Nothing),
         Err(LineFault::Memory) => (refuse(errors, ProgramFault::Memory), Ended::Nothing),

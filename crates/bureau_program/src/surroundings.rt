@@ -19,6 +19,9 @@ pub trait Surroundings: Files + Rounds {
     /// The words after the program's name, if they are known.
     ghost known_words: { Self → Option (List (List ℕ)) };
 
+    /// Whether standard error is a terminal, if that is known.
+    ghost known_watched: { Self → Option Bool };
+
     /// That the run listens on this port, for so many connections at once, with a log or without. Only the contract
     /// of a `listen` that succeeded gives it.
     ghost known_port: { Self → ℕ → ℕ → Bool → Type 0 };
@@ -32,6 +35,10 @@ pub trait Surroundings: Files + Rounds {
         ensures words { IfOk result (λ words. IfSome (known_words self.now)
             (λ known. map string_bytes words.items ≡ known)) }
         ensures fault { IfErr result (IsRefusal LineFault.Memory (λ _. known_words self.now ≡ None)) };
+
+    /// Whether someone looks on: standard error is a terminal.
+    fn is_watched(&self) -> bool
+        ensures { IfSome (known_watched self.now) (λ known. result ≡ known) };
 
     /// Listens on a port of 127.0.0.1. From then on the connections are those that come to it, at most so many of
     /// them at once. If a log is kept, standard error gets a line for each of their requests, and for each of them

@@ -21,7 +21,7 @@ gives_each (ErrSysmods files) = refl
 gives_each (MissingFix files) = refl
 gives_each (Chain sysmod files) = refl
 gives_each (Callers store callers) = refl
-gives_each (Check store) = refl
+gives_each (Check store explain) = refl
 
 -- ---- words have at most one line
 

@@ -1,8 +1,7 @@
 -- No part of what is promised: private contracts cite it. The rows of the commands and of their arguments, as clap reads them.
-use Rattle.std.specs.Prelude.{Some, true, fold}
-use Rattle.clap.specs.Words.{App, Rule, Text, new_app, new_rule, with_rule, with_subcommand}
-use Rattle.clap.specs.declared.builder.ArgAction.TheVariants.{SetTrue}
-use Rattle.command_line.specs.Line.{number_rule, required_rule, several_rule, text_rule}
+use Rattle.std.specs.Prelude.{true, fold}
+use Rattle.clap.specs.Words.{App, Rule, Text, new_app, with_rule, with_subcommand}
+use Rattle.command_line.specs.Line.{flag_rule, number_rule, required_rule, several_rule, text_rule}
 use Rattle.command_line.specs.declared.arguments.Argument.{Argument}
 use Rattle.command_line.specs.declared.arguments.Kind.{Kind}
 use Rattle.command_line.specs.declared.arguments.Kind.TheVariants as kind
@@ -15,7 +14,7 @@ rule_of_kind name (kind.Several value) = several_rule name
 rule_of_kind name (kind.Text value) = record (text_rule name) { required = true }
 rule_of_kind name (kind.MaybeText value) = text_rule name
 rule_of_kind name (kind.Number value most default) = number_rule name 1 most default.now
-rule_of_kind name kind.Flag = record (new_rule name) { long = Some name; action = Some SetTrue }
+rule_of_kind name kind.Flag = flag_rule name
 
 abbrev pub rule_for : Argument → Rule
 rule_for argument = rule_of_kind argument.name.now argument.kind

@@ -9,6 +9,10 @@ use Rattle.command_line.specs.declared.line.Line.{Line}
 use Rattle.run_parts.specs.declared.report_files.ReportFiles.{ReportFiles}
 use Rattle.command_line.specs.declared.line.Line.TheVariants.{Callers, Chain, Check, ErrSysmods, Holds, Init, Migrate, MissingFix, Replay, Serve}
 
+-- `--NAME`: a flag
+abbrev pub flag_rule : Text → Rule
+flag_rule name = record (new_rule name) { long = Some name; action = Some SetTrue }
+
 -- an argument that has to be given, with one value
 abbrev pub required_rule : Text → Rule
 required_rule id = record (new_rule id) { action = Some Set; required = true; value_names = 1 }
@@ -58,7 +62,7 @@ init_app = with_rule (with_rule (new_app (codes "init")) (required_rule (codes "
 
 -- `--log`: whether a log is kept
 abbrev pub log_rule : Rule
-log_rule = record (new_rule (codes "log")) { long = Some (codes "log"); action = Some SetTrue }
+log_rule = flag_rule (codes "log")
 
 -- `serve --port P --cache N --connections K --open M --log STORE`
 abbrev pub serve_app : App
@@ -91,29 +95,39 @@ received_rule = text_rule (codes "received")
 abbrev pub name_rule : Rule
 name_rule = text_rule (codes "name")
 
--- `errsysmods --zone ZONE [--received R] [--name NAME] FILE..`
+-- `--verbose`: whether standard error is told how much was read
+abbrev pub verbose_rule : Rule
+verbose_rule = flag_rule (codes "verbose")
+
+-- `--explain`: whether standard error is told what a fault means
+abbrev pub explain_rule : Rule
+explain_rule = flag_rule (codes "explain")
+
+-- `errsysmods --zone ZONE [--received R] [--name NAME] [--verbose] [--explain] FILE..`
 abbrev pub err_sysmods_app : App
 err_sysmods_app =
-    with_rule (with_rule (with_rule (with_rule (new_app (codes "errsysmods")) zone_rule) received_rule) name_rule) (several_rule (codes "files"))
-
--- `missingfix --zone ZONE --categories C [--received R] [--name NAME] FILE..`
-abbrev pub missing_fix_app : App
-missing_fix_app =
-    with_rule (with_rule (with_rule (with_rule (with_rule (new_app (codes "missingfix")) zone_rule) categories_rule) received_rule) name_rule)
+    with_rule (with_rule (with_rule (with_rule (with_rule (with_rule (new_app (codes "errsysmods")) zone_rule) received_rule) name_rule) verbose_rule) explain_rule)
     (several_rule (codes "files"))
 
--- `chain --zone ZONE [--name NAME] SYSMOD FILE..`
+-- `missingfix --zone ZONE --categories C [--received R] [--name NAME] [--verbose] [--explain] FILE..`
+abbrev pub missing_fix_app : App
+missing_fix_app =
+    with_rule (with_rule (with_rule (with_rule (with_rule (with_rule (with_rule (new_app (codes "missingfix")) zone_rule) categories_rule) received_rule) name_rule)
+    verbose_rule) explain_rule) (several_rule (codes "files"))
+
+-- `chain --zone ZONE [--name NAME] [--verbose] [--explain] SYSMOD FILE..`
 abbrev pub chain_app : App
 chain_app =
-    with_rule (with_rule (with_rule (with_rule (new_app (codes "chain")) zone_rule) name_rule) (required_rule (codes "sysmod"))) (several_rule (codes "files"))
+    with_rule (with_rule (with_rule (with_rule (with_rule (with_rule (new_app (codes "chain")) zone_rule) name_rule) verbose_rule) explain_rule)
+    (required_rule (codes "sysmod"))) (several_rule (codes "files"))
 
 -- `callers STORE CALLERS`
 abbrev pub callers_app : App
 callers_app = with_rule (with_rule (new_app (codes "callers")) (required_rule (codes "store"))) (required_rule (codes "callers"))
 
--- `check STORE`
+-- `check [--explain] STORE`
 abbrev pub check_app : App
-check_app = with_rule (new_app (codes "check")) (required_rule (codes "store"))
+check_app = with_rule (with_rule (new_app (codes "check")) explain_rule) (required_rule (codes "store"))
 
 -- a command that takes the words after its own name, has a version, and wants the name of one below it
 abbrev pub commands_named : Text → App
@@ -160,7 +174,7 @@ command_of (ErrSysmods files) = codes "errsysmods"
 command_of (MissingFix files) = codes "missingfix"
 command_of (Chain sysmod files) = codes "chain"
 command_of (Callers store callers) = codes "callers"
-command_of (Check store) = codes "check"
+command_of (Check store explain) = codes "check"
 
 -- the value of an argument in a line: a text, texts, a number in a range, a flag, or a text that may be left out
 pub data Value : Type 0 where
@@ -177,6 +191,8 @@ files_given files =
     ∷ (codes "categories", maybe (option_map string_bytes files.categories))
     ∷ (codes "received", maybe (option_map string_bytes files.received))
     ∷ (codes "name", maybe (option_map string_bytes files.name))
+    ∷ (codes "verbose", flag files.verbose)
+    ∷ (codes "explain", flag files.explain)
     ∷ (codes "files", several (map string_bytes files.publications.items))
     ∷ []
 
@@ -202,7 +218,7 @@ given (ErrSysmods files) = files_given files
 given (MissingFix files) = files_given files
 given (Chain sysmod files) = (codes "sysmod", one (string_bytes sysmod)) ∷ files_given files
 given (Callers store callers) = (codes "store", one (string_bytes store)) ∷ (codes "callers", one (string_bytes callers)) ∷ []
-given (Check store) = (codes "store", one (string_bytes store)) ∷ []
+given (Check store explain) = (codes "store", one (string_bytes store)) ∷ (codes "explain", flag explain) ∷ []
 
 -- an argument has this value among the matches
 abbrev pub HasValue : List Row → Text → Value → Type 0
@@ -237,3 +253,22 @@ said line = (command_of line, given line)
 -- words have at most one line
 abbrev pub HasOneLine : List Text → Type 0
 HasOneLine words = (line other : Line) → IsLineOf words line → IsLineOf words other → said line ≡ said other
+
+-- ---- where someone looks on
+
+abbrev pub telling_all : ReportFiles → ReportFiles
+telling_all files = record files { verbose = true; explain = true }
+
+-- The line as it is done where standard error is a terminal, as if it had the options that tell more: a report tells how much it
+-- read, and it and `check` tell what a fault means.
+abbrev pub seen : Line → Line
+seen (ErrSysmods files) = ErrSysmods (telling_all files)
+seen (MissingFix files) = MissingFix (telling_all files)
+seen (Chain sysmod files) = Chain sysmod (telling_all files)
+seen (Check store explain) = Check store true
+seen (Holds file) = Holds file
+seen (Init store callers) = Init store callers
+seen (Serve port cache connections most_open log store) = Serve port cache connections most_open log store
+seen (Replay cache callers files) = Replay cache callers files
+seen (Migrate store) = Migrate store
+seen (Callers store callers) = Callers store callers

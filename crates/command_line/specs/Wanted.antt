@@ -26,7 +26,8 @@ outline ((name, value) ∷ more) = (name, plain value) ∷ outline more
 
 abbrev pub report_files : List (Text × Value)
 report_files =
-    (codes "zone", one []) ∷ (codes "categories", maybe None) ∷ (codes "received", maybe None) ∷ (codes "name", maybe None) ∷ (codes "files", several []) ∷ []
+    (codes "zone", one []) ∷ (codes "categories", maybe None) ∷ (codes "received", maybe None) ∷ (codes "name", maybe None) ∷ (codes "verbose", flag false) ∷ (codes "explain", flag false)
+    ∷ (codes "files", several []) ∷ []
 
 -- the arguments of each command, as each of its lines gives them
 abbrev pub commands : List (Text × List (Text × Value))
@@ -49,7 +50,7 @@ commands =
     ∷ (codes "missingfix", report_files)
     ∷ (codes "chain", (codes "sysmod", one []) ∷ report_files)
     ∷ (codes "callers", (codes "store", one []) ∷ (codes "callers", one []) ∷ [])
-    ∷ (codes "check", (codes "store", one []) ∷ [])
+    ∷ (codes "check", (codes "store", one []) ∷ (codes "explain", flag false) ∷ [])
     ∷ []
 
 abbrev pub of_command : List (Text × List (Text × Value)) → Text → List (Text × Value)

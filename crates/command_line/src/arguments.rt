@@ -139,6 +139,20 @@ pub const LOG: Argument = Argument {
     help: "Writes a line to standard error for each request and each connection that failed",
 };
 
+/// `--verbose`
+pub const VERBOSE: Argument = Argument {
+    name: "verbose",
+    kind: Kind::Flag,
+    help: "Writes to standard error how much was read",
+};
+
+/// `--explain`
+pub const EXPLAIN: Argument = Argument {
+    name: "explain",
+    kind: Kind::Flag,
+    help: "Writes below the line of a FAULT what it means and what to do",
+};
+
 /// An argument, as `clap` reads it.
 pub fn arg_of<'a>(alloc: Global, argument: &Argument) -> Arg<'a>
     ensures rule { rule_of result ≡ rule_for argument.now }

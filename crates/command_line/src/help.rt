@@ -8,7 +8,7 @@ pub const STATUSES_AND_FAULTS: &str = "\
 Exit status: 0 done; 1 the input is refused; 2 the words are not understood, or ask for help or the version;
 3 the machine fails (a device, memory). Where it is 1 or 3, standard error has FAULT, a number and, where
 there is one, the line on which the statement begins, or the record of a list (32 to 36, 47). errsysmods,
-missingfix and chain tell the file after it.
+missingfix and chain tell the file after it. With --explain they and check tell on a second line what it means.
 
  1 no period ends the statement, up to column 72 of its lines, or ++ begins a line before it
  2 the list after the verb is missing, or is not one id, or follows ++IF
@@ -42,4 +42,5 @@ missingfix and chain tell the file after it.
 71 a file cannot be read
 72 the output cannot be written
 73 the port cannot be listened on, or no longer
+75 a file of a report has no statement
 6, 17, 24, 25, 38, 41, 49, 54, 74 memory ran out";

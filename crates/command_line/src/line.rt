@@ -2,7 +2,7 @@
 ghost use Rattle.std.specs.Prelude.{◌≡◌, ◌≢◌, [], codes, map, string_bytes, IfErr, IfOk, OnOk};
 ghost use Rattle.clap.specs.Words.{fault_of, kind_of, subcommand_rows_of};
 ghost use Rattle.faults.specs.Refusal.{IsRefusal};
-ghost use Rattle.command_line.specs.Line.{bureau_app, HasOneLine, IsLineOf};
+ghost use Rattle.command_line.specs.Line.{bureau_app, HasOneLine, IsLineOf, seen, telling_all};
 ghost use Rattle.command_line.specs.Wanted.{IsRead, IsReadAs, rows_in};
 ghost use Rattle.command_line.specs.declared.line.Line.{Line};
 ghost use Rattle.command_line.specs.declared.line.LineFault.TheVariants.{Memory};
@@ -49,16 +49,16 @@ pub enum Line {
     Migrate {
         store: String,
     },
-    /// `errsysmods --zone ZONE [--received R] [--name NAME] FILE..`: prints the exception SYSMOD report on a zone.
+    /// `errsysmods --zone ZONE [--received R] [--name NAME] [--verbose] [--explain] FILE..`: prints the exception SYSMOD report on a zone.
     ErrSysmods {
         files: ReportFiles,
     },
-    /// `missingfix --zone ZONE --categories C [--received R] [--name NAME] FILE..`: prints the missing fix report on
+    /// `missingfix --zone ZONE --categories C [--received R] [--name NAME] [--verbose] [--explain] FILE..`: prints the missing fix report on
     /// a zone.
     MissingFix {
         files: ReportFiles,
     },
-    /// `chain --zone ZONE [--name NAME] SYSMOD FILE..`: prints the verdict on a SYSMOD in a zone.
+    /// `chain --zone ZONE [--name NAME] [--verbose] [--explain] SYSMOD FILE..`: prints the verdict on a SYSMOD in a zone.
     Chain {
         sysmod: String,
         files: ReportFiles,
@@ -68,10 +68,49 @@ pub enum Line {
         store: String,
         callers: String,
     },
-    /// `check STORE`: looks through the store in a file, and leaves it as it is.
+    /// `check [--explain] STORE`: looks through the store in a file, and leaves it as it is. If `--explain` is given,
+    /// standard error is told what a fault means.
     Check {
         store: String,
+        explain: bool,
     },
+}
+
+impl Line {
+    /// The line as it is done where someone looks on, as if it had the options that tell more. A report tells how much
+    /// it read. It and `check` tell what a fault means.
+    pub fn seen(self) -> Line
+        ensures { result ≡ seen self }
+    {
+        match self {
+            Line::ErrSysmods { files } => Line::ErrSysmods {
+                files: telling_all(files),
+            },
+            Line::MissingFix { files } => Line::MissingFix {
+                files: telling_all(files),
+            },
+            Line::Chain { sysmod, files } => Line::Chain {
+                sysmod,
+                files: telling_all(files),
+            },
+            Line::Check { store, explain: _ } => Line::Check {
+                store,
+                explain: true,
+            },
+            line => line,
+        }
+    }
+}
+
+// The files of a report that tells how much it read, and what a fault means.
+fn telling_all(files: ReportFiles) -> ReportFiles
+    ensures { result ≡ telling_all files }
+{
+    ReportFiles {
+        verbose: true,
+        explain: true,
+        ..files
+    }
 }
 
 /// Why words are no line.
@@ -234,6 +273,7 @@ fn check_with(alloc: Global, matches: &ArgMatches) -> Result<Line, LineFault>
 {
     Ok(Line::Check {
         store: text(alloc, matches, "check", "store")?,
+        explain: flag_with(matches, "explain"),
     })
 }
 

@@ -4,8 +4,8 @@ ghost use Rattle.command_line.specs.Commands.{with_command};
 ghost use Rattle.command_line.specs.Line.{bureau_app, commands_named};
 
 use crate::arguments::{
-    Argument, CACHE, CALLERS, CATEGORIES, CONNECTION_FILES, CONNECTIONS, FILE, LOG, NAME, OPEN,
-    PORT, PUBLICATIONS, RECEIVED, STORE, SYSMOD, ZONE,
+    Argument, CACHE, CALLERS, CATEGORIES, CONNECTION_FILES, CONNECTIONS, EXPLAIN, FILE, LOG, NAME,
+    OPEN, PORT, PUBLICATIONS, RECEIVED, STORE, SYSMOD, VERBOSE, ZONE,
 };
 
 /// A command of the program.
@@ -47,17 +47,25 @@ static SUBCOMMANDS: [Subcommand; 10] = [
     Subcommand {
         name: "errsysmods",
         about: "Prints the exception SYSMOD report on a zone, from files and with no desk",
-        arguments: &[ZONE, RECEIVED, NAME, PUBLICATIONS],
+        arguments: &[ZONE, RECEIVED, NAME, VERBOSE, EXPLAIN, PUBLICATIONS],
     },
     Subcommand {
         name: "missingfix",
         about: "Prints the missing fix report on a zone, from files and with no desk",
-        arguments: &[ZONE, CATEGORIES, RECEIVED, NAME, PUBLICATIONS],
+        arguments: &[
+            ZONE,
+            CATEGORIES,
+            RECEIVED,
+            NAME,
+            VERBOSE,
+            EXPLAIN,
+            PUBLICATIONS,
+        ],
     },
     Subcommand {
         name: "chain",
         about: "Prints whether a SYSMOD can be installed in a zone, and with what, as JSON",
-        arguments: &[ZONE, NAME, SYSMOD, PUBLICATIONS],
+        arguments: &[ZONE, NAME, VERBOSE, EXPLAIN, SYSMOD, PUBLICATIONS],
     },
     Subcommand {
         name: "callers",
@@ -67,7 +75,7 @@ static SUBCOMMANDS: [Subcommand; 10] = [
     Subcommand {
         name: "check",
         about: "Looks through all of STORE, changes no row, and prints how much each caller has",
-        arguments: &[STORE],
+        arguments: &[EXPLAIN, STORE],
     },
 ];
 

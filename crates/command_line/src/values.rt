@@ -22,6 +22,8 @@ pub fn files(alloc: Global, matches: &ArgMatches, command: &str) -> Result<Repor
         categories: text_with(alloc, matches, "categories")?,
         received: text_with(alloc, matches, "received")?,
         name: text_with(alloc, matches, "name")?,
+        verbose: flag_with(matches, "verbose"),
+        explain: flag_with(matches, "explain"),
         publications: texts(alloc, matches, command, "files")?,
     })
 }

@@ -6,6 +6,10 @@ use Rattle.std.specs.Option.{option_map}
 use Rattle.std.proofs.lemmas.List.{length-map}
 use Rattle.std.specs.Global.{Vec}
 use Rattle.std.proofs.lemmas.Bool.{and_from, eq-eqb, le-leb, lt-ltb, ne_eqb}
+use Rattle.faults.specs.FaultText.{text_of}
+use Rattle.faults.specs.Told.{of_input}
+use Rattle.mcs_reader.specs.ReadingOf.{reading_of}
+use Rattle.mcs_reader.specs.Unread.{Read}
 use Rattle.zone_lists.specs.declared.zones.ZoneRow.{ZoneRow}
 use Rattle.catalogue.specs.Content.{Content}
 use Rattle.catalogue.specs.Publication.{content_of}
@@ -27,8 +31,8 @@ use Rattle.bureau.specs.Texts.{chain_text, patterns_text, publication_text, rece
 use Rattle.bureau.proofs.LeftFacts.{AreKept, IsOfZone, content_more, kept_more, last_more, received_more, zone_is_left}
 use Rattle.bureau.proofs.NamesFacts.{own_caller}
 use Rattle.file_reports.specs.Desk.{IsDesksAnswer, all_sent, asked, list_sent, lists_sent, new_desk, publications_sent}
-use Rattle.file_reports.specs.Inputs.{Inputs, Refused, Said, and_then, content_published, if_not_long, list_in, most_bytes, patterns_said, published_from, received_said, rows_said, said_by, said_in}
-use Rattle.file_reports.specs.Reports.{chain_text_said, err_text_said, missing_text_said, text_by, zone_said}
+use Rattle.file_reports.specs.Inputs.{Inputs, Refused, Said, and_then, content_published, if_any, if_not_long, is_unended, list_in, most_bytes, publication_in, patterns_said, published_from, received_said, rows_said, said_by, said_in, statements_in}
+use Rattle.file_reports.specs.Reports.{chain_text_said, err_text_said, missing_text_said, made_from, zone_said}
 use Rattle.file_reports.specs.declared.fault.Input.{Input}
 use Rattle.file_reports.specs.declared.fault.Input.TheVariants.{Zone, Categories, Received, Publication}
 
@@ -52,6 +56,16 @@ unlisted {A} input body said what is = by (nat_le (length body) most_bytes) is
     by : (b : Bool) → if_not_long b input said ≡ Ok what → said ≡ Ok what
     by true e = unsaid input said what e
     by false e = absurd (cc e)
+
+-- what a FILE publishes is what its statements publish
+with_any : {A : Type 0} (read : Read) (said : Result A (List ℕ)) (what : A) → if_any read said ≡ Ok what → said ≡ Ok what
+with_any (Ok []) said what is = absurd (cc is)
+with_any (Ok (statement ∷ more)) said what is = is
+with_any (Err fault) said what is = is
+
+with_lines : {A : Type 0} (unended : Bool) (line : List ℕ) (said : Result A (List ℕ)) (what : A) → (if unended then Err line else said) ≡ Ok what → said ≡ Ok what
+with_lines true line said what is = absurd (cc is)
+with_lines false line said what is = is
 
 -- ---- numbers
 
@@ -177,9 +191,9 @@ publications_taken [] history count before all is says fits =
     nothing : ◌≡◌ {A = Result (List Change) Refused} (Ok []) (Ok all) → all ≡ []
     nothing e = cc e
 publications_taken (body ∷ bodies) history count before all is says fits =
-    let first = split (said_in (Publication count) (changes_in body)) _ all says in
+    let first = split (said_in (Publication count) (publication_in body)) _ all says in
     let rest = split (published_from (count + 1) bodies) _ all first.2 in
-    let sooner = publication_taken history count before first.0 body is (unsaid (Publication count) (changes_in body) first.0 first.1) (omega (arith, fits)) in
+    let sooner = publication_taken history count before first.0 body is (with_any (reading_of body) (changes_in body) first.0 (with_lines (is_unended body) (text_of (of_input 75)) (statements_in body) first.0 (unsaid (Publication count) (publication_in body) first.0 first.1))) (omega (arith, fits)) in
     let later = publications_taken bodies (asked Publisher (publish (Some (count + 1)) body) ∷ history) (count + 1) (before ++ first.0) rest.0 sooner rest.1 (omega (arith, fits)) in
     subst (λ (asks : List Asked). Publishes (taken asks) (count + length (body ∷ bodies)) (before ++ all))
     (sym (append_assoc (publications_sent (count + 1 + 1) bodies) (asked Publisher (publish (Some (count + 1)) body) ∷ []) history))
@@ -347,17 +361,17 @@ few_enough f vec inputs are =
     let small = vec.small in
     omega (arith, same, held, within, small)
 
-pub err_answered : (zone : List ℕ) (inputs : Inputs) (text : List ℕ) → length inputs.publications ≤ greatest_number → text_by (err_text_said zone) inputs ≡ Ok text → IsDesksAnswer zone inputs (report_on ErrSysmods (Rows Text) zone) (plain 200 text)
+pub err_answered : (zone : List ℕ) (inputs : Inputs) (text : List ℕ) → length inputs.publications ≤ greatest_number → made_from (err_text_said zone) inputs ≡ Ok text → IsDesksAnswer zone inputs (report_on ErrSysmods (Rows Text) zone) (plain 200 text)
 err_answered zone inputs text fits says = λ client.
     let all = split (said_by inputs) _ text says in
     err_told client zone inputs all.0 (inputs_taken client zone inputs all.0 fits all.1) ∙ ap (plain 200) (same_text (err_text_said zone all.0) text all.2)
 
-pub missing_answered : (zone : List ℕ) (inputs : Inputs) (text : List ℕ) → length inputs.publications ≤ greatest_number → text_by (missing_text_said zone) inputs ≡ Ok text → IsDesksAnswer zone inputs (report_on MissingFix (Rows Text) zone) (plain 200 text)
+pub missing_answered : (zone : List ℕ) (inputs : Inputs) (text : List ℕ) → length inputs.publications ≤ greatest_number → made_from (missing_text_said zone) inputs ≡ Ok text → IsDesksAnswer zone inputs (report_on MissingFix (Rows Text) zone) (plain 200 text)
 missing_answered zone inputs text fits says = λ client.
     let all = split (said_by inputs) _ text says in
     missing_told client zone inputs all.0 (inputs_taken client zone inputs all.0 fits all.1) ∙ ap (plain 200) (same_text (missing_text_said zone all.0) text all.2)
 
-pub chain_answered : (zone sysmod : List ℕ) (inputs : Inputs) (text : List ℕ) → length inputs.publications ≤ greatest_number → text_by (chain_text_said zone sysmod) inputs ≡ Ok text → IsDesksAnswer zone inputs (chain zone sysmod) (as_json text)
+pub chain_answered : (zone sysmod : List ℕ) (inputs : Inputs) (text : List ℕ) → length inputs.publications ≤ greatest_number → made_from (chain_text_said zone sysmod) inputs ≡ Ok text → IsDesksAnswer zone inputs (chain zone sysmod) (as_json text)
 chain_answered zone sysmod inputs text fits says = λ client.
     let all = split (said_by inputs) _ text says in
     chain_told client zone inputs all.0 (inputs_taken client zone inputs all.0 fits all.1) sysmod ∙ ap as_json (same_text (chain_text_said zone sysmod all.0) text all.2)

@@ -8,7 +8,11 @@ use Rattle.faults.specs.Told.{of_input}
 use Rattle.faults.specs.declared.any.AnyFault.{AnyFault}
 use Rattle.faults.specs.declared.fault.Cause.{Cause}
 use Rattle.faults.specs.declared.fault.Cause.TheVariants.{Input as InputCause, Machine}
+use Rattle.mcs_reader.specs.Asking.{reading_asking}
 use Rattle.mcs_reader.specs.McsFault as mcs
+use Rattle.mcs_reader.specs.ReadingOf.{reading_of}
+use Rattle.mcs_reader.specs.Unread.{Read, with_statements}
+use Rattle.mcs_reader.specs.declared.statement.Statement.{Statement}
 use Rattle.mcs_reader.specs.declared.fault.McsFault.{McsFault}
 use Rattle.mcs_reader.specs.declared.fault.McsFault.TheVariants as mcs_fault
 use Rattle.holddata.specs.HoldFault as hold
@@ -23,11 +27,11 @@ use Rattle.catalogue.specs.declared.fault.CatFault.TheVariants as cat_fault
 use Rattle.catalogue.specs.Content.{Content}
 use Rattle.catalogue.specs.Publication.{content_of}
 use Rattle.catalogue.specs.declared.change.Change.{Change}
-use Rattle.bureau.specs.Bodies.{changes_in, ids_in, list_said, patterns_in, rows_in}
+use Rattle.bureau.specs.Bodies.{ids_in, list_said, patterns_in, published_by, rows_in}
 use Rattle.bureau.specs.Faults.{IsTold}
-use Rattle.file_reports.specs.Inputs.{Inputs, IsFirstFault, IsGiven, IsMemory, if_not_long, list_in, most_bytes, rows_said, Refused, Said, and_then, content_published, input_at_fault, published_from, said_in, said_by, patterns_said, received_said, told_in}
+use Rattle.file_reports.specs.Inputs.{Inputs, IsFirstFault, IsGiven, IsMemory, if_not_long, list_in, most_bytes, rows_said, Refused, Said, and_then, content_published, if_any, HasAny, input_at_fault, publication_in, published_from, said_in, said_by, statements_in, patterns_said, received_said, told_in}
 use Rattle.file_reports.specs.declared.fault.Input.{Input}
-use Rattle.file_reports.specs.Reports.{text_by}
+use Rattle.file_reports.specs.Reports.{made_from}
 use Rattle.file_reports.specs.declared.fault.Input.TheVariants.{Zone, Categories, Received, Publication}
 use Rattle.file_reports.specs.declared.fault.InputFault.{InputFault}
 
@@ -130,6 +134,28 @@ passed_on {T} {A} (Err fault) said told is refused = subst (λ (told : InputFaul
 pub said_then : {A B : Type 0} (first : Result A Refused) (next : A → Result B Refused) (what : A) (all : B) → first ≡ Ok what → next what ≡ Ok all → and_then first next ≡ Ok all
 said_then {A} first next what all is later = ap (λ (result : Result A Refused). and_then result next) is ∙ later
 
+-- ---- whether a publication has a statement
+
+pub none_read : (names : List (List ℕ)) (read left : Read) → left ≡ reading_asking names read → left ≡ Ok [] → HasAny false read
+none_read names (Ok []) left is ended said = refl
+none_read names (Ok (statement ∷ more)) left is ended said = absurd (cc)
+none_read names (Err fault) left is ended said = absurd (cc)
+
+pub one_read : (names : List (List ℕ)) (read left now : Read) (first : Statement) → left ≡ reading_asking names read → left ≡ with_statements (first ∷ []) now → HasAny true read
+one_read names (Ok []) left (Ok rest) first is gives said = absurd (cc)
+one_read names (Ok []) left (Err fault) first is gives said = absurd (cc)
+one_read names (Ok (statement ∷ more)) left now first is gives said = refl
+one_read names (Err fault) left now first is gives said = refl
+
+-- a source that is not read is refused for the fault of its text
+pub unread_told : (body : List ℕ) (fault : McsFault) → IsRefusal mcs_fault.Memory (λ (told : McsFault). reading_of body ≡ Err told) fault → IsTold (statements_in body) (mcs.told fault)
+unread_told body fault (inl memory) = inl (ap (λ f. (mcs.told f).cause) memory)
+unread_told body fault (inr refused) = by (mcs.told fault).cause refl
+  where
+    by : (cause : Cause) → (mcs.told fault).cause ≡ cause → IsTold (statements_in body) (mcs.told fault)
+    by Machine e = inl e
+    by InputCause e = inr (e, ap (λ (read : Read). if_any read (published_by read)) refused)
+
 -- ---- publications, one after the other
 
 -- the content of what was published earlier and of what publications publish, of which the first has this index
@@ -137,7 +163,7 @@ abbrev pub content_with : List Change → ℕ → List (List ℕ) → Result Con
 content_with earlier index bodies = and_then (published_from index bodies) (λ later. Ok (content_of (earlier ++ later)))
 
 -- the next publication was read
-pub next_read : (earlier changes : List Change) (index : ℕ) (body : List ℕ) (bodies : List (List ℕ)) → said_in (Publication index) (changes_in body) ≡ Ok changes
+pub next_read : (earlier changes : List Change) (index : ℕ) (body : List ℕ) (bodies : List (List ℕ)) → said_in (Publication index) (publication_in body) ≡ Ok changes
     → content_with earlier index (body ∷ bodies) ≡ content_with (earlier ++ changes) (index + 1) bodies
 next_read earlier changes index body bodies is =
     ap (λ (said : Result (List Change) Refused). and_then (and_then said (λ changes. and_then (published_from (index + 1) bodies) (λ later. Ok (changes ++ later)))) (λ all. Ok (content_of (earlier ++ all)))) is
@@ -149,10 +175,10 @@ next_read earlier changes index body bodies is =
     by (Ok later) = ap (λ (all : List Change). Ok (content_of all)) (sym (append_assoc earlier changes later))
 
 -- it is refused
-pub next_refused : (earlier : List Change) (index : ℕ) (body : List ℕ) (bodies : List (List ℕ)) (told : InputFault) → IsFirstFault (said_in (Publication index) (changes_in body)) told
+pub next_refused : (earlier : List Change) (index : ℕ) (body : List ℕ) (bodies : List (List ℕ)) (told : InputFault) → IsFirstFault (said_in (Publication index) (publication_in body)) told
     → IsFirstFault (content_with earlier index (body ∷ bodies)) told
 next_refused earlier index body bodies told refused =
-    refused_first (published_from index (body ∷ bodies)) _ told (refused_first (said_in (Publication index) (changes_in body)) _ told refused)
+    refused_first (published_from index (body ∷ bodies)) _ told (refused_first (said_in (Publication index) (publication_in body)) _ told refused)
 
 -- none is left
 pub none_left : (earlier : List Change) (index : ℕ) → content_with earlier index [] ≡ Ok (content_of earlier)
@@ -195,8 +221,8 @@ IsOneOf end refused = (at : ℕ) × (Publication at ≡ refused.input) × (at < 
 publication_given : (first end : ℕ) (bodies : List (List ℕ)) → first + length bodies ≡ end → (refused : Refused) → published_from first bodies ≡ Err refused → IsOneOf end refused
 publication_given first end [] ends refused is = absurd (cc is)
 publication_given first end (body ∷ bodies) ends refused is =
-    and_then_refused (IsOneOf end) (said_in (Publication first) (changes_in body)) (λ changes. and_then (published_from (first + 1) bodies) (λ later. Ok (changes ++ later)))
-    (λ refused e. (first, refused_of (Publication first) (changes_in body) refused e, omega (arith, ends)))
+    and_then_refused (IsOneOf end) (said_in (Publication first) (publication_in body)) (λ changes. and_then (published_from (first + 1) bodies) (λ later. Ok (changes ++ later)))
+    (λ refused e. (first, refused_of (Publication first) (publication_in body) refused e, omega (arith, ends)))
     (λ changes refused e. and_then_refused (IsOneOf end) (published_from (first + 1) bodies) (λ later. Ok (changes ++ later))
     (λ refused e. publication_given (first + 1) end bodies (omega (arith, ends)) refused e) (λ later refused e. absurd (cc e)) refused e)
     refused is
@@ -230,7 +256,7 @@ given inputs refused is =
         subst (IsGiven inputs) it.1 it.2
 
 -- the fault that is told of a text is in an input that is given, or in none
-pub fault_given : (text : Said → List ℕ) (inputs : Inputs) (told : InputFault) → IsFirstFault (text_by text inputs) told → IfSome told.input (IsGiven inputs)
+pub fault_given : {A : Type 0} (text : Said → A) (inputs : Inputs) (told : InputFault) → IsFirstFault (made_from text inputs) told → IfSome told.input (IsGiven inputs)
 fault_given text inputs told (inl memory) = subst (λ (o : Option Input). IfSome o (IsGiven inputs)) (sym memory.0) tt
 fault_given text inputs told (inr is) =
     let refused : Refused = record { input = is.1.0; line = text_of told.fault } in

@@ -1,5 +1,5 @@
 -- A report, from what the inputs say.
-use Rattle.std.proofs.Common.{◌≡◌, inl, inr, arith, ℕ, ◌==◌, ◌&&◌, List, filter, refl, sym, ◌∙◌, ap, subst}
+use Rattle.std.proofs.Common.{◌≡◌, inl, inr, arith, ℕ, ◌==◌, ◌&&◌, List, filter, refl, sym, ◌∙◌, ap, ap₂, subst}
 use Rattle.std.specs.Prelude.{None, Result, Ok, Err, IfErr, IsErrAnd}
 use Rattle.holddata.specs.HoldKey.{kind_order}
 use Rattle.holddata.specs.declared.hold.Hold.{Hold}
@@ -17,21 +17,28 @@ use Rattle.reports.specs.ReportText.{err_text_of, missing_text_of}
 use Rattle.reports.specs.declared.rows.ErrRow.{ErrRow}
 use Rattle.reports.specs.declared.rows.MissingRow.{MissingRow}
 use Rattle.file_reports.specs.Inputs.{Inputs, IsFirstFault, Refused, Said, and_then, said_by}
-use Rattle.file_reports.specs.Reports.{err_text_said, missing_text_said, text_by}
+use Rattle.file_reports.specs.Reports.{counts_said, err_text_said, made_from, missing_text_said, with_counts}
+use Rattle.file_reports.specs.declared.texts.Counts.{Counts}
 use Rattle.file_reports.specs.declared.fault.InputFault.{InputFault}
 use Rattle.file_reports.proofs.InputFacts.{refused_first}
 
--- a text of what the inputs say
-pub text_said : (text : Said → List ℕ) (inputs : Inputs) (all : Said) (made : List ℕ) → said_by inputs ≡ Ok all → made ≡ text all → text_by text inputs ≡ Ok made
-text_said text inputs all made said is =
-    ap (λ (result : Result Said Refused). and_then result (λ all. Ok (text all))) said ∙ ap (λ (text : List ℕ). Ok text) (sym is)
+-- what is made of what the inputs say
+pub made_said : {A : Type 0} (make : Said → A) (inputs : Inputs) (all : Said) (made : A) → said_by inputs ≡ Ok all → made ≡ make all → made_from make inputs ≡ Ok made
+made_said {A} make inputs all made said is =
+    ap (λ (result : Result Said Refused). and_then result (λ all. Ok (make all))) said ∙ ap (λ (made : A). Ok made) (sym is)
+
+-- a text of it, and the counts
+pub with_counts_said : (text : Said → List ℕ) (inputs : Inputs) (all : Said) (printed : List ℕ) (counts : Counts) → said_by inputs ≡ Ok all → printed ≡ text all → counts ≡ counts_said all
+    → made_from (with_counts text) inputs ≡ Ok (printed, counts)
+with_counts_said text inputs all printed counts said is are =
+    made_said (with_counts text) inputs all (printed, counts) said (ap₂ (λ (t : List ℕ) (c : Counts). (t, c)) is are)
 
 -- what is refused of the inputs is refused of the report
-pub text_refused : {T : Type 0} (text : Said → List ℕ) (inputs : Inputs) (result : Result T InputFault) (told : InputFault) → IsErrAnd result (λ fault. fault ≡ told)
-    → IsFirstFault (said_by inputs) told → IfErr result (IsFirstFault (text_by text inputs))
+pub text_refused : {T A : Type 0} (text : Said → A) (inputs : Inputs) (result : Result T InputFault) (told : InputFault) → IsErrAnd result (λ fault. fault ≡ told)
+    → IsFirstFault (said_by inputs) told → IfErr result (IsFirstFault (made_from text inputs))
 text_refused text inputs (Ok value) told is refused = absurd is
 text_refused text inputs (Err fault) told is refused =
-    subst (λ (told : InputFault). IsFirstFault (text_by text inputs) told) (sym is) (refused_first (said_by inputs) (λ all. Ok (text all)) told refused)
+    subst (λ (told : InputFault). IsFirstFault (made_from text inputs) told) (sym is) (refused_first (said_by inputs) (λ all. Ok (text all)) told refused)
 
 -- the machine is at fault
 abbrev told_of : SourceFault → InputFault

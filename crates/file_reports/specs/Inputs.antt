@@ -1,10 +1,13 @@
 -- The meaning of a report's inputs: the publications, one after the other, and the lists of a zone; or the first fault.
-use Rattle.std.specs.Prelude.{◌≡◌, ◌⊎◌, ◌+◌, ◌++◌, ℕ, List, [], ◌∷◌, Option, Some, None, Result, Ok, Err, Bool, true, false, IsSome, length, nat_le, ◌<◌}
+use Rattle.std.specs.Prelude.{◌≡◌, ◌⊎◌, ◌+◌, ◌++◌, ℕ, List, [], ◌∷◌, Option, Some, None, Result, Ok, Err, Bool, true, false, if◌then◌else◌, IsSome, length, nat_le, ◌<◌, nat_lt, ◌&&◌, not, ◌==◌}
+use Rattle.std.specs.List.{list_any}
 use Rattle.faults.specs.FaultText.{text_of}
 use Rattle.faults.specs.Told.{of_input, of_machine}
 use Rattle.faults.specs.declared.any.AnyFault.{AnyFault}
 use Rattle.faults.specs.declared.fault.Cause.{Cause}
 use Rattle.faults.specs.declared.fault.Cause.TheVariants as cause
+use Rattle.mcs_reader.specs.ReadingOf.{reading_of}
+use Rattle.mcs_reader.specs.Unread.{Read}
 use Rattle.zone_lists.specs.declared.zones.ZoneRow.{ZoneRow}
 use Rattle.catalogue.specs.Content.{Content}
 use Rattle.catalogue.specs.Publication.{content_of}
@@ -73,12 +76,33 @@ abbrev pub received_said : Option (List ℕ) → Result (List (List ℕ)) Refuse
 received_said None = Ok []
 received_said (Some body) = list_in Received body (ids_in body)
 
+-- the changes that a FILE publishes, which has these statements; if it has none, it is no text of statements: the fault 75
+abbrev pub if_any : {A : Type 0} → Read → Result A (List ℕ) → Result A (List ℕ)
+if_any (Ok []) said = Err (text_of (of_input 75))
+if_any (Ok (statement ∷ more)) said = said
+if_any (Err fault) said = said
+
+-- Serves private contracts alone: whether there is a statement.
+abbrev pub HasAny : Bool → Read → Type 0
+HasAny has read = (said : Result (List Change) (List ℕ)) → if_any read said ≡ (if has then said else Err (text_of (of_input 75)))
+
+abbrev pub statements_in : List ℕ → Result (List Change) (List ℕ)
+statements_in body = if_any (reading_of body) (changes_in body)
+
+-- records without line ends: over 80 bytes, and no line ends
+abbrev pub is_unended : List ℕ → Bool
+is_unended body = nat_lt 80 (length body) && not (list_any (λ byte. byte == 10) body)
+
+-- the changes that a FILE publishes; the fault 75, if it is no text of statements in lines
+abbrev pub publication_in : List ℕ → Result (List Change) (List ℕ)
+publication_in body = if is_unended body then Err (text_of (of_input 75)) else statements_in body
+
 -- the changes of publications, of which the first has this index: all in order, or the fault of the first publication that
 -- has one
 abbrev pub published_from : ℕ → List (List ℕ) → Result (List Change) Refused
 published_from index [] = Ok []
 published_from index (body ∷ bodies) =
-    and_then (said_in (Publication index) (changes_in body)) (λ changes.
+    and_then (said_in (Publication index) (publication_in body)) (λ changes.
     and_then (published_from (index + 1) bodies) (λ later. Ok (changes ++ later)))
 
 -- the content that they leave, if nothing was published before

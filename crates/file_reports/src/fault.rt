@@ -1,5 +1,6 @@
 //! The first fault of the inputs, and its input.
 ghost use Rattle.std.specs.Prelude.{◌≡◌};
+ghost use Rattle.faults.specs.Told.{of_input};
 ghost use Rattle.file_reports.specs.Inputs.{told_in};
 
 use catalogue::SourceFault;
@@ -16,6 +17,13 @@ pub enum Input {
     Received,
     /// The publication with this index, from 0.
     Publication(usize),
+}
+
+// A file has no statement. A packed file or one in EBCDIC has none.
+pub(crate) fn no_statement() -> AnyFault
+    ensures { result ≡ of_input 75 }
+{
+    AnyFault::of_input(75)
 }
 
 /// Why there is no report.

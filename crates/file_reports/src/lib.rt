@@ -4,6 +4,7 @@
 //! - [`Lists`]: a zone's lists: its SYSMODs, and the client's received SYSMODs and fix categories, if these are given
 //! - [`err_report`], [`missing_report`]: the two reports on a zone
 //! - [`chain_report`]: the verdict on a SYSMOD in a zone
+//! - [`Made`]: the text of one of them, and the [`Counts`] of what was published
 //! - [`Input`]: the input that has a fault; [`InputFault`]: the first fault, and its input
 //!
 //! ```
@@ -12,8 +13,8 @@
 //! let source = Vec::from_slice(alloc, b"++HOLD(UJ90101) ERROR FMID(HBB77E0) REASON(AJ00001).\n")?;
 //! let lists = Lists::of_zone(b"SYSMOD,STATE\nUJ90101,APPLIED\n");
 //! let zone = Id::new(b"NORTH").ok_or("an id")?;
-//! let text = err_report(alloc, &zone, lists, vec![in alloc; source]?)?;
-//! assert!(rt; text.ends_with(b"HBB77E0  UJ90101  AJ00001  - NONE -  -     -        -\nROWS 1\n"));
+//! let made = err_report(alloc, &zone, lists, vec![in alloc; source]?)?;
+//! assert!(rt; made.text.ends_with(b"HBB77E0  UJ90101  AJ00001  - NONE -  -     -        -\nROWS 1\n"));
 //! ```
 #![tactic(auto)]
 
@@ -26,4 +27,4 @@ mod texts;
 
 pub use fault::{Input, InputFault};
 pub use inputs::Lists;
-pub use texts::{chain_report, err_report, missing_report};
+pub use texts::{Counts, Made, chain_report, err_report, missing_report};

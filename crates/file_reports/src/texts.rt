@@ -15,7 +15,7 @@ ghost use Rattle.file_reports.specs.Desk.{IsDesksAnswer};
 ghost use Rattle.file_reports.specs.Inputs.{IsFirstFault};
 ghost use Rattle.file_reports.specs.Lists.{chain_inputs_of, err_inputs_of, inputs_of};
 ghost use Rattle.file_reports.specs.Read.{said_of};
-ghost use Rattle.file_reports.specs.Reports.{chain_text_said, err_text_said, missing_text_said, text_by};
+ghost use Rattle.file_reports.specs.Reports.{chain_text_said, counts_said, err_text_said, made_from, missing_text_said, with_counts};
 ghost use Rattle.holddata.specs.declared.key.Kind.TheVariants.{ErrorHold, FixcatHold};
 
 use crate::InputFault;
@@ -36,6 +36,22 @@ use zone_lists::Pattern;
 // read once.
 const NODES_MOST: usize = 256;
 
+/// How much publications leave.
+#[derive(Clone, Copy, Debug, PartialEq, Eq)]
+pub struct Counts {
+    /// The SYSMODs that are catalogued.
+    pub sysmods: usize,
+    /// The holds in force.
+    pub holds: usize,
+}
+
+/// A report, and what was read for it.
+#[derive(Debug, Drop)]
+pub struct Made {
+    pub text: Vec<u8>,
+    pub counts: Counts,
+}
+
 /// Prints the exception SYSMOD report on a zone of this name, as a new desk answers it after the same publications and
 /// lists. It doesn't read the fix categories.
 ///
@@ -47,19 +63,21 @@ pub fn err_report(
     zone: &Id,
     lists: Lists<'_>,
     publications: Vec<Vec<u8>>,
-) -> Result<Vec<u8>, InputFault>
-    ensures text { IfOk result (λ text. text_by (err_text_said zone.now)
-        (err_inputs_of lists.entry (map (λ body. body.items) publications.items)) ≡ Ok text.items) }
-    ensures fault { IfErr result (IsFirstFault (text_by (err_text_said zone.now)
+) -> Result<Made, InputFault>
+    ensures made { IfOk result (λ made. made_from (with_counts (err_text_said zone.now))
+        (err_inputs_of lists.entry (map (λ body. body.items) publications.items)) ≡ Ok (made.text.items, made.counts)) }
+    ensures fault { IfErr result (IsFirstFault (made_from (with_counts (err_text_said zone.now))
         (err_inputs_of lists.entry (map (λ body. body.items) publications.items)))) }
 
     // A desk answers the same.
-    ensures desk { IfOk result (λ text. IsDesksAnswer zone.now
+    ensures desk { IfOk result (λ made. IsDesksAnswer zone.now
         (err_inputs_of lists.entry (map (λ body. body.items) publications.items))
-        (call.report_on ErrSysmods (Rows Text) zone.now) (plain 200 text.items)) }
+        (call.report_on ErrSysmods (Rows Text) zone.now) (plain 200 made.text.items)) }
 {
     let read = read_all(alloc, lists.without_categories(), publications)?;
-    Ok(err_text_in(alloc, zone, read)?)
+    let counts = counts_in(&read);
+    let text = err_text_in(alloc, zone, read)?;
+    Ok(Made { text, counts })
 }
 
 /// Prints the missing fix report on a zone, as [`err_report`] does.
@@ -72,19 +90,21 @@ pub fn missing_report(
     zone: &Id,
     lists: Lists<'_>,
     publications: Vec<Vec<u8>>,
-) -> Result<Vec<u8>, InputFault>
-    ensures text { IfOk result (λ text. text_by (missing_text_said zone.now)
-        (inputs_of lists.entry (map (λ body. body.items) publications.items)) ≡ Ok text.items) }
-    ensures fault { IfErr result (IsFirstFault (text_by (missing_text_said zone.now)
+) -> Result<Made, InputFault>
+    ensures made { IfOk result (λ made. made_from (with_counts (missing_text_said zone.now))
+        (inputs_of lists.entry (map (λ body. body.items) publications.items)) ≡ Ok (made.text.items, made.counts)) }
+    ensures fault { IfErr result (IsFirstFault (made_from (with_counts (missing_text_said zone.now))
         (inputs_of lists.entry (map (λ body. body.items) publications.items)))) }
 
     // A desk answers the same.
-    ensures desk { IfOk result (λ text. IsDesksAnswer zone.now
+    ensures desk { IfOk result (λ made. IsDesksAnswer zone.now
         (inputs_of lists.entry (map (λ body. body.items) publications.items))
-        (call.report_on MissingFix (Rows Text) zone.now) (plain 200 text.items)) }
+        (call.report_on MissingFix (Rows Text) zone.now) (plain 200 made.text.items)) }
 {
     let read = read_all(alloc, lists, publications)?;
-    Ok(missing_text_in(alloc, zone, read)?)
+    let counts = counts_in(&read);
+    let text = missing_text_in(alloc, zone, read)?;
+    Ok(Made { text, counts })
 }
 
 /// Prints the verdict on a SYSMOD in a zone, as JSON, as [`err_report`] does. It reads no list but that of the zone's
@@ -99,19 +119,31 @@ pub fn chain_report(
     sysmod: &Id,
     lists: Lists<'_>,
     publications: Vec<Vec<u8>>,
-) -> Result<Vec<u8>, InputFault>
-    ensures text { IfOk result (λ text. text_by (chain_text_said zone.now sysmod.now)
-        (chain_inputs_of lists.entry (map (λ body. body.items) publications.items)) ≡ Ok text.items) }
-    ensures fault { IfErr result (IsFirstFault (text_by (chain_text_said zone.now sysmod.now)
+) -> Result<Made, InputFault>
+    ensures made { IfOk result (λ made. made_from (with_counts (chain_text_said zone.now sysmod.now))
+        (chain_inputs_of lists.entry (map (λ body. body.items) publications.items)) ≡ Ok (made.text.items, made.counts)) }
+    ensures fault { IfErr result (IsFirstFault (made_from (with_counts (chain_text_said zone.now sysmod.now))
         (chain_inputs_of lists.entry (map (λ body. body.items) publications.items)))) }
 
     // A desk answers the same.
-    ensures desk { IfOk result (λ text. IsDesksAnswer zone.now
+    ensures desk { IfOk result (λ made. IsDesksAnswer zone.now
         (chain_inputs_of lists.entry (map (λ body. body.items) publications.items))
-        (call.chain zone.now sysmod.now) (as_json text.items)) }
+        (call.chain zone.now sysmod.now) (as_json made.text.items)) }
 {
     let read = read_all(alloc, lists.zone_alone(), publications)?;
-    Ok(chain_text_in(alloc, zone, sysmod, read)?)
+    let counts = counts_in(&read);
+    let text = chain_text_in(alloc, zone, sysmod, read)?;
+    Ok(Made { text, counts })
+}
+
+// How much was published.
+fn counts_in(read: &Read) -> Counts
+    ensures { result ≡ counts_said (said_of read.now) }
+{
+    Counts {
+        sysmods: read.content.sysmod_count(),
+        holds: read.content.book().len(),
+    }
 }
 
 // The exception SYSMOD report of what was read.

@@ -1,5 +1,5 @@
 //! The content that was gathered.
-ghost use Rattle.std.specs.Prelude.{◌≡◌, IfOk, IfErr};
+ghost use Rattle.std.specs.Prelude.{◌≡◌, length, IfOk, IfErr};
 ghost use Rattle.holddata.specs.HoldBook.{IsInKeyOrder};
 ghost use Rattle.catalogue.specs.Content.{IsInOrder, holds_on, ids_of, record_of, superseders};
 ghost use Rattle.catalogue.specs.Ids.{Ascend};
@@ -41,6 +41,13 @@ impl Model for FlatContent {
 }
 
 impl FlatContent {
+    /// The number of SYSMODs.
+    pub fn sysmod_count(&self) -> usize
+        ensures { result ≡ length self.now.sysmods }
+    {
+        self.records.count()
+    }
+
     /// The hold book.
     pub fn book(&self) -> &HoldBook
         ensures value { result.now ≡ self.now.holds }

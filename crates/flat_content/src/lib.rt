@@ -2,7 +2,7 @@
 //! of [`ListPublished`](catalogue::ListPublished), and takes no more publications once it is made.
 //!
 //! - [`Gathered`]: the records and holds that changes publish, one after the other
-//! - [`FlatContent`]: the content that they leave
+//! - [`FlatContent`]: the content that they leave, and how much it is
 //!
 //! ```
 //! // what isn't named here is of catalogue and mcs_reader

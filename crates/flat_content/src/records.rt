@@ -1,5 +1,5 @@
 //! Records whose lists are parts of one list of ids and of one of requisites under conditions.
-ghost use Rattle.std.specs.Prelude.{◌≡◌, ◌++◌, ◌∷◌, List, [], IfOk, OnOk, find, map};
+ghost use Rattle.std.specs.Prelude.{◌≡◌, ◌++◌, ◌∷◌, List, [], IfOk, OnOk, find, length, map};
 ghost use Rattle.catalogue.specs.Content.{ids_in, is_of};
 ghost use Rattle.catalogue.specs.Ids.{Ascend};
 ghost use Rattle.catalogue.specs.Publication.{catalogue_of};
@@ -141,6 +141,13 @@ impl Records {
             names,
             conds,
         })
+    }
+
+    /// The number of records.
+    pub(crate) fn count(&self) -> usize
+        ensures { result ≡ length self.now }
+    {
+        self.heads.len()
     }
 
     /// The ids of all records.

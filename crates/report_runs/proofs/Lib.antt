@@ -1,3 +1,4 @@
+mod AmountFacts
 mod BookFacts
 mod OutputFacts
 mod ReportFilesFacts

@@ -3,6 +3,7 @@ use Rattle.std.proofs.Common.{ℕ, List, inl, inr, Option, Some, None, sym, subs
 use Rattle.std.specs.Prelude.{IfSome}
 use Rattle.file_reports.proofs.InputFacts.{fault_given}
 use Rattle.file_reports.specs.Inputs.{Inputs, IsGiven}
+use Rattle.file_reports.specs.Reports.{with_counts}
 use Rattle.file_reports.specs.declared.fault.Input.{Input}
 use Rattle.file_reports.specs.declared.fault.Input.TheVariants as input
 use Rattle.file_reports.specs.declared.fault.InputFault.{InputFault}
@@ -29,7 +30,7 @@ pub fault_named : (files : ReportFiles) (question : Question) (zone : List ℕ) 
     → IsReportOutput (Some told) (made_by question zone inputs) old new → HasName files told.input
 fault_named files question zone inputs told old new named (inl cut) = subst (λ (told : InputFault). HasName files told.input) (sym cut.0) tt
 fault_named files question zone inputs told old new named (inr refused) =
-    by told.input (fault_given (report_text question zone) (read_by question inputs) told refused.0)
+    by told.input (fault_given (with_counts (report_text question zone)) (read_by question inputs) told refused.0)
   where
     by : (at : Option Input) → IfSome at (IsGiven (read_by question inputs)) → HasName files at
     by None there = tt

@@ -1,3 +1,4 @@
+pub mod Amounts
 pub mod Contents
 pub mod Holds
 pub mod ReportFiles

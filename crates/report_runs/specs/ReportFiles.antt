@@ -8,9 +8,10 @@ use Rattle.std.specs.Path.{path_file_prefix}
 use Rattle.std.specs.Str.{bytes_eq}
 use Rattle.file_reports.specs.Inputs.{Inputs}
 use Rattle.mcs_reader.specs.Id.{id_of}
-use Rattle.transfer.specs.Transfer.{ConsumesUpTo}
+use Rattle.transfer.specs.Transfer.{AppendsFront, ConsumesUpTo}
 use Rattle.report_runs.specs.Holds.{most_read}
-use Rattle.run_parts.specs.Outputs.{Outputs, IsEndedBy, IsExplained}
+use Rattle.run_parts.specs.Outputs.{Outputs, IsExplained, IsMeant, IsTold, line_in}
+use Rattle.run_parts.specs.ProgramFault.{of_program}
 use Rattle.report_runs.specs.Reporting.{IsReportRun, made_by}
 use Rattle.run_parts.specs.Files.{KnownFile, Unknown, Missing, Holds}
 use Rattle.run_parts.specs.declared.fault.ProgramFault.TheVariants.{NotRead, Memory}
@@ -59,6 +60,17 @@ pub record AreInputs (files : List ℕ → KnownFile) (names : ReportFiles) (inp
   pub received_is : IsReadIfGiven files (option_map string_bytes names.received) inputs.received after_categories after_received
   pub publications_are : AreRead files (map string_bytes names.publications.items) inputs.publications after_received rest
 
+-- a file that can't be read takes nothing of standard input, unless it is standard input
+abbrev pub IsTakenBy : List ℕ → Option (List ℕ) → Option (List ℕ) → Type 0
+IsTakenBy name input rest = ((name ≡ codes "-") × ConsumesUpTo most_read input rest) ⊎ ((name ≢ codes "-") × Keeps input rest)
+
+-- A file of this name is the first of these that can't be read: those before it are read, and no other is.
+abbrev pub IsFirstUnread : (List ℕ → KnownFile) → List (List ℕ) → List ℕ → Option (List ℕ) → Option (List ℕ) → Type 0
+IsFirstUnread files [] name input rest = ⊥
+IsFirstUnread files (other ∷ names) name input rest =
+    ((name ≡ other) × IsTakenBy name input rest)
+    ⊎ ((bytes : List ℕ) × (between : Option (List ℕ)) × IsRead files other bytes input between × IsFirstUnread files names name between rest)
+
 -- ---- what is asked
 
 -- the name of the zone's file, without its folder, up to its first period and in upper case
@@ -77,11 +89,12 @@ zone_of names = zone_named (option_map string_bytes names.name) (string_bytes na
 abbrev pub standard_inputs : List (List ℕ) → List (List ℕ)
 standard_inputs names = filter (λ name. bytes_eq name (codes "-")) names
 
--- the names of all files
+-- the names of all files, in the order in which these are read
 abbrev pub names_in : ReportFiles → List (List ℕ)
 names_in names =
-    string_bytes names.zone ∷ option_to_list (option_map string_bytes names.categories) ++ option_to_list (option_map string_bytes names.received)
-    ++ map string_bytes names.publications.items
+    string_bytes names.zone
+    ∷ (option_to_list (option_map string_bytes names.categories)
+    ++ (option_to_list (option_map string_bytes names.received) ++ map string_bytes names.publications.items))
 
 -- the number of all names that are `-`
 abbrev pub times_standard_input : ReportFiles → ℕ
@@ -102,13 +115,27 @@ pub record IsReported (files : List ℕ → KnownFile) (question : Question) (na
 abbrev pub IsNotAsked : Option (List ℕ) → Option (List ℕ) → Outputs → ℕ → Type 0
 IsNotAsked input rest outputs status = Keeps input rest × ((text : List ℕ) × IsExplained text outputs status)
 
+-- standard error has the fault of the first file that can't be read, with its name; or memory ran out
+abbrev pub IsUnreadTold : (List ℕ → KnownFile) → ReportFiles → Option (List ℕ) → Option (List ℕ) → Option (List ℕ) → Option (List ℕ) → Type 0
+IsUnreadTold files names input rest old new =
+    ((name : List ℕ) × IsFirstUnread files (names_in names) name input rest × AppendsFront old new (line_in (of_program NotRead) name))
+    ⊎ IsTold (Some (of_program Memory)) old new
+
+-- a run that ends so before it makes anything
+pub record IsStopped (files : List ℕ → KnownFile) (names : ReportFiles) (input rest : Option (List ℕ)) (outputs : Outputs) (status : ℕ) : Type 0 where
+  pub line : Option (List ℕ)
+  pub output : Keeps outputs.output outputs.written
+  pub told : IsUnreadTold files names input rest outputs.errors line
+  pub meant : IsMeant names.explain line outputs.told
+  pub status_is : status ≡ 3
+
 -- `errsysmods` and `missingfix`: the report; or the zone has no name, or a second file is `-`; or a file can't be read, or memory
 -- ran out
 abbrev pub IsReport : (List ℕ → KnownFile) → Question → ReportFiles → Option (List ℕ) → Option (List ℕ) → Outputs → ℕ → Type 0
 IsReport files question names input rest outputs status =
     IsReported files question names input rest outputs status
     ⊎ (((zone_of names ≡ None) ⊎ (1 < times_standard_input names)) × IsNotAsked input rest outputs status)
-    ⊎ (IsEndedBy NotRead outputs status ⊎ IsEndedBy Memory outputs status)
+    ⊎ IsStopped files names input rest outputs status
 
 -- `chain`: the verdict on the SYSMOD of this name, if that is an id
 abbrev pub IsChainOf : (List ℕ → KnownFile) → Option (List ℕ) → ReportFiles → Option (List ℕ) → Option (List ℕ) → Outputs → ℕ → Type 0

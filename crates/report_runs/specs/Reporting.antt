@@ -1,19 +1,21 @@
 -- The report from files, by its inputs.
-use Rattle.std.specs.Prelude.{◌≡◌, ◌⊎◌, ◌++◌, ℕ, List, Option, Some, None, Result, Ok, Err, IsSome, codes, map, option_map, slice_get, string_bytes}
+use Rattle.std.specs.Prelude.{◌≡◌, ◌⊎◌, ◌++◌, ℕ, Bool, true, false, List, Option, Some, None, Result, Ok, Err, IsSome, codes, length, map, option_map, slice_get, string_bytes}
 use Rattle.std.specs.Io.KnownBytes.{Appends, Keeps}
 use Rattle.faults.specs.FaultText.{text_of}
 use Rattle.faults.specs.declared.any.AnyFault.{AnyFault}
 use Rattle.file_reports.specs.Inputs.{Inputs, IsFirstFault, IsGiven, Refused, Said}
 use Rattle.file_reports.specs.Lists.{inputs_of}
-use Rattle.file_reports.specs.Reports.{chain_text_said, err_text_said, missing_text_said, text_by}
+use Rattle.file_reports.specs.Reports.{chain_text_said, err_text_said, made_from, missing_text_said, with_counts}
+use Rattle.file_reports.specs.declared.texts.Counts.{Counts}
 use Rattle.file_reports.specs.declared.fault.Input.{Input}
 use Rattle.file_reports.specs.declared.fault.Input.TheVariants.{Zone, Categories, Received, Publication}
 use Rattle.file_reports.specs.declared.fault.InputFault.{InputFault}
 use Rattle.transfer.specs.Transfer.{AppendsFront}
-use Rattle.run_parts.specs.Outputs.{line_in}
+use Rattle.run_parts.specs.Outputs.{IsMeant, line_in}
 use Rattle.run_parts.specs.ProgramFault.{of_program, status_of}
 use Rattle.run_parts.specs.declared.fault.ProgramFault.TheVariants.{NotWritten}
 use Rattle.run_parts.specs.declared.report_files.ReportFiles.{ReportFiles}
+use Rattle.report_runs.specs.Amounts.{read_line}
 use Rattle.report_runs.specs.declared.reporting.Question.{Question}
 use Rattle.questions.specs.declared.report.Report.TheVariants.{ErrSysmods, MissingFix}
 use Rattle.report_runs.specs.declared.reporting.Question.TheVariants.{Chain, Report}
@@ -31,12 +33,12 @@ read_by (Report ErrSysmods) inputs = record inputs { categories = None }
 read_by (Report MissingFix) inputs = inputs
 read_by (Chain sysmod) inputs = record inputs { categories = None; received = None }
 
--- the text of the report, by the inputs; or the first fault
-abbrev pub made_by : Question → List ℕ → Inputs → Result (List ℕ) Refused
-made_by question zone inputs = text_by (report_text question zone) (read_by question inputs)
+-- the text of the report, and how much was published, by the inputs; or the first fault
+abbrev pub made_by : Question → List ℕ → Inputs → Result (List ℕ × Counts) Refused
+made_by question zone inputs = made_from (with_counts (report_text question zone)) (read_by question inputs)
 
 -- the same, by the lists and publications that a run is handed
-abbrev pub made_of : ReportAsked → List (List ℕ) → Result (List ℕ) Refused
+abbrev pub made_of : ReportAsked → List (List ℕ) → Result (List ℕ × Counts) Refused
 made_of asked publications = made_by asked.question asked.zone (inputs_of asked.lists publications)
 
 -- the name of an input's file
@@ -62,20 +64,25 @@ HasName files None = Unit {0}
 HasName files (Some input) = IsSome (name_of files input)
 
 -- a write failed: standard output has a front of the report
-abbrev pub IsReportCutShort : InputFault → Result (List ℕ) Refused → Option (List ℕ) → Option (List ℕ) → Type 0
+abbrev pub IsReportCutShort : InputFault → Result (List ℕ × Counts) Refused → Option (List ℕ) → Option (List ℕ) → Type 0
 IsReportCutShort told made old new =
-    (told ≡ record { input = None; fault = of_program NotWritten }) × ((text : List ℕ) × (made ≡ Ok text) × AppendsFront old new text)
+    (told ≡ record { input = None; fault = of_program NotWritten }) × ((all : List ℕ × Counts) × (made ≡ Ok all) × AppendsFront old new all.0)
 
 -- Standard output gets the whole report; a front of it, if a write failed; or nothing, if an input has a fault or memory ran
 -- out.
-abbrev pub IsReportOutput : Option InputFault → Result (List ℕ) Refused → Option (List ℕ) → Option (List ℕ) → Type 0
-IsReportOutput None made old new = (text : List ℕ) × (made ≡ Ok text) × Appends old new text
+abbrev pub IsReportOutput : Option InputFault → Result (List ℕ × Counts) Refused → Option (List ℕ) → Option (List ℕ) → Type 0
+IsReportOutput None made old new = (all : List ℕ × Counts) × (made ≡ Ok all) × Appends old new all.0
 IsReportOutput (Some told) made old new = IsReportCutShort told made old new ⊎ (IsFirstFault made told × Keeps old new)
 
--- standard error gets nothing, or the line that tells the fault, as far as it takes it
-abbrev pub IsReportTold : ReportFiles → Option InputFault → Option (List ℕ) → Option (List ℕ) → Type 0
-IsReportTold files None old new = Keeps old new
-IsReportTold files (Some told) old new = IsToldOf files told.fault told.input old new
+-- after a report standard error gets nothing, or the line that tells how much was read, if that is asked for
+abbrev pub IsReadTold : Bool → ℕ → Result (List ℕ × Counts) Refused → Option (List ℕ) → Option (List ℕ) → Type 0
+IsReadTold false files made old new = Keeps old new
+IsReadTold true files made old new = (all : List ℕ × Counts) × (made ≡ Ok all) × AppendsFront old new (read_line all.1 files)
+
+-- that, or the line that tells the fault, as far as it takes it, and what it means, if that is asked for
+abbrev pub IsReportTold : ReportFiles → Result (List ℕ × Counts) Refused → Option InputFault → Option (List ℕ) → Option (List ℕ) → Type 0
+IsReportTold files made None old new = IsReadTold files.verbose (length files.publications.items) made old new
+IsReportTold files made (Some told) old new = (line : Option (List ℕ)) × IsToldOf files told.fault told.input old line × IsMeant files.explain line new
 
 abbrev pub report_status : Option InputFault → ℕ
 report_status None = 0
@@ -86,8 +93,8 @@ input_fault_in (Ok _) = None
 input_fault_in (Err told) = Some told
 
 -- A whole run: from the inputs to what standard output and standard error get, and the exit status.
-pub record IsReportRun (files : ReportFiles) (made : Result (List ℕ) Refused) (old new old_errors new_errors : Option (List ℕ)) (status : ℕ) : Type 0 where
+pub record IsReportRun (files : ReportFiles) (made : Result (List ℕ × Counts) Refused) (old new old_errors new_errors : Option (List ℕ)) (status : ℕ) : Type 0 where
   pub outcome : Option InputFault
   pub output : IsReportOutput outcome made old new
-  pub told : IsReportTold files outcome old_errors new_errors
+  pub told : IsReportTold files made outcome old_errors new_errors
   pub status_is : status ≡ report_status outcome

@@ -15,6 +15,7 @@
 //! ```
 #![tactic(auto)]
 
+mod amounts;
 mod holds;
 mod report_files;
 mod reporting;

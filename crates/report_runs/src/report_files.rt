@@ -1,20 +1,24 @@
 //! The files of a report, and their bytes.
-ghost use Rattle.std.specs.Prelude.{◌≡◌, ◌↔◌, ◌<◌, ◌≤◌, [], ◌∷◌, length, map, option_map, string_bytes, IfErr, IfOk, IsTrue};
+ghost use Rattle.std.specs.Prelude.{◌≡◌, ◌↔◌, ◌<◌, ◌≤◌, ℕ, List, Option, [], ◌∷◌, length, map, option_map, string_bytes, IfErr, IfOk, IsTrue};
 ghost use Rattle.std.specs.Option.{option_and_then, option_to_list};
 ghost use Rattle.faults.specs.Refusal.{IsRefusal};
 ghost use Rattle.mcs_reader.specs.Id.{id_of};
-ghost use Rattle.report_runs.specs.Contents.{inputs_in};
-ghost use Rattle.run_parts.specs.Outputs.{outputs_of};
-ghost use Rattle.report_runs.specs.ReportFiles.{AreInputs, AreRead, IsChain, IsRead, IsReadIfGiven, IsReport, name_of_file, standard_inputs, times_standard_input, zone_of};
+ghost use Rattle.faults.specs.declared.fault.Cause.TheVariants.{Machine};
+ghost use Rattle.report_runs.specs.Contents.{IsToldAs, IsUnread, inputs_in};
+ghost use Rattle.run_parts.specs.Outputs.{IsMeant, outputs_of};
+ghost use Rattle.report_runs.specs.ReportFiles.{AreInputs, AreRead, IsChain, IsRead, IsReadIfGiven, IsReport, IsTakenBy, name_of_file, names_in, standard_inputs, times_standard_input, zone_of};
 ghost use Rattle.report_runs.specs.Reporting.{AreNamed, IsReportRun, made_by};
 
 use crate::holds::read_input;
 use crate::reporting::{Question, ReportAsked, run_report};
-use faults::NoMemory;
+use faults::{AnyFault, NoMemory};
 use file_reports::Lists;
 use mcs_reader::Id;
-use run_parts::{Files, ProgramFault, ReportFiles, explain, is_standard_input, refuse};
-use std::alloc::Global;
+use run_parts::{
+    Files, ProgramFault, ReportFiles, exit_status, explain, explain_fault, is_standard_input,
+    report, tell_in,
+};
+use std::alloc::{AllocFailed, Global};
 use std::io::{Read, Write};
 use std::path::Path;
 use transfer::RETRIES;
@@ -26,6 +30,34 @@ pub(crate) struct Contents {
     pub(crate) categories: Option<Vec<u8>>,
     pub(crate) received: Option<Vec<u8>>,
     pub(crate) publications: Vec<Vec<u8>>,
+}
+
+// Why not all files are read.
+#[derive(Clone, Copy)]
+pub(crate) enum Unread<'f> {
+    // The file of this name can't be read.
+    File(&'f str),
+    Memory,
+}
+
+impl From<NoMemory> for Unread<'_> {
+    ghost use Rattle.report_runs.specs.declared.report_files.Unread.TheVariants.{Memory};
+
+    ghost from_gives = { λ _ unread. unread ≡ Memory };
+
+    fn from(_: NoMemory) -> Self {
+        Unread::Memory
+    }
+}
+
+impl<T: Drop> From<AllocFailed<T>> for Unread<'_> {
+    ghost use Rattle.report_runs.specs.declared.report_files.Unread.TheVariants.{Memory};
+
+    ghost from_gives = { λ _ unread. unread ≡ Memory };
+
+    fn from(_: AllocFailed<T>) -> Self {
+        Unread::Memory
+    }
 }
 
 /// Prints the verdict on the SYSMOD of this name. If that is no id, it says so, and the exit status is 2.
@@ -72,14 +104,44 @@ pub fn do_report<S: Files, I: Read, O: Write, E: Write>(
             errors,
             "the zone has no name that is an id: give it with --name\n",
         ),
-        Err(_) => return refuse(errors, ProgramFault::Memory),
+        Err(_) => return tell_unread(errors, files, Unread::Memory),
     };
     if is_read_twice(files) {
         return explain(errors, "standard input is one file: give - once\n");
     }
     match read_files(surroundings, alloc, files, input) {
         Ok(contents) => print(alloc, question, zone, files, contents, output, errors),
-        Err(fault) => refuse(errors, fault),
+        Err(unread) => tell_unread(errors, files, unread),
+    }
+}
+
+// Tells why not all files are read, and returns the exit status.
+fn tell_unread<E: Write>(errors: &mut E, files: &ReportFiles, unread: Unread<'_>) -> u8
+    ensures told { (line : Option (List ℕ)) × IsToldAs unread.entry (E.contents errors.old) line
+        × IsMeant files.now.explain line (E.contents errors.new) }
+    ensures status { result ≡ 3 }
+{
+    let fault = tell_line(errors, unread);
+    explain_fault(errors, files.explain, fault);
+    exit_status(fault)
+}
+
+// Tells the fault, with the name of its file.
+fn tell_line<E: Write>(errors: &mut E, unread: Unread<'_>) -> AnyFault
+    ensures told { IsToldAs unread.entry (E.contents errors.old) (E.contents errors.new) }
+    ensures cause { result.cause ≡ Machine }
+{
+    match unread {
+        Unread::File(name) => {
+            let fault = AnyFault::from(ProgramFault::NotRead);
+            let _ = tell_in(errors, fault, name);
+            fault
+        }
+        Unread::Memory => {
+            let fault = AnyFault::from(ProgramFault::Memory);
+            let _ = report(errors, fault);
+            fault
+        }
     }
 }
 
@@ -130,18 +192,19 @@ fn bytes_of(bytes: &Option<Vec<u8>>) -> Option<&[u8]>
 }
 
 // Reads the bytes of the files, one after the other, with 64 retries in all.
-fn read_files<S: Files, I: Read>(
+fn read_files<'f, S: Files, I: Read>(
     surroundings: &S,
     alloc: Global,
-    files: &ReportFiles,
+    files: &'f ReportFiles,
     input: &mut I,
-) -> Result<Contents, ProgramFault>
+) -> Result<Contents, Unread<'f>>
     ensures inputs { IfOk result (λ contents. AreInputs (S.known_file surroundings.now) files.now
         (inputs_in contents) (I.remaining input.old) (I.remaining input.new)) }
-    ensures fault { IfErr result (IsRefusal ProgramFault.Memory (λ fault. fault ≡ ProgramFault.NotRead)) }
+    ensures fault { IfErr result (IsUnread (S.known_file surroundings.now) (names_in files.now)
+        (I.remaining input.old) (I.remaining input.new)) }
 {
     let mut retries = RETRIES;
-    let zone = read_one(
+    let zone = read_named(
         surroundings,
         alloc,
         files.zone.as_str(),
@@ -161,44 +224,67 @@ fn read_files<S: Files, I: Read>(
 }
 
 // Reads the bytes of each file, in their order.
-fn read_all<S: Files, I: Read>(
+fn read_all<'f, S: Files, I: Read>(
     surroundings: &S,
     alloc: Global,
-    names: &[String],
+    names: &'f [String],
     input: &mut I,
     retries: &mut u32,
-) -> Result<Vec<Vec<u8>>, ProgramFault>
+) -> Result<Vec<Vec<u8>>, Unread<'f>>
     ensures read { IfOk result (λ all. AreRead (S.known_file surroundings.now)
         (map string_bytes names.now) (map (λ bytes. bytes.items) all.items)
         (I.remaining input.old) (I.remaining input.new)) }
-    ensures fault { IfErr result (IsRefusal ProgramFault.Memory (λ fault. fault ≡ ProgramFault.NotRead)) }
+    ensures fault { IfErr result (IsUnread (S.known_file surroundings.now)
+        (map string_bytes names.now) (I.remaining input.old) (I.remaining input.new)) }
 {
     let mut all = Vec::with_capacity(alloc, names.len())?;
     for name in names {
-        all.push(read_one(surroundings, alloc, name.as_str(), input, retries)?)?;
+        all.push(read_named(surroundings, alloc, name.as_str(), input, retries)?)?;
     }
     Ok(all)
 }
 
 // Reads the bytes of a file, if one is given.
-fn read_given<S: Files, I: Read>(
+fn read_given<'f, S: Files, I: Read>(
     surroundings: &S,
     alloc: Global,
-    name: &Option<String>,
+    name: &'f Option<String>,
     input: &mut I,
     retries: &mut u32,
-) -> Result<Option<Vec<u8>>, ProgramFault>
+) -> Result<Option<Vec<u8>>, Unread<'f>>
     ensures read { IfOk result (λ bytes. IsReadIfGiven (S.known_file surroundings.now)
         (option_map string_bytes name.now) (option_map (λ bytes. bytes.items) bytes)
         (I.remaining input.old) (I.remaining input.new)) }
-    ensures fault { IfErr result (IsRefusal ProgramFault.Memory (λ fault. fault ≡ ProgramFault.NotRead)) }
+    ensures fault { IfErr result (IsUnread (S.known_file surroundings.now)
+        (option_to_list (option_map string_bytes name.now))
+        (I.remaining input.old) (I.remaining input.new)) }
 {
     match name {
         Some(name) => {
-            let bytes = read_one(surroundings, alloc, name.as_str(), input, retries)?;
+            let bytes = read_named(surroundings, alloc, name.as_str(), input, retries)?;
             Ok(Some(bytes))
         }
         None => Ok(None),
+    }
+}
+
+// Reads the bytes of a file, or of standard input, and tells which file can't be read.
+fn read_named<'f, S: Files, I: Read>(
+    surroundings: &S,
+    alloc: Global,
+    name: &'f str,
+    input: &mut I,
+    retries: &mut u32,
+) -> Result<Vec<u8>, Unread<'f>>
+    ensures read { IfOk result (λ bytes. IsRead (S.known_file surroundings.now) name.now bytes.items
+        (I.remaining input.old) (I.remaining input.new)) }
+    ensures fault { IfErr result (IsUnread (S.known_file surroundings.now) (name.now ∷ [])
+        (I.remaining input.old) (I.remaining input.new)) }
+{
+    match read_one(surroundings, alloc, name, input, retries) {
+        Ok(bytes) => Ok(bytes),
+        Err(ProgramFault::Memory) => Err(Unread::Memory),
+        Err(_) => Err(Unread::File(name)),
     }
 }
 
@@ -214,6 +300,7 @@ fn read_one<S: Files, I: Read>(
     ensures read { IfOk result (λ bytes. IsRead (S.known_file surroundings.now) name.now bytes.items
         (I.remaining input.old) (I.remaining input.new)) }
     ensures fault { IfErr result (IsRefusal ProgramFault.Memory (λ fault. fault ≡ ProgramFault.NotRead)) }
+    ensures err { IfErr result (λ _. IsTakenBy name.now (I.remaining input.old) (I.remaining input.new)) }
 {
     if is_standard_input(name) {
         return read_input(alloc, input, retries);

@@ -1,15 +1,18 @@
 //! `errsysmods`, `missingfix` and `chain`: reports from files, without a desk.
-ghost use Rattle.std.specs.Prelude.{◌≡◌, ◌++◌, codes, map, option_map, string_bytes, IfErr, IfOk, IsSome, None, Ok, Some};
+ghost use Rattle.std.specs.Prelude.{◌≡◌, ◌++◌, ℕ, List, codes, length, map, option_map, string_bytes, IfErr, IfOk, IsSome, None, Ok, Some};
 ghost use Rattle.file_reports.specs.Inputs.{IsOutOfMemory, IsFirstFault};
 ghost use Rattle.file_reports.specs.Lists.{inputs_of};
-ghost use Rattle.report_runs.specs.Reporting.{AreNamed, HasName, IsReportOutput, IsReportRun, IsToldOf, input_fault_in, made_of, name_of};
+ghost use Rattle.report_runs.specs.Reporting.{AreNamed, HasName, IsReadTold, IsReportOutput, IsReportRun, IsToldOf, input_fault_in, made_of, name_of};
 
+use crate::amounts::read_text;
 use catalogue::SourceFault;
 use faults::AnyFault;
-use file_reports::{Input, InputFault, Lists, chain_report, err_report, missing_report};
+use file_reports::{
+    Counts, Input, InputFault, Lists, Made, chain_report, err_report, missing_report,
+};
 use mcs_reader::Id;
 use questions::Report;
-use run_parts::{ReportFiles, exit_status, report, tell_in, write_text};
+use run_parts::{ReportFiles, exit_status, explain_fault, report, tell, tell_in, write_text};
 use std::alloc::Global;
 use std::io::{self, Write};
 
@@ -50,9 +53,13 @@ pub fn run_report<W: Write, E: Write>(
         (E.contents errors.old) (E.contents errors.new) result }
 {
     match print_report(alloc, asked, publications, writer) {
-        Ok(()) => 0,
+        Ok(counts) => {
+            tell_read(alloc, errors, asked.files, counts);
+            0
+        }
         Err(told) => {
             let _ = tell_fault(errors, asked.files, told);
+            explain_fault(errors, asked.files.explain, told.fault);
             exit_status(told.fault)
         }
     }
@@ -64,14 +71,16 @@ fn print_report<W: Write>(
     asked: &ReportAsked<'_, '_>,
     publications: Vec<Vec<u8>>,
     writer: &mut W,
-) -> Result<(), InputFault>
-    ensures { IsReportOutput (input_fault_in result)
+) -> Result<Counts, InputFault>
+    ensures output { IsReportOutput (input_fault_in result)
         (made_of asked.now (map (λ body. body.items) publications.items))
         (W.contents writer.old) (W.contents writer.new) }
+    ensures counts { IfOk result (λ counts. (text : List ℕ)
+        × (made_of asked.now (map (λ body. body.items) publications.items) ≡ Ok (text, counts))) }
 {
     match report_text(alloc, asked, publications) {
-        Ok(text) => match write_text(writer, text.as_slice()) {
-            Ok(()) => Ok(()),
+        Ok(made) => match write_text(writer, made.text.as_slice()) {
+            Ok(()) => Ok(made.counts),
             Err(fault) => Err(of_no_input(AnyFault::from(fault))),
         },
         Err(told) => Err(told),
@@ -90,9 +99,9 @@ fn report_text(
     alloc: Global,
     asked: &ReportAsked<'_, '_>,
     publications: Vec<Vec<u8>>,
-) -> Result<Vec<u8>, InputFault>
-    ensures text { IfOk result (λ text.
-        made_of asked.now (map (λ body. body.items) publications.items) ≡ Ok text.items) }
+) -> Result<Made, InputFault>
+    ensures made { IfOk result (λ made.
+        made_of asked.now (map (λ body. body.items) publications.items) ≡ Ok (made.text.items, made.counts)) }
     ensures fault { IfErr result
         (IsFirstFault (made_of asked.now (map (λ body. body.items) publications.items))) }
 {
@@ -110,21 +119,35 @@ fn report_text(
             publications,
         ),
         Question::Chain(sysmod) => {
-            let text = chain_report(alloc, &asked.zone, &sysmod, asked.lists, publications)?;
-            with_line_end(text)
+            let made = chain_report(alloc, &asked.zone, &sysmod, asked.lists, publications)?;
+            with_line_end(made)
         }
     }
 }
 
-// A text with a line end after it.
-fn with_line_end(text: Vec<u8>) -> Result<Vec<u8>, InputFault>
-    ensures text { IfOk result (λ line. line.items ≡ text.items ++ codes "\n") }
+// The same with a line end after the text.
+fn with_line_end(made: Made) -> Result<Made, InputFault>
+    ensures text { IfOk result (λ line. line.text.items ≡ made.text.items ++ codes "\n") }
+    ensures counts { IfOk result (λ line. line.counts ≡ made.counts) }
     ensures fault { IfErr result IsOutOfMemory }
 {
-    let mut text = text;
+    let Made { mut text, counts } = made;
     match text.push(b'\n') {
-        Ok(()) => Ok(text),
+        Ok(()) => Ok(Made { text, counts }),
         Err(_) => Err(InputFault::from(SourceFault::Memory)),
+    }
+}
+
+// Tells how much was read, if that is asked for.
+fn tell_read<E: Write>(alloc: Global, errors: &mut E, files: &ReportFiles, counts: Counts)
+    ensures { (text : List ℕ) → IsReadTold files.now.verbose (length files.now.publications.items)
+        (Ok (text, counts)) (E.contents errors.old) (E.contents errors.new) }
+{
+    if !files.verbose {
+        return;
+    }
+    if let Ok(line) = read_text(alloc, counts, files.publications.len()) {
+        let _ = tell(errors, line.as_slice());
     }
 }
 

@@ -1,5 +1,5 @@
 -- The outputs of a run on its two streams, how it ends, and how a run ends that makes nothing.
-use Rattle.std.specs.Prelude.{◌≡◌, ◌++◌, ℕ, List, Option, Some, None, Result, Ok, Err, codes, decimal}
+use Rattle.std.specs.Prelude.{◌≡◌, ◌++◌, ℕ, Bool, true, false, List, Option, Some, None, Result, Ok, Err, codes, decimal}
 use Rattle.std.specs.Io.KnownBytes.{Keeps}
 use Rattle.faults.specs.FaultText as fault_text
 use Rattle.faults.specs.declared.any.AnyFault.{AnyFault}
@@ -51,6 +51,11 @@ IsEndedBy fault outputs status =
 abbrev pub IsToldAlone : AnyFault → Outputs → ℕ → Type 0
 IsToldAlone fault outputs status =
     Keeps outputs.output outputs.written × IsTold (Some fault) outputs.errors outputs.told × (status ≡ status_of fault.cause)
+
+-- what follows the line of a fault: a text that says what it means, if that is asked for
+abbrev pub IsMeant : Bool → Option (List ℕ) → Option (List ℕ) → Type 0
+IsMeant false old new = Keeps old new
+IsMeant true old new = (text : List ℕ) × AppendsFront old new text
 
 -- words that are no line: standard error gets a text for the user
 abbrev pub IsExplained : List ℕ → Outputs → ℕ → Type 0

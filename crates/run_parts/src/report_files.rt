@@ -11,6 +11,10 @@ pub struct ReportFiles {
     pub received: Option<String>,
     /// The name of the zone. Without it the zone has the name of its file up to the first period, in upper case.
     pub name: Option<String>,
+    /// Whether standard error is told how much was read.
+    pub verbose: bool,
+    /// Whether standard error is told what a fault means.
+    pub explain: bool,
     /// HOLDDATA, SYSMODs or both, in the order in which they are published.
     pub publications: Vec<String>,
 }

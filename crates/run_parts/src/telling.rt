@@ -1,10 +1,11 @@
 //! Writing to standard error how a run ended, and the exit status.
 ghost use Rattle.std.specs.Prelude.{◌≡◌, ◌-◌, Some, length, take};
-ghost use Rattle.run_parts.specs.Outputs.{IsTold, fault_in, line_in, run_status};
+ghost use Rattle.run_parts.specs.Outputs.{IsMeant, IsTold, fault_in, line_in, run_status};
 ghost use Rattle.run_parts.specs.ProgramFault.{of_program};
 ghost use Rattle.transfer.specs.Transfer.{AppendsFront};
 
 use crate::fault::{ProgramFault, exit_status, report, tell};
+use crate::meanings::meaning;
 use faults::AnyFault;
 use std::io::{self, Write};
 
@@ -43,6 +44,15 @@ pub fn explain<E: Write>(errors: &mut E, text: &str) -> u8
 {
     let _ = tell(errors, text.as_bytes());
     NOT_UNDERSTOOD
+}
+
+/// Writes what a fault means and what to do, if that is asked for.
+pub fn explain_fault<E: Write>(errors: &mut E, asked: bool, fault: AnyFault)
+    ensures { IsMeant asked (E.contents errors.old) (E.contents errors.new) }
+{
+    if asked {
+        let _ = tell(errors, meaning(fault.number).as_bytes());
+    }
 }
 
 /// Writes a fault with a name after it, that of its file or of the table.

@@ -1,7 +1,7 @@
 -- What `check` sees of a database, what it tells, and what a stop leaves.
 use Rattle.std.proofs.Common.{◌≡◌, ◌⊎◌, ◌∙◌, ◌∷◌, [], ℕ, Err, IsTrue, List, None, Ok, Some, ap, inl, inr, map, refl, subst, sym}
 use Rattle.std.proofs.Math.Logic.{∥∥₁_map}
-use Rattle.std.specs.Prelude.{false, IfErr, IfOk, Option, OnErr, OnOk, Result, Vec}
+use Rattle.std.specs.Prelude.{Bool, false, IfErr, IfOk, Option, OnErr, OnOk, Result, Vec}
 use Rattle.std.specs.declared.alloc.Global.{Global}
 use Rattle.std.specs.Io.KnownBytes.{Appends, Keeps}
 use Rattle.std.specs.List.Sorted.{IsPermutation}
@@ -280,11 +280,11 @@ faults_refused from (Left it) refused told is why well _ before holds fault also
     subst IsOfRead (same_fault refused fault (sym is ∙ some_told told _ also)) (known_of_left from it refused why well)
 faults_refused from (Closed last) refused told is why well _ before holds fault also = absurd why.left
 
-module _ (asked asked_after : Asked) (from : Image) {D : Type 0} {g : Ghosts D} (ended : Ended D g) (name : List ℕ) (outputs : Outputs) (status : ℕ) where
+module _ (explain : Bool) (asked asked_after : Asked) (from : Image) {D : Type 0} {g : Ghosts D} (ended : Ended D g) (name : List ℕ) (outputs : Outputs) (status : ℕ) where
   -- a connection was made, its store was looked through, and it was ended
   pub looked_through : (found left : Held (FileStore D g)) → HasFound from found → IsEndOf left ended → IsAtRest (file_state found) → OnlyReads (file_state found) (file_state left)
-      → IsCheckRun (λ outcome. IsCheckOutput outcome (file_state found) (file_state left) outputs.output outputs.written) outputs.errors outputs.told status
-      → AsksFor asked asked_after name false from Connected → IsCheck asked asked_after from name outputs status ended
+      → IsCheckRun explain (λ outcome. IsCheckOutput outcome (file_state found) (file_state left) outputs.output outputs.written) outputs.errors outputs.told status
+      → AsksFor asked asked_after name false from Connected → IsCheck explain asked asked_after from name outputs status ended
   looked_through found left finds ends rests reads run asks = record {
     checked = record {
       outcome = run.outcome;
@@ -299,8 +299,8 @@ module _ (asked asked_after : Asked) (from : Image) {D : Type 0} {g : Ghosts D} 
 
   -- no connection could be made
   pub not_connected : (refused : StoreFault) (told : CheckFault) → told ≡ in_no_table (of_store refused) → IsRefused false from refused ended → Keeps outputs.output outputs.written
-      → IsCheckTold (Some told) outputs.errors outputs.told → status ≡ check_status (Some told) → AsksFor asked asked_after name false from (refused_with refused ended)
-      → IsCheck asked asked_after from name outputs status ended
+      → IsCheckTold explain (Some told) outputs.errors outputs.told → status ≡ check_status (Some told) → AsksFor asked asked_after name false from (refused_with refused ended)
+      → IsCheck explain asked asked_after from name outputs status ended
   not_connected refused told is why keeps said status_is asks = record {
     checked = record { outcome = Some told; output = inl (refused, ap Some is, why, keeps); told = said; status_is = status_is };
     faults = faults_refused from ended refused told is why;

@@ -1,5 +1,5 @@
 -- What `init` leaves of a database, and what it and an opening tell.
-use Rattle.std.proofs.Common.{◌≡◌, ◌⊎◌, ◌∙◌, ℕ, List, Option, Some, Ok, IsTrue, ap, arith, inl, inr, refl, subst, sym, true}
+use Rattle.std.proofs.Common.{◌≡◌, ◌⊎◌, ◌∙◌, ℕ, List, Option, Some, Ok, IsTrue, ap, arith, inl, inr, refl, subst, sym}
 use Rattle.std.specs.Prelude.{Bool, is_none}
 use Rattle.std.specs.Io.KnownBytes.{Keeps}
 use Rattle.faults.specs.declared.any.AnyFault.{AnyFault}

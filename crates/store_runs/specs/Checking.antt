@@ -1,5 +1,5 @@
 -- The output of `check`, and why it ends.
-use Rattle.std.specs.Prelude.{◌≡◌, ◌⊎◌, false, ℕ, IsTrue, List, codes, map, Option, Some, None, Result, Ok, Err}
+use Rattle.std.specs.Prelude.{◌≡◌, ◌⊎◌, Bool, false, ℕ, IsTrue, List, codes, map, Option, Some, None, Result, Ok, Err}
 use Rattle.std.specs.Io.KnownBytes.{Appends, Keeps}
 use Rattle.std.specs.List.Sorted.{IsPermutation}
 use Rattle.faults.specs.FaultText.{text_of}
@@ -31,7 +31,7 @@ use Rattle.sqlite_wal.specs.Recovery.{Image}
 use Rattle.sqlite.specs.Effect.{Database}
 use Rattle.sqlite.specs.Files.{file_state}
 use Rattle.sqlite.specs.State.{HasCleanDisk, State}
-use Rattle.run_parts.specs.Outputs.{Outputs, line_in}
+use Rattle.run_parts.specs.Outputs.{IsMeant, Outputs, line_in}
 use Rattle.run_parts.specs.ProgramFault.{of_program, status_of}
 use Rattle.run_parts.specs.declared.fault.ProgramFault.TheVariants.{NotWritten}
 use Rattle.store_runs.specs.Asked.{Asked, AsksOnce}
@@ -131,10 +131,10 @@ abbrev pub check_line : CheckFault → Option CheckPlace → List ℕ
 check_line told None = text_of told.fault
 check_line told (Some place) = line_in told.fault (place_name place)
 
--- standard error gets nothing, or the line that tells the fault, as far as it takes it
-abbrev pub IsCheckTold : Option CheckFault → Option (List ℕ) → Option (List ℕ) → Type 0
-IsCheckTold None old new = Keeps old new
-IsCheckTold (Some told) old new = AppendsFront old new (check_line told told.place)
+-- standard error gets nothing, or the line that tells the fault, as far as it takes it, and what it means, if that is asked for
+abbrev pub IsCheckTold : Bool → Option CheckFault → Option (List ℕ) → Option (List ℕ) → Type 0
+IsCheckTold explain None old new = Keeps old new
+IsCheckTold explain (Some told) old new = (line : Option (List ℕ)) × AppendsFront old line (check_line told told.place) × IsMeant explain line new
 
 abbrev pub check_status : Option CheckFault → ℕ
 check_status None = 0
@@ -145,10 +145,10 @@ check_fault_in (Ok _) = None
 check_fault_in (Err told) = Some told
 
 -- A whole run: what standard output and standard error get, and the exit status.
-pub record IsCheckRun (Prints : Option CheckFault → Type 0) (old_errors new_errors : Option (List ℕ)) (status : ℕ) : Type 0 where
+pub record IsCheckRun (explain : Bool) (Prints : Option CheckFault → Type 0) (old_errors new_errors : Option (List ℕ)) (status : ℕ) : Type 0 where
   pub outcome : Option CheckFault
   pub output : Prints outcome
-  pub told : IsCheckTold outcome old_errors new_errors
+  pub told : IsCheckTold explain outcome old_errors new_errors
   pub status_is : status ≡ check_status outcome
 
 -- The output for the files of a store: no connection to them could be made, and the fault tells why; or one was made, which
@@ -159,11 +159,11 @@ IsFilesChecked from old new ended outcome =
     ⊎ IsUsed from (λ found left. IsAtRest (file_state found) × IsCheckOutput outcome (file_state found) (file_state left) old new
     × OnlyReads (file_state found) (file_state left)) ended
 
--- `check STORE`, by the name of its file. It asks for that store alone. Over files that held the bureau's own store, it
+-- `check [--explain] STORE`, by the name of its file. It asks for that store alone. Over files that held the bureau's own store, it
 -- tells no fault of a store but 41 or 42 (`IsOfRead`), and 44 only with the name of a table. A stop leaves what was there: a
 -- database tree by tree, and so a store of either version.
-pub record IsCheck (asked asked_after : Asked) (from : Image) {D : Type 0} {g : disk.Ghosts D} (name : List ℕ) (outputs : Outputs) (status : ℕ) (ended : Ended D g) : Type 0 where
-  pub checked : IsCheckRun (IsFilesChecked from outputs.output outputs.written ended) outputs.errors outputs.told status
+pub record IsCheck (explain : Bool) (asked asked_after : Asked) (from : Image) {D : Type 0} {g : disk.Ghosts D} (name : List ℕ) (outputs : Outputs) (status : ℕ) (ended : Ended D g) : Type 0 where
+  pub checked : IsCheckRun explain (IsFilesChecked from outputs.output outputs.written ended) outputs.errors outputs.told status
   pub faults : TellsOnly IsOfRead (λ fault. checked.outcome ≡ Some (in_no_table (of_store fault))) from ended
   pub kept : KeepsFound from ended
   pub asks : AsksOnce asked asked_after name false from (λ fault. checked.outcome ≡ Some (in_no_table (of_store fault))) ended

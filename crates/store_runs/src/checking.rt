@@ -1,11 +1,11 @@
 //! `check`: looking through a store.
-ghost use Rattle.std.specs.Prelude.{◌≡◌, ◌≢◌, false, IfErr, IfOk, OnErr, OnOk};
+ghost use Rattle.std.specs.Prelude.{◌≡◌, ◌≢◌, false, IfErr, IfOk, OnErr, OnOk, Some};
 ghost use Rattle.std.specs.Io.KnownBytes.{Appends};
 ghost use Rattle.bureau_sql.specs.SqlView.{IsAtRest};
 ghost use Rattle.sqlite.specs.Held.{state};
 ghost use Rattle.sqlite.specs.State.{HasCleanDisk};
 ghost use Rattle.sqlite_wal.specs.Files.{image_at};
-ghost use Rattle.run_parts.specs.Outputs.{outputs_of};
+ghost use Rattle.run_parts.specs.Outputs.{IsMeant, outputs_of};
 ghost use Rattle.run_parts.specs.ProgramFault.{of_program};
 ghost use Rattle.sql_checks.specs.Checked.{Looks};
 ghost use Rattle.sql_checks.specs.Refused.{IsCausedBy};
@@ -14,16 +14,18 @@ ghost use Rattle.sql_checks.specs.declared.checking.Finding.TheVariants as findi
 ghost use Rattle.sql_tables.specs.Ours.{IsOurs, held_by};
 ghost use Rattle.sql_tables.specs.Reading.{OnlyReads};
 ghost use Rattle.sql_tables.specs.Stored.{tables_of};
+ghost use Rattle.store_runs.specs.Desk.{of_store};
 ghost use Rattle.store_runs.specs.Checking.{IsCheck, IsCheckOutput, IsCheckRun, IsCheckTold, IsSeenWhole, IsSeenWrong, IsTextOf, IsToldAs, IsToldOfRead, IsUntold, check_fault_in, check_line, check_status, in_no_table, place_name, wrong_in};
 ghost use Rattle.transfer.specs.Transfer.{AppendsFront};
 
 use crate::desk::of_store;
 use crate::ended::{Ended, end};
+use crate::refusal::Refusal;
 use crate::stores::Stores;
 use bureau_sql::find_store;
 use bureau_store::StoreFault;
 use faults::AnyFault;
-use run_parts::{ProgramFault, exit_status, printed, report, tell_in};
+use run_parts::{ProgramFault, exit_status, explain_fault, printed, report, tell, tell_in};
 use sql_checks::{Finding, StoreTable, StoreTally, check, every_caller, store_tally, tally_text};
 use sql_reads::ReadFault;
 use sqlite::{Alter, Connection, FileFrom, Start};
@@ -60,15 +62,17 @@ pub struct CheckFault {
 
 /// Looks through the store in the database of a connection, and prints how much it has. Returns the exit status.
 ///
-/// It writes nothing to the database. A fault goes to `errors` alone, with the name of the table that is wrong.
+/// It writes nothing to the database. A fault goes to `errors` alone, with the name of the table that is wrong. Below it
+/// stands what it means, if `explain` asks for that.
 pub fn run_check<S: Alter, W: Write, E: Write>(
     alloc: Global,
     conn: &mut Connection<S>,
+    explain: bool,
     writer: &mut W,
     errors: &mut E,
 ) -> u8
     requires rest { conn.old.in_transaction ≡ false }
-    ensures run { IsCheckRun
+    ensures run { IsCheckRun explain
         (λ outcome. IsCheckOutput outcome (state S.Store conn.old) (state S.Store conn.new)
         (W.contents writer.old) (W.contents writer.new))
         (E.contents errors.old) (E.contents errors.new) result }
@@ -78,7 +82,7 @@ pub fn run_check<S: Alter, W: Write, E: Write>(
 {
     let _rested = conn.is_autocommit();
     let outcome = check_and_print(alloc, conn, writer);
-    told_in(errors, outcome)
+    told_in(errors, explain, outcome)
 }
 
 /// The same for the store that a file has. It makes no file that isn't there. Returns the exit status, and what is left
@@ -87,21 +91,25 @@ pub fn check_file<S: Stores, D: Start, W: Write, E: Write>(
     stores: &mut S,
     alloc: Global,
     store: &str,
+    explain: bool,
     start: D,
     writer: &mut W,
     errors: &mut E,
 ) -> (u8, Ended<FileFrom<D>>)
-    ensures { IsCheck (S.asked stores.old) (S.asked stores.new) (image_at D.Start) store.now
+    ensures { IsCheck explain (S.asked stores.old) (S.asked stores.new) (image_at D.Start) store.now
         (outputs_of W.contents E.contents writer.old writer.new errors.old errors.new)
         result.0 result.1 }
 {
     match stores.connect(store, false, start) {
         Ok(conn) => {
             let mut conn = conn;
-            let status = run_check(alloc, &mut conn, writer, errors);
+            let status = run_check(alloc, &mut conn, explain, writer, errors);
             (status, end(conn))
         }
-        Err((fault, ended)) => (told_in(errors, Err(in_no_table(of_store(fault)))), ended),
+        Err((fault, ended)) => (
+            told_unopened(errors, explain, fault, stores.refusal()),
+            ended,
+        ),
     }
 }
 
@@ -222,16 +230,44 @@ fn in_no_table(fault: AnyFault) -> CheckFault
 }
 
 // Writes how a check ended, if it ended with a fault, and returns the exit status.
-fn told_in<E: Write>(errors: &mut E, outcome: Result<(), CheckFault>) -> u8
-    ensures told { IsCheckTold (check_fault_in outcome) (E.contents errors.old) (E.contents errors.new) }
+fn told_in<E: Write>(errors: &mut E, explain: bool, outcome: Result<(), CheckFault>) -> u8
+    ensures told { IsCheckTold explain (check_fault_in outcome)
+        (E.contents errors.old) (E.contents errors.new) }
     ensures status { result ≡ check_status (check_fault_in outcome) }
 {
     match outcome {
         Ok(()) => 0,
         Err(told) => {
             let _ = tell_check(errors, told);
+            explain_fault(errors, explain, told.fault);
             exit_status(told.fault)
         }
+    }
+}
+
+// Writes why a store can't be opened, and returns the exit status.
+fn told_unopened<E: Write>(errors: &mut E, explain: bool, fault: StoreFault, why: Refusal) -> u8
+    ensures told { IsCheckTold explain (Some (in_no_table (of_store fault)))
+        (E.contents errors.old) (E.contents errors.new) }
+    ensures status { result ≡ check_status (Some (in_no_table (of_store fault))) }
+{
+    let told = in_no_table(of_store(fault));
+    let _ = tell_check(errors, told);
+    explain_refusal(errors, explain, fault, why);
+    exit_status(told.fault)
+}
+
+// Writes why a store can't be opened, as far as that is known, and what to do.
+fn explain_refusal<E: Write>(errors: &mut E, explain: bool, fault: StoreFault, why: Refusal)
+    ensures { IsMeant explain (E.contents errors.old) (E.contents errors.new) }
+{
+    match (fault, why.words()) {
+        (StoreFault::Device, Some(words)) => {
+            if explain {
+                let _ = tell(errors, words.as_bytes());
+            }
+        }
+        _ => explain_fault(errors, explain, of_store(fault)),
     }
 }
 

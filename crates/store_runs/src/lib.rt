@@ -1,7 +1,7 @@
 //! The runs of the program over a store in a file: they make a store, open it, make it one of version 2, give it
 //! other callers, or look through it. It also says what the files hold wherever a run ends.
 //!
-//! - [`Stores`]: connections to the databases in files
+//! - [`Stores`]: connections to the databases in files; [`Refusal`]: why there is none
 //! - [`do_init`], [`migrate_file`], [`callers_file`]: `init`, `migrate` and `callers`, for stores by the names of
 //!   their files
 //! - [`run_init`], [`run_open`], [`run_migrate`], [`run_callers`]: make a store, open it, make it one of version
@@ -19,6 +19,7 @@ mod desk;
 mod ended;
 pub mod law;
 mod migrating;
+mod refusal;
 mod stores;
 
 pub use callers::{callers_file, run_callers};
@@ -26,4 +27,5 @@ pub use checking::{CheckFault, CheckPlace, check_file, run_check};
 pub use desk::{callers_in, do_init, of_store, run_init, run_open};
 pub use ended::{Ended, end};
 pub use migrating::{migrate_file, run_migrate};
+pub use refusal::Refusal;
 pub use stores::Stores;

@@ -5,6 +5,7 @@ ghost use Rattle.store_runs.specs.Asked.{Asked, AsksFor, answer_in};
 ghost use Rattle.store_runs.specs.Ended.{HasFound, IsRefused};
 
 use crate::ended::Ended;
+use crate::refusal::Refusal;
 use bureau_store::StoreFault;
 use sqlite::{Connection, FileFrom, FileStore, Start};
 
@@ -36,4 +37,7 @@ pub trait Stores {
             (answer_in result) }
         ensures refused { IfErr result
             (λ refused. IsRefused makes (image_at D.Start) refused.0 refused.1) };
+
+    /// Why the last connection couldn't be made, as far as that is known. Nothing is promised of it.
+    fn refusal(&self) -> Refusal;
 }

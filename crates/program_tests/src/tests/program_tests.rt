@@ -12,7 +12,7 @@ use testing::assert_equal_at;
 type Row = (&'static [&'static str], u32, u8, &'static str);
 
 // 64 retries serve all files of a run.
-static ROWS: [Row; 15] = [
+static ROWS: [Row; 17] = [
     (&["replay", "callers", "empty", "empty"], 21, 0, ""),
     (
         &["replay", "callers", "empty", "empty"],
@@ -31,7 +31,7 @@ static ROWS: [Row; 15] = [
         &["errsysmods", "--zone", "callers", "empty", "empty"],
         22,
         3,
-        "FAULT 71\n",
+        "FAULT 71 empty\n",
     ),
     (
         &["chain", "--zone", "-", "--name", "N", "S", "-"],
@@ -47,6 +47,18 @@ static ROWS: [Row; 15] = [
     (&["serve", STORE], 0, 1, "FAULT 44\n"),
     (&["migrate", "another store"], 0, 3, "FAULT 42\n"),
     (&["check", "another store"], 0, 3, "FAULT 42\n"),
+    (
+        &["check", "--explain", "another store"],
+        0,
+        3,
+        "FAULT 42\nanother program has the store open, such as its desk: stop the desk, and run it again\n",
+    ),
+    (
+        &["check", "--explain", STORE],
+        0,
+        1,
+        "FAULT 44\nSTORE is not there or is no store; for init: it has tables already; for check: the table that is named is wrong: give the right path; of a wrong table, docs/OPERATIONS.md tells more\n",
+    ),
     (&["callers", "another store", "callers"], 0, 3, "FAULT 42\n"),
 ];
 

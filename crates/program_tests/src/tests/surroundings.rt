@@ -10,7 +10,7 @@ use sqlite::{Connection, FileFrom, FileStore, Start};
 use std::alloc::Global;
 use std::hash::RandomState;
 use std::io::{self, ErrorKind};
-use store_runs::{Ended, Stores};
+use store_runs::{Ended, Refusal, Stores};
 use testing::{Failures, Pieces, Ticking};
 
 /// The name of a store, whose blanks count.
@@ -144,7 +144,7 @@ impl Files for Around<'_> {
 }
 
 /// Memory runs out if a store may be made, and there is none if it may not. A store of another name than
-/// [`STORE`] can't be opened.
+/// [`STORE`] is open elsewhere.
 #[derive(Drop)]
 pub(crate) struct NoStores;
 
@@ -166,12 +166,18 @@ impl Stores for NoStores {
         };
         Err((fault, Ended::Nothing))
     }
+
+    fn refusal(&self) -> Refusal {
+        Refusal::InUse
+    }
 }
 
 impl Surroundings for Around<'_> {
     ghost use Rattle.std.specs.Prelude.{None};
 
     ghost known_words = { λ _. None };
+
+    ghost known_watched = { λ _. None };
 
     ghost known_port = { λ _ _ _ _. Unit {0} };
 
@@ -182,6 +188,10 @@ impl Surroundings for Around<'_> {
             words.push(word).ok().ok_or(LineFault::Memory)?;
         }
         Ok(words)
+    }
+
+    fn is_watched(&self) -> bool {
+        false
     }
 
     fn listen(&mut self, _alloc: Global, port: u16, most_open: u32, log: bool) -> io::Result<()> {

@@ -1,5 +1,5 @@
-use Rattle.std.proofs.Common.{Bool, List, ℕ, ap₂, cond, subst}
-use Rattle.sqlite.specs.Files.{file_state}
+use Rattle.std.proofs.Common.{Bool, List, ℕ, ap₂, cond, subst, sym}
+use Rattle.sqlite.specs.Files.{FailsToOpenFiles, file_state}
 use Rattle.sqlite.specs.Start.{FindsIn}
 use Rattle.sqlite_disk.specs.Events.{Event, replay}
 use Rattle.sqlite_wal.specs.Recovery.{Image}
@@ -24,4 +24,5 @@ pub returns-in-Err-open_files_with-clause-cause : goal.returns-in-Err-open_files
 returns-in-Err-open_files_with-clause-cause g c =
     let fresh = c.in-Ok-open.ensures.fresh in
     let refused = c.in-Err-open_files_with.ensures in
-    (c.in-Ok-open.files, fresh.0, fresh.1, λ clean. (refused.cause clean, refused.unharmed clean))
+    let fails = FailsToOpenFiles c.in-Ok-open.files c.in-Err-open_files_with.left in
+    (c.in-Ok-open.files, fresh.0, fresh.1, λ clean. (subst fails (sym c.unusable.ensures) (refused.cause clean), refused.unharmed clean))

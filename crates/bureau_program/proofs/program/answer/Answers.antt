@@ -61,11 +61,11 @@ returns-in-Ok-Check g c =
     let input = g.I.Read.remaining c.args.input.now in
     let outputs : Outputs =
     outputs_of g.O.Write.contents g.E.Write.contents c.args.output.now c.check_file.new.writer c.args.errors.now c.check_file.new.errors in
-    let is : c.args.line.now ≡ Ok (Check c.in-Ok-Check.store) = search rules in
+    let is : c.args.line.now ≡ Ok (Check c.in-Ok-Check.store c.in-Ok-Check.explain) = search rules in
     subst (λ line. IsAnswered of (image_at g.D.Start) line input input outputs c.check_file.result.0 c.check_file.result.1) (sym is) (
       Keeps-refl input,
       refl,
-      subst (λ (name : List ℕ). IsCheck of.asked of.asked_after (image_at g.D.Start) name outputs c.check_file.result.0 c.check_file.result.1) c.as_str-in-Ok-Check.ensures.value c.check_file.ensures,
+      subst (λ (name : List ℕ). IsCheck c.in-Ok-Check.explain of.asked of.asked_after (image_at g.D.Start) name outputs c.check_file.result.0 c.check_file.result.1) c.as_str-store-in-Ok-Check.ensures.value c.check_file.ensures,
     )
 
 pub returns-in-Ok-Callers : goal.returns-in-Ok-Callers

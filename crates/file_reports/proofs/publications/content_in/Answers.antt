@@ -1,8 +1,7 @@
 use Rattle.std.proofs.Common.{◌++◌, List, length, map, sym, ◌∙◌, ap, arith}
 use Rattle.std.specs.Vec.Iter.{into_iter_items}
 use Rattle.catalogue.specs.declared.change.Change.{Change}
-use Rattle.bureau.specs.Bodies.{changes_in}
-use Rattle.file_reports.specs.Inputs.{said_in}
+use Rattle.file_reports.specs.Inputs.{publication_in, said_in}
 use Rattle.file_reports.specs.declared.fault.Input.TheVariants.{Publication}
 use Rattle.file_reports.proofs.InputFacts.{content_with, next_read}
 use Rattle.file_reports.proofs.publications.content_in.Goals as goal
@@ -23,7 +22,7 @@ loop-index-preserved c =
         was.said.2
             ∙ ap (λ bodies. content_with earlier c.loop-index.index-iterator.count (map (λ body. body.items) bodies)) steps.0.0
             ∙ next_read earlier changes c.loop-index.index-iterator.count c.in-Some.publication.items left
-            (ap (λ n. said_in (Publication n) (changes_in c.in-Some.publication.items)) (sym steps.1) ∙ more.1)
+            (ap (λ n. said_in (Publication n) (publication_in c.in-Some.publication.items)) (sym steps.1) ∙ more.1)
             ∙ ap (λ n. content_with (earlier ++ changes) n left) (sym steps.2),
       );
     }

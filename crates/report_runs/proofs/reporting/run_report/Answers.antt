@@ -8,4 +8,4 @@ pub tell_fault-requires : goal.tell_fault-requires
 tell_fault-requires g c =
     let asked = c.args.asked.now in
     fault_named asked.files.now asked.question asked.zone (inputs_of asked.lists (map (λ body. body.items) c.args.publications.items)) c.in-Err.told
-    (g.W.Write.contents c.args.writer.now) (g.W.Write.contents c.print_report.new.writer) c.requires c.in-Err.ensures
+    (g.W.Write.contents c.args.writer.now) (g.W.Write.contents c.print_report.new.writer) c.requires c.in-Err.ensures.output
