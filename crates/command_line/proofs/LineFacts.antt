@@ -13,8 +13,8 @@ use Rattle.command_line.specs.declared.line.LineFault.{LineFault}
 -- a line gives a value for each argument of its command
 gives_each : (line : Line) → outline (given line) ≡ arguments_of (command_of line)
 gives_each (Holds file) = refl
-gives_each (Init store callers) = refl
-gives_each (Serve port cache connections most_open log store) = refl
+gives_each (Init store callers sums) = refl
+gives_each (Serve port cache connections most_open memory log store) = refl
 gives_each (Replay cache callers files) = refl
 gives_each (Migrate store) = refl
 gives_each (ErrSysmods files) = refl

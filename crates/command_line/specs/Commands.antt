@@ -13,7 +13,7 @@ rule_of_kind name (kind.One value) = required_rule name
 rule_of_kind name (kind.Several value) = several_rule name
 rule_of_kind name (kind.Text value) = record (text_rule name) { required = true }
 rule_of_kind name (kind.MaybeText value) = text_rule name
-rule_of_kind name (kind.Number value most default) = number_rule name 1 most default.now
+rule_of_kind name (kind.Number value least most default) = number_rule name least most default.now
 rule_of_kind name kind.Flag = flag_rule name
 
 abbrev pub rule_for : Argument → Rule

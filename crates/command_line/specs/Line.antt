@@ -56,19 +56,27 @@ connections_rule = number_rule (codes "connections") 1 1000000 (codes "1000000")
 abbrev pub open_rule : Rule
 open_rule = number_rule (codes "open") 1 8192 (codes "1024")
 
--- `init STORE CALLERS`
+-- `--memory MIB`: the most MiB that bodies and replies take together
+abbrev pub memory_rule : Rule
+memory_rule = number_rule (codes "memory") 64 65536 (codes "512")
+
+-- `--sums`: whether the pages of a new file end in sums
+abbrev pub sums_rule : Rule
+sums_rule = flag_rule (codes "sums")
+
+-- `init [--sums] STORE CALLERS`
 abbrev pub init_app : App
-init_app = with_rule (with_rule (new_app (codes "init")) (required_rule (codes "store"))) (required_rule (codes "callers"))
+init_app = with_rule (with_rule (with_rule (new_app (codes "init")) sums_rule) (required_rule (codes "store"))) (required_rule (codes "callers"))
 
 -- `--log`: whether a log is kept
 abbrev pub log_rule : Rule
 log_rule = flag_rule (codes "log")
 
--- `serve --port P --cache N --connections K --open M --log STORE`
+-- `serve --port P --cache N --connections K --open M --memory MIB --log STORE`
 abbrev pub serve_app : App
 serve_app =
-    with_rule (with_rule (with_rule (with_rule (with_rule (with_rule (new_app (codes "serve")) port_rule) cache_rule) connections_rule) open_rule) log_rule)
-    (required_rule (codes "store"))
+    with_rule (with_rule (with_rule (with_rule (with_rule (with_rule (with_rule (new_app (codes "serve")) port_rule) cache_rule) connections_rule) open_rule)
+    memory_rule) log_rule) (required_rule (codes "store"))
 
 -- `replay --cache N CALLERS FILE..`
 abbrev pub replay_app : App
@@ -166,8 +174,8 @@ is_set (Some text) = bytes_eq text (codes "true")
 -- the command that a line has
 abbrev pub command_of : Line → Text
 command_of (Holds file) = codes "holds"
-command_of (Init store callers) = codes "init"
-command_of (Serve port cache connections most_open log store) = codes "serve"
+command_of (Init store callers sums) = codes "init"
+command_of (Serve port cache connections most_open memory log store) = codes "serve"
 command_of (Replay cache callers files) = codes "replay"
 command_of (Migrate store) = codes "migrate"
 command_of (ErrSysmods files) = codes "errsysmods"
@@ -199,12 +207,14 @@ files_given files =
 -- the values of a line for each argument of its command
 abbrev pub given : Line → List (Text × Value)
 given (Holds file) = (codes "file", one (string_bytes file)) ∷ []
-given (Init store callers) = (codes "store", one (string_bytes store)) ∷ (codes "callers", one (string_bytes callers)) ∷ []
-given (Serve port cache connections most_open log store) =
+given (Init store callers sums) =
+    (codes "store", one (string_bytes store)) ∷ (codes "callers", one (string_bytes callers)) ∷ (codes "sums", flag sums) ∷ []
+given (Serve port cache connections most_open memory log store) =
     (codes "port", number 1 65535 port)
     ∷ (codes "cache", number 1 65536 cache)
     ∷ (codes "connections", number 1 1000000 connections)
     ∷ (codes "open", number 1 8192 most_open)
+    ∷ (codes "memory", number 64 65536 memory)
     ∷ (codes "log", flag log)
     ∷ (codes "store", one (string_bytes store))
     ∷ []
@@ -267,8 +277,8 @@ seen (MissingFix files) = MissingFix (telling_all files)
 seen (Chain sysmod files) = Chain sysmod (telling_all files)
 seen (Check store explain) = Check store true
 seen (Holds file) = Holds file
-seen (Init store callers) = Init store callers
-seen (Serve port cache connections most_open log store) = Serve port cache connections most_open log store
+seen (Init store callers sums) = Init store callers sums
+seen (Serve port cache connections most_open memory log store) = Serve port cache connections most_open memory log store
 seen (Replay cache callers files) = Replay cache callers files
 seen (Migrate store) = Migrate store
 seen (Callers store callers) = Callers store callers

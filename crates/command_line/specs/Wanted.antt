@@ -33,13 +33,14 @@ report_files =
 abbrev pub commands : List (Text × List (Text × Value))
 commands =
     (codes "holds", (codes "file", one []) ∷ [])
-    ∷ (codes "init", (codes "store", one []) ∷ (codes "callers", one []) ∷ [])
+    ∷ (codes "init", (codes "store", one []) ∷ (codes "callers", one []) ∷ (codes "sums", flag false) ∷ [])
     ∷ (
       codes "serve",
       (codes "port", number 1 65535 0)
           ∷ (codes "cache", number 1 65536 0)
           ∷ (codes "connections", number 1 1000000 0)
           ∷ (codes "open", number 1 8192 0)
+          ∷ (codes "memory", number 64 65536 0)
           ∷ (codes "log", flag false)
           ∷ (codes "store", one [])
           ∷ [],

@@ -28,8 +28,8 @@ pub enum Kind {
     Text(&'static str),
     /// `--NAME VALUE`: a text, which may be left out.
     MaybeText(&'static str),
-    /// `--NAME VALUE`: a number from 1 to this one; if it isn't given, the number in the text.
-    Number(&'static str, u32, &'static str),
+    /// `--NAME VALUE`: a number from one to another; if it isn't given, the number in the text.
+    Number(&'static str, u32, u32, &'static str),
     /// `--NAME`: a flag.
     Flag,
 }
@@ -107,29 +107,43 @@ pub const NAME: Argument = Argument {
 /// `--port P`
 pub const PORT: Argument = Argument {
     name: "port",
-    kind: Kind::Number("P", 65_535, "8080"),
+    kind: Kind::Number("P", 1, 65_535, "8080"),
     help: "The port to listen on, 1 to 65535",
 };
 
 /// `--cache N`
 pub const CACHE: Argument = Argument {
     name: "cache",
-    kind: Kind::Number("N", 65_536, "1024"),
+    kind: Kind::Number("N", 1, 65_536, "1024"),
     help: "How many frames are kept at most, 1 to 65536",
 };
 
 /// `--connections K`
 pub const CONNECTIONS: Argument = Argument {
     name: "connections",
-    kind: Kind::Number("K", 1_000_000, "1000000"),
+    kind: Kind::Number("K", 1, 1_000_000, "1000000"),
     help: "How many connections are served before the program ends, 1 to 1000000",
 };
 
 /// `--open M`
 pub const OPEN: Argument = Argument {
     name: "open",
-    kind: Kind::Number("M", 8192, "1024"),
+    kind: Kind::Number("M", 1, 8192, "1024"),
     help: "How many connections are open at once at most, 1 to 8192",
+};
+
+/// `--memory MIB`
+pub const MEMORY: Argument = Argument {
+    name: "memory",
+    kind: Kind::Number("MIB", 64, 65_536, "512"),
+    help: "How many MiB bodies and replies take together at most, 64 to 65536",
+};
+
+/// `--sums`
+pub const SUMS: Argument = Argument {
+    name: "sums",
+    kind: Kind::Flag,
+    help: "Ends each page of the file in a sum, by which a page that rots is told",
 };
 
 /// `--log`
@@ -173,10 +187,10 @@ pub fn arg_of<'a>(alloc: Global, argument: &Argument) -> Arg<'a>
             .action(ArgAction::Set)
             .value_name(value),
         Kind::MaybeText(value) => arg.long(name).action(ArgAction::Set).value_name(value),
-        Kind::Number(value, most, default) => arg
+        Kind::Number(value, least, most, default) => arg
             .long(name)
             .action(ArgAction::Set)
-            .value_parser(clap::value_parser!(u32).range(1..=i64::from(most)))
+            .value_parser(clap::value_parser!(u32).range(i64::from(least)..=i64::from(most)))
             .value_name(value)
             .default_value(default),
         Kind::Flag => arg.long(name).action(ArgAction::SetTrue),

@@ -4,8 +4,8 @@ ghost use Rattle.command_line.specs.Commands.{with_command};
 ghost use Rattle.command_line.specs.Line.{bureau_app, commands_named};
 
 use crate::arguments::{
-    Argument, CACHE, CALLERS, CATEGORIES, CONNECTION_FILES, CONNECTIONS, EXPLAIN, FILE, LOG, NAME,
-    OPEN, PORT, PUBLICATIONS, RECEIVED, STORE, SYSMOD, VERBOSE, ZONE,
+    Argument, CACHE, CALLERS, CATEGORIES, CONNECTION_FILES, CONNECTIONS, EXPLAIN, FILE, LOG,
+    MEMORY, NAME, OPEN, PORT, PUBLICATIONS, RECEIVED, STORE, SUMS, SYSMOD, VERBOSE, ZONE,
 };
 
 /// A command of the program.
@@ -27,12 +27,12 @@ static SUBCOMMANDS: [Subcommand; 10] = [
     Subcommand {
         name: "init",
         about: "Makes STORE, the file of a desk that has these callers and nothing else",
-        arguments: &[STORE, CALLERS],
+        arguments: &[SUMS, STORE, CALLERS],
     },
     Subcommand {
         name: "serve",
         about: "Serves the desk in STORE on 127.0.0.1, to many connections side by side",
-        arguments: &[PORT, CACHE, CONNECTIONS, OPEN, LOG, STORE],
+        arguments: &[PORT, CACHE, CONNECTIONS, OPEN, MEMORY, LOG, STORE],
     },
     Subcommand {
         name: "replay",
