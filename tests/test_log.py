@@ -6,6 +6,7 @@
 Requests are sent to a desk that keeps a log and to one that keeps none. Both answer the same, to the byte, and the log has a line
 for each: its caller, its method and path, the status, and as many bytes as went each way. No line has a token or a body.
 """
+import contextlib
 import datetime
 import os
 import re
@@ -21,6 +22,7 @@ CALLERS = "NAME,TOKEN\nPUBLISH,publisher-token\nALPHA,alpha-token\nBRAVO,bravo-t
 ZONE = b"SYSMOD,STATE\nHBB7790,APPLIED\nUA10001,APPLIED\n"
 RESET = struct.pack("ii", 1, 0)
 LINE = re.compile(r"(\d{4}-\d\d-\d\dT\d\d:\d\d:\d\d\.\d{3}Z) (\S+) (\S+) (\S+) (\d+) (\d+) (\d+) (\d+)")
+LACKING = re.compile(LINE.pattern + " (memory|size|device)")
 FAULT = re.compile(r"(\d{4}-\d\d-\d\dT\d\d:\d\d:\d\d\.\d{3}Z) - FAULT (\d+)")
 LOST = re.compile(r"(\d{4}-\d\d-\d\dT\d\d:\d\d:\d\d\.\d{3}Z) - LOST (\d+)")
 room = folder()
@@ -31,9 +33,10 @@ callers = write(room + "/callers", CALLERS)
 class Served:
     """A desk with standard error in this file."""
 
-    def __init__(self, errors, *words):
+    def __init__(self, errors, *words, store=None, under=()):
         command = command_of(callers, 0)
-        self.process = subprocess.Popen([*command[:2], *words, *command[2:]], stdout=subprocess.PIPE, stderr=errors)
+        command[-1:] = [store or command[-1]]
+        self.process = subprocess.Popen([*under, *command[:2], *words, *command[2:]], stdout=subprocess.PIPE, stderr=errors)
         line = self.process.stdout.readline()
         if not line.startswith(b"LISTENING "):
             sys.exit("the desk does not start: %r" % line)
@@ -143,6 +146,39 @@ class Log(unittest.TestCase):
         same("the faults of connections that failed", sorted(faults), ["51", "53", "53", "53"])
         same("and a line for each request", sum(bool(LINE.fullmatch(line)) for line in lines), 2)
         same("and no other line", len(lines), 6)
+
+    def test_what_a_call_lacked(self):
+        large = "SYSMOD,STATE\n" + "".join("UA%05d,APPLIED\n" % i for i in range(40000))
+        one = "++PTF(UA{0:05d}).\n++VER(Z038) FMID(HBB7790) PRE(UA00001).\n++HOLD(UA{0:05d}) ERROR FMID(HBB7790) REASON(AA00001).\n"
+        publication = request("POST /publish", "publisher-token", 1, "".join(map(one.format, range(60000))).encode())
+        disk = folder()
+        with contextlib.ExitStack() as mounted:
+            self.lacks("memory", "ulimit -d 30000", publication)
+            self.lacks("device", 'trap "" XFSZ; ulimit -f 300', request("PUT /zones/TGT1", "alpha-token", 1, large.encode()))
+            if subprocess.run(["mount", "-t", "tmpfs", "-o", "size=1M", "tmpfs", disk], capture_output=True).returncode:
+                self.skipTest("no disk that is full: it takes root to mount one")
+            mounted.callback(subprocess.run, ["umount", disk], check=True)
+            self.lacks("size", ":", request("PUT /zones/TGT1", "alpha-token", 1, large.encode()), disk)
+
+    def lacks(self, lack, limit, sent, place=None):
+        """A request that is answered 503 under a limit is logged with what it lacked; one before it has no such word."""
+        place = place or folder()
+        store = os.path.join(place, "store")
+        subprocess.run([PROGRAM, "init", store, callers], check=True, stdout=subprocess.DEVNULL)
+        with open(LOG, "wb") as errors:
+            desk = Served(errors, "--log", store=store, under=["bash", "-c", limit + '; exec "$@"', "bash"])
+            desk.told(request("GET /zones", "alpha-token"))
+            check("503 for want of %s" % lack, desk.told(sent).endswith(b"\r\n\r\nNO ROOM\n"))
+            # the line is written behind the reply: a desk whose device failed ends then, another one goes on
+            if lack == "device":
+                desk.process.wait(timeout=60)
+            else:
+                desk.told(request("GET /zones", "alpha-token"))
+            desk.end()
+        lines = open(LOG).read().splitlines()
+        check("the line before it", LINE.fullmatch(lines[0]), lines[0])
+        got = LACKING.fullmatch(lines[1])
+        same("what it lacked", got and got.group(5, 9), ("503", lack))
 
     def test_a_log_that_cant_be_written(self):
         gone_read, gone = os.pipe()

@@ -9,8 +9,9 @@ import subprocess
 
 from .lanes import Difference
 
-LINE = re.compile(
-    r"\d{4}-\d\d-\d\dT\d\d:\d\d:\d\d\.\d{3}Z (?:- (?:FAULT|LOST) \d+|(?:\S+) (?:\S+) (?:\S+) \d{3} \d+ \d+ \d+)|FAULT 42")
+# A request's line has what the call lacked exactly if it is answered 503.
+STATUS = r"(?:(?!503)\d{3} \d+ \d+ \d+|503 \d+ \d+ \d+ (?:memory|size|device))"
+LINE = re.compile(r"\d{4}-\d\d-\d\dT\d\d:\d\d:\d\d\.\d{3}Z (?:- (?:FAULT|LOST) \d+|\S+ \S+ \S+ %s)|FAULT 42" % STATUS)
 ENDLESS = resource.RLIM_INFINITY
 
 

@@ -1,11 +1,11 @@
 -- A change that comes again in a course acts once, while its caller stays.
-use Rattle.std.proofs.Common.{◌≡◌, ◌∙◌, ◌<◌, ℕ, Bool, List, [], ◌∷◌, ◌++◌, ap, inl, inr, refl, subst, sym, true}
+use Rattle.std.proofs.Common.{◌≡◌, ◌∙◌, ◌<◌, ℕ, Bool, List, [], ◌∷◌, ◌++◌, ap, inl, inr, subst, sym, true}
 use Rattle.std.specs.Prelude.{if◌then◌else◌}
 use Rattle.bureau_store.specs.SetCallers.{with_callers}
 use Rattle.bureau_store.specs.Tables.{LastChange, Tables, no_change}
 use Rattle.bureau_store.specs.declared.caller.Caller.{Caller}
 use Rattle.bureau_store.specs.declared.caller.CallerRow.{CallerRow}
-use Rattle.bureau.specs.Course.{ActsOnceIn, Called, Callers, ComesAgainIn, IsCourse, IsInBoth, Stage, Stays, StaysStaleIn, callers_after, calls_in}
+use Rattle.bureau.specs.Course.{ActsOnceIn, Called, Callers, ComesAgainIn, IsCourse, IsInBoth, Stage, Stays, StaysStaleIn, calls_in}
 use Rattle.bureau.specs.Joint.{CallBy, IsStep}
 use Rattle.bureau.specs.Repeat.{IsToldAgain, IsToldStale}
 use Rattle.bureau.proofs.CourseFacts.{course_callers, join_courses, split_course, stays}

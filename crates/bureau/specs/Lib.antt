@@ -7,6 +7,7 @@ pub mod Course
 pub mod Faults
 pub mod Joint
 pub mod Kept
+pub mod Lack
 pub mod NumberOrder
 pub mod Outcome
 pub mod Outcomes

@@ -14,7 +14,7 @@ ghost use Rattle.bureau.specs.Texts.{counts_text};
 
 use crate::Reply;
 use crate::forms::{kind_of, reply_in};
-use crate::outcome::NoRoom;
+use crate::lack::Lack;
 use crate::report_texts::{chain_text, report_text, zone_counts_text};
 use crate::texts::{counts_told, zones_told};
 use bureau_store::Store;
@@ -27,7 +27,7 @@ use verdicts::Judge;
 use zone_lists::Pattern;
 
 /// Counts what is published.
-pub(crate) fn counts<S: Store>(alloc: Global, store: &mut S, form: Form) -> Result<Reply, NoRoom>
+pub(crate) fn counts<S: Store>(alloc: Global, store: &mut S, form: Form) -> Result<Reply, Lack>
     ensures reads { HasRead S.tables_view store.old store.new result }
     ensures reply { IfOk result (λ reply. Tells S.tables_view store.old store.new
         (λ this. reply_as reply ≡ in_form form (counts_text form this.content))) }
@@ -43,7 +43,7 @@ pub(crate) fn list_zones<S: Store>(
     store: &mut S,
     client: &Id,
     form: Form,
-) -> Result<Reply, NoRoom>
+) -> Result<Reply, Lack>
     requires { IsProper (Client client.now) }
     ensures reads { HasRead S.tables_view store.old store.new result }
     ensures reply { IfOk result (λ reply. Tells S.tables_view store.old store.new
@@ -63,7 +63,7 @@ pub(crate) fn report_answer<S: Store, J: Judge<S>>(
     zone: &Id,
     report: Report,
     wanted: Wanted,
-) -> Result<Reply, NoRoom>
+) -> Result<Reply, Lack>
     requires { IsProper (Client client.now) }
     ensures reads { HasRead S.tables_view store.old store.new result }
     ensures reply { IfOk result (λ reply. Tells S.tables_view store.old store.new
@@ -93,7 +93,7 @@ fn patterns_for<S: Store>(
     client: &Id,
     zone: &Id,
     report: Report,
-) -> Result<Vec<Pattern>, NoRoom>
+) -> Result<Vec<Pattern>, Lack>
     requires { IsProper (Client client.now) }
     ensures reads { MayRead S.tables_view store.old store.new result }
     ensures patterns { IfOk result (λ patterns. Tells S.tables_view store.old store.new
@@ -113,7 +113,7 @@ pub(crate) fn zone_counts<S: Store, J: Judge<S>>(
     judge: &mut J,
     client: &Id,
     zone: &Id,
-) -> Result<Reply, NoRoom>
+) -> Result<Reply, Lack>
     requires { IsProper (Client client.now) }
     ensures reads { HasRead S.tables_view store.old store.new result }
     ensures reply { IfOk result (λ reply. Tells S.tables_view store.old store.new
@@ -143,7 +143,7 @@ pub(crate) fn chain<S: Store, J: Judge<S>>(
     client: &Id,
     zone: &Id,
     sysmod: &Id,
-) -> Result<Reply, NoRoom>
+) -> Result<Reply, Lack>
     requires { IsProper (Client client.now) }
     ensures reads { HasRead S.tables_view store.old store.new result }
     ensures reply { IfOk result (λ reply. Tells S.tables_view store.old store.new

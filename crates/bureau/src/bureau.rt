@@ -10,7 +10,8 @@ ghost use Rattle.bureau.specs.Replies.{reply_as};
 
 use crate::commit::commit;
 use crate::decide::decide;
-use crate::outcome::{NoRoom, Outcome};
+use crate::lack::Lack;
+use crate::outcome::Outcome;
 use crate::{Call, NoMemory, Reply};
 use bureau_store::{Caller, Store, StoreFault};
 use std::alloc::Global;
@@ -94,7 +95,7 @@ impl<S: Store, J: Judge<S>> Bureau<S, J> {
     {
         match reply_to(self.alloc, &mut self.store, &mut self.judge, caller, call) {
             Ok(reply) => reply,
-            Err(NoRoom) => Reply::no_room(self.alloc),
+            Err(lack) => Reply::no_room(self.alloc, lack),
         }
     }
 
@@ -132,7 +133,7 @@ fn reply_to<S: Store, J: Judge<S>>(
     judge: &mut J,
     caller: &Caller,
     call: &Call<'_>,
-) -> Result<Reply, NoRoom>
+) -> Result<Reply, Lack>
     requires { IsProper caller.now }
     ensures { IsAnswered (bureau_view S.tables_view J.is_right)
         (record { store = store.old; judge = judge.old }) (record { store = store.new; judge = judge.new })

@@ -13,8 +13,9 @@ ghost use Rattle.faults.specs.FaultText.{text_of};
 ghost use Rattle.faults.specs.declared.fault.Cause.TheVariants.{Input};
 ghost use Rattle.bureau.specs.Replies.{reply_as};
 
+use crate::lack::Lack;
 use crate::number_order::number_in_turn;
-use crate::outcome::{AcceptedChange, Effect, NoRoom, Outcome};
+use crate::outcome::{AcceptedChange, Effect, Outcome};
 use crate::publication::changes_in;
 use crate::texts::{
     patterns_line, publication_line, received_line, zone_dropped_line, zone_put_line,
@@ -36,7 +37,7 @@ pub(crate) fn publish<S: Store>(
     store: &mut S,
     number: Option<u64>,
     body: &[u8],
-) -> Result<Outcome, NoRoom>
+) -> Result<Outcome, Lack>
     ensures reads { HasRead S.tables_view store.old store.new result }
     ensures outcome { IfOk result (λ outcome. Tells S.tables_view store.old store.new
         (λ this. IsOutcome Publisher (call.publish number body.now) this outcome)) }
@@ -67,7 +68,7 @@ pub(crate) fn put_zone<S: Store>(
     number: Option<u64>,
     zone: &Id,
     body: &[u8],
-) -> Result<Outcome, NoRoom>
+) -> Result<Outcome, Lack>
     requires { IsProper (Client client.now) }
     ensures reads { HasRead S.tables_view store.old store.new result }
     ensures outcome { IfOk result (λ outcome. Tells S.tables_view store.old store.new
@@ -104,7 +105,7 @@ pub(crate) fn drop_zone<S: Store>(
     client: &Id,
     number: Option<u64>,
     zone: &Id,
-) -> Result<Outcome, NoRoom>
+) -> Result<Outcome, Lack>
     requires { IsProper (Client client.now) }
     ensures reads { HasRead S.tables_view store.old store.new result }
     ensures outcome { IfOk result (λ outcome. Tells S.tables_view store.old store.new
@@ -133,7 +134,7 @@ pub(crate) fn put_received<S: Store>(
     client: &Id,
     number: Option<u64>,
     body: &[u8],
-) -> Result<Outcome, NoRoom>
+) -> Result<Outcome, Lack>
     requires { IsProper (Client client.now) }
     ensures reads { HasRead S.tables_view store.old store.new result }
     ensures outcome { IfOk result (λ outcome. Tells S.tables_view store.old store.new
@@ -167,7 +168,7 @@ pub(crate) fn put_patterns<S: Store>(
     number: Option<u64>,
     zone: &Id,
     body: &[u8],
-) -> Result<Outcome, NoRoom>
+) -> Result<Outcome, Lack>
     requires { IsProper (Client client.now) }
     ensures reads { HasRead S.tables_view store.old store.new result }
     ensures outcome { IfOk result (λ outcome. Tells S.tables_view store.old store.new
@@ -200,7 +201,7 @@ fn in_turn<S: Store>(
     store: &mut S,
     caller: &Caller,
     number: Option<u64>,
-) -> Result<Result<u64, Reply>, NoRoom>
+) -> Result<Result<u64, Reply>, Lack>
     requires { IsProper caller.now }
     ensures reads { HasRead S.tables_view store.old store.new result }
     ensures order { IfOk result (λ found. Tells S.tables_view store.old store.new
@@ -219,7 +220,7 @@ fn in_turn_at<S: Store>(
     client: &Id,
     number: Option<u64>,
     zone: &Id,
-) -> Result<Result<u64, Reply>, NoRoom>
+) -> Result<Result<u64, Reply>, Lack>
     requires { IsProper (Client client.now) }
     ensures reads { HasRead S.tables_view store.old store.new result }
     ensures order { IfOk result (λ found. Tells S.tables_view store.old store.new
@@ -238,18 +239,18 @@ fn in_turn_at<S: Store>(
 }
 
 // The answer to a body that has this fault.
-fn refusal(alloc: Global, fault: AnyFault) -> Result<Reply, NoRoom>
+fn refusal(alloc: Global, fault: AnyFault) -> Result<Reply, Lack>
     ensures input { IfOk result (λ reply. fault.cause ≡ Input) }
     ensures reply { IfOk result (λ reply. reply_as reply ≡ plain 422 (text_of fault)) }
 {
     match fault.cause {
-        Cause::Machine => Err(NoRoom),
+        Cause::Machine => Err(Lack::Memory),
         Cause::Input => Ok(Reply::plain(alloc, 422, fault.text().as_bytes())?),
     }
 }
 
 // Whether a client may have a zone of this name: it has it already, or not yet as many as it may.
-fn has_room_for<S: Store>(store: &mut S, client: &Id, zone: &Id) -> Result<bool, NoRoom>
+fn has_room_for<S: Store>(store: &mut S, client: &Id, zone: &Id) -> Result<bool, Lack>
     requires { IsProper (Client client.now) }
     ensures reads { HasRead S.tables_view store.old store.new result }
     ensures room { IfOk result (λ room. Tells S.tables_view store.old store.new

@@ -9,7 +9,8 @@ ghost use Rattle.bureau.specs.Outcome.{may_ask};
 
 use crate::answers::{chain, counts, list_zones, report_answer, zone_counts};
 use crate::changes::{drop_zone, publish, put_patterns, put_received, put_zone};
-use crate::outcome::{NoRoom, Outcome};
+use crate::lack::Lack;
+use crate::outcome::Outcome;
 use crate::{Call, Reply};
 use bureau_store::{Caller, Store};
 use mcs_reader::Id;
@@ -24,7 +25,7 @@ pub(crate) fn decide<S: Store, J: Judge<S>>(
     judge: &mut J,
     caller: &Caller,
     call: &Call<'_>,
-) -> Result<Outcome, NoRoom>
+) -> Result<Outcome, Lack>
     requires { IsProper caller.now }
     ensures keeps { S.tables_view.keeps store.old store.new }
     ensures told { IfOk result (λ outcome.
@@ -47,7 +48,7 @@ fn decide_for_publisher<S: Store>(
     alloc: Global,
     store: &mut S,
     call: &Call<'_>,
-) -> Result<Outcome, NoRoom>
+) -> Result<Outcome, Lack>
     ensures keeps { S.tables_view.keeps store.old store.new }
     ensures told { IfOk result (λ outcome.
         IsOpen S.tables_view store.new ⊎ (may_ask Publisher (call_as call.now) ≡ false)) }
@@ -69,7 +70,7 @@ fn decide_for_client<S: Store, J: Judge<S>>(
     judge: &mut J,
     client: &Id,
     call: &Call<'_>,
-) -> Result<Outcome, NoRoom>
+) -> Result<Outcome, Lack>
     requires { IsProper (Client client.now) }
     ensures keeps { S.tables_view.keeps store.old store.new }
     ensures told { IfOk result (λ outcome.
@@ -109,7 +110,7 @@ fn decide_for_client<S: Store, J: Judge<S>>(
 }
 
 // The outcome that is a reply alone.
-fn reply_alone(reply: Result<Reply, NoRoom>) -> Result<Outcome, NoRoom>
+fn reply_alone(reply: Result<Reply, Lack>) -> Result<Outcome, Lack>
     ensures { IsReplyAlone reply result }
 {
     Ok(Outcome::Answered(reply?))

@@ -4,7 +4,7 @@
 //! - [`Call`]: a question or a change of a caller
 //! - [`isolation`]: each caller's answers are those of a bureau that no other client uses
 //! - [`repeats`]: a change acts once, however often it is sent
-//! - [`Reply`]: an answer: its status and its [`Body`]
+//! - [`Reply`]: an answer: its status and its [`Body`], and the [`Lack`] that a 503 has
 //!
 //! `specs/` defines the bureau. Begin with its `Outcome`, what comes of a call over what one caller sees.
 //! Then read `Joint`, the bureau that all share, and `Own` and `Alone`, the bureau that one caller has
@@ -34,6 +34,7 @@ mod changes;
 mod commit;
 mod decide;
 mod forms;
+mod lack;
 mod law;
 mod number_order;
 mod outcome;
@@ -44,6 +45,7 @@ mod texts;
 
 pub use bureau::Bureau;
 pub use call::Call;
+pub use lack::Lack;
 pub use law::{isolation, repeats};
 use mcs_reader::NoMemory;
 pub use reply::{Body, Reply};

@@ -1,14 +1,8 @@
 //! The outcome of a call.
-use crate::{NoMemory, Reply};
-use bureau_store::StoreFault;
-use catalogue::{Change, SourceFault};
+use crate::Reply;
+use catalogue::Change;
 use mcs_reader::Id;
-use std::alloc::AllocFailed;
 use zone_lists::{Pattern, ZoneRow};
-
-/// There is no room for a call now: memory ran out, or the store refused.
-#[derive(Clone, Copy)]
-pub(crate) struct NoRoom;
 
 /// The outcome of a call: a reply alone, or an accepted change with its reply.
 #[derive(Drop)]
@@ -60,28 +54,4 @@ pub(crate) enum Effect {
         zone: Id,
         patterns: Vec<Pattern>,
     },
-}
-
-impl From<NoMemory> for NoRoom {
-    fn from(_: NoMemory) -> NoRoom {
-        NoRoom
-    }
-}
-
-impl<T: Drop> From<AllocFailed<T>> for NoRoom {
-    fn from(_: AllocFailed<T>) -> NoRoom {
-        NoRoom
-    }
-}
-
-impl From<SourceFault> for NoRoom {
-    fn from(_: SourceFault) -> NoRoom {
-        NoRoom
-    }
-}
-
-impl From<StoreFault> for NoRoom {
-    fn from(_: StoreFault) -> NoRoom {
-        NoRoom
-    }
 }

@@ -1,9 +1,10 @@
 //! Replies: a status, and a body that is plain text or JSON.
-ghost use Rattle.std.specs.Prelude.{◌≡◌, [], IfOk};
+ghost use Rattle.std.specs.Prelude.{◌≡◌, [], Some, IfOk};
 ghost use Rattle.bureau.specs.Outcome.{as_json, forbidden, gap, no_room, not_found, plain};
 ghost use Rattle.bureau.specs.Replies.{reply_as};
 
 use crate::NoMemory;
+use crate::lack::Lack;
 use itoa::Buffer;
 use std::alloc::Global;
 use std::marker::Model;
@@ -54,17 +55,21 @@ pub struct Reply {
     pub json: bool,
     /// The body, which is empty if the status is 503.
     pub body: Body,
+    /// What the call lacked, if the status is 503.
+    pub lack: Option<Lack>,
 }
 
 impl Reply {
-    /// There is no room for the call now. This reply takes no memory.
-    pub fn no_room(alloc: Global) -> Reply
-        ensures { reply_as result ≡ no_room }
+    /// There is no room for the call now, since it lacked this. This reply takes no memory.
+    pub fn no_room(alloc: Global, lack: Lack) -> Reply
+        ensures answer { reply_as result ≡ no_room }
+        ensures lack { result.lack ≡ Some lack }
     {
         Reply {
             status: 503,
             json: false,
             body: Body::from_vec(Vec::new(alloc)),
+            lack: Some(lack),
         }
     }
 
@@ -76,6 +81,7 @@ impl Reply {
             status: 200,
             json: false,
             body: Body::from_vec(text),
+            lack: None,
         }
     }
 
@@ -87,6 +93,7 @@ impl Reply {
             status: 200,
             json: true,
             body: Body::from_vec(text),
+            lack: None,
         }
     }
 
@@ -99,6 +106,7 @@ impl Reply {
             status,
             json: false,
             body: Body::from_vec(bytes),
+            lack: None,
         })
     }
 
@@ -128,6 +136,7 @@ impl Reply {
             status: 409,
             json: false,
             body: Body::from_vec(text),
+            lack: None,
         })
     }
 }

@@ -35,13 +35,13 @@ answered_by this next (Err refusal) has_token (Answered reply) is = absurd (let 
 answered_by this next (Err refusal) has_token (Refused other) is =
     let e = is.0 in
     let same : other ≡ refusal = cc in inl (ap refusal_answer same)
-answered_by this next (Err refusal) has_token NoRoom is = inr (is.0, refl)
+answered_by this next (Err refusal) has_token (NoRoom lack) is = inr (is.0, refl)
 
 pub callers_by : (this next : Tables) (what : What) (has_token : Bool) (told : Told) → IsTold this what has_token told next → next.callers ≡ this.callers
 callers_by this next what has_token (Answered reply) is =
     step_callers this next (record { caller = is.0.0; call = is.0.1; answer = reply_as reply }) is.2
 callers_by this next what has_token (Refused refusal) is = ap (λ t. t.callers) is.1
-callers_by this next what has_token NoRoom is = ap (λ t. t.callers) is.1
+callers_by this next what has_token (NoRoom lack) is = ap (λ t. t.callers) is.1
 
 -- a call that is told something has exchanged it
 pub has_exchanged : (Runs : Tables → List CallBy → Tables → Type 0) (this next : Tables) (what : What) (has_token : Bool) (told : Told) (is_bare closes : Bool)
@@ -67,13 +67,13 @@ allow_refused HeadTooLarge = refl
 allow_same : (this next : Tables) (what : What) (has_token : Bool) (told : Told) → IsTold this what has_token told next → allow_by what (answer_told told).status ≡ allow_told told
 allow_same this next (Ok call) has_token (Answered reply) is = refl
 allow_same this next (Ok call) has_token (Refused refusal) is = absurd (let e = is.0 in cc)
-allow_same this next (Ok call) has_token NoRoom is = refl
+allow_same this next (Ok call) has_token (NoRoom lack) is = refl
 allow_same this next (Err refusal) has_token (Answered reply) is = absurd (let e = is.1 in cc)
 allow_same this next (Err refusal) has_token (Refused other) is =
     let e = is.0 in
     let same : other ≡ refusal = cc in
     subst (λ r. allow_by (Err refusal) (code_of (status_of r)) ≡ allow_of_refusal r) (sym same) (allow_refused refusal)
-allow_same this next (Err refusal) has_token NoRoom is = refl
+allow_same this next (Err refusal) has_token (NoRoom lack) is = refl
 
 abbrev with_allow : Told → Bool → Option Resource → ReplyHead
 with_allow told closes allow = record {

@@ -1,6 +1,7 @@
 -- What is noted of a request.
-use Rattle.std.proofs.Common.{◌≡◌, ℕ, ◌+◌, ◌-◌, ◌≤◌, Bool, true, false, List, [], ◌++◌, ◌||◌, nat_le, length, drop, Option, Some, Ok, Err, refl, ap, ◌∙◌, subst, arith, length-append, length-drop}
+use Rattle.std.proofs.Common.{◌≡◌, ◌≢◌, ℕ, ◌-◌, ◌≤◌, Bool, true, false, if◌then◌else◌, nat_eq, ◌⊎◌, inl, inr, List, [], ◌++◌, ◌||◌, nat_le, length, drop, Option, Some, None, Ok, Err, refl, ap, ◌∙◌, subst, arith, length-append, length-drop}
 use Rattle.std.specs.Io.KnownBytes.{Appends, prepend_known}
+use Rattle.std.proofs.lemmas.Bool.Decides.{eqb_tells}
 use Rattle.log_lines.specs.Words.{none}
 use Rattle.log_lines.specs.declared.note.Note.{Note}
 use Rattle.requests.specs.NextRequest.{IsNext, refused, whole}
@@ -9,15 +10,30 @@ use Rattle.requests.specs.Request.{Parts}
 use Rattle.requests.specs.declared.refusal.Refusal.{Refusal}
 use Rattle.bureau_store.specs.Tables.{Tables}
 use Rattle.bureau.specs.Joint.{CallBy}
+use Rattle.bureau.specs.declared.lack.Lack.{Lack}
 use Rattle.bureau_http.specs.Asked.{What, has_token, most_requests, what_of}
 use Rattle.bureau_http.specs.Connection.{IsLast, IsRequest}
 use Rattle.bureau_http.specs.Exchange.{refusal_answer}
-use Rattle.bureau_http.specs.Noted.{IsNoted, IsNotedAs, IsNotedOf}
+use Rattle.bureau_http.specs.Noted.{IsNoted, IsNotedAs, IsNotedOf, lack_word}
 use Rattle.bureau_http.specs.Served.{ExchangedAs, IsExchanged, asked_as}
-use Rattle.bureau_http.specs.Told.{IsTold, IsToldAs, answer_told, told_text}
+use Rattle.bureau_http.specs.Told.{IsTold, IsToldAs, answer_told, lack_told, told_text}
 use Rattle.bureau_http.specs.declared.reply.Told.{Told}
-use Rattle.bureau_http.specs.declared.reply.Told.TheVariants.{Refused}
+use Rattle.bureau_http.specs.declared.reply.Told.TheVariants.{Answered, NoRoom, Refused}
 use Rattle.bureau_http.proofs.ExchangeFacts.{has_exchanged, same_text}
+
+-- what isn't answered 503 lacked nothing
+lacks_none : (lack : Option Lack) (is : Bool) → is ≡ false → (if is then lack else None) ≡ None
+lacks_none lack true is = cc
+lacks_none lack false is = refl
+
+none_lacked : (told : Told) → (answer_told told).status ≢ 503 → lack_told told ≡ None
+none_lacked (Answered reply) other = by (eqb_tells reply.status 503)
+  where
+    by : ((nat_eq reply.status 503 ≡ true) × (reply.status ≡ 503)) ⊎ ((nat_eq reply.status 503 ≡ false) × (reply.status ≢ 503)) → lack_told (Answered reply) ≡ None
+    by (inl is) = absurd (other is.1)
+    by (inr is) = lacks_none reply.lack (nat_eq reply.status 503) is.0
+none_lacked (Refused refusal) other = refl
+none_lacked (NoRoom lack) other = absurd (other refl)
 
 -- a note of what is told is one of the exchange
 pub noted_as : (method path : List ℕ) (this next : Tables) (what : What) (has_token : Bool) (told : Told) (is_bare closes : Bool) (note : Note)
@@ -28,6 +44,7 @@ noted_as method path this next what has_token told is_bare closes note is h = re
   path = h.path;
   status = h.status;
   went = h.went ∙ ap length (same_text this next what has_token told is_bare closes is);
+  lack = λ other. h.lack ∙ ap lack_word (none_lacked told other);
 }
 
 -- ---- a head that is refused

@@ -15,7 +15,7 @@ ghost use Rattle.requests.specs.Request.{number_of};
 
 use crate::desk::Desk;
 use crate::reply::Told;
-use bureau::Call;
+use bureau::{Call, Lack};
 use bureau_store::Caller;
 use mcs_reader::Id;
 use questions::{Report, Wanted};
@@ -47,8 +47,9 @@ pub(crate) fn answer_to<D: Desk>(
         return (Told::Refused(Refusal::UnknownToken), None);
     };
     let action = request.action(bytes, routes);
-    let Ok(found) = desk.caller_of(token) else {
-        return (Told::NoRoom, None);
+    let found = match desk.caller_of(token) {
+        Ok(found) => found,
+        Err(fault) => return (Told::NoRoom(Lack::from(fault)), None),
     };
     let Some(caller) = found else {
         return (Told::Refused(Refusal::UnknownToken), None);

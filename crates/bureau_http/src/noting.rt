@@ -1,8 +1,8 @@
 //! The log's notes of requests.
 ghost use Rattle.std.specs.Prelude.{◌≡◌, [], true};
 ghost use Rattle.log_lines.specs.Words.{none};
-ghost use Rattle.bureau_http.specs.Noted.{caller_word};
-ghost use Rattle.bureau_http.specs.Told.{IsToldAs};
+ghost use Rattle.bureau_http.specs.Noted.{caller_word, lack_word};
+ghost use Rattle.bureau_http.specs.Told.{IsToldAs, lack_told};
 ghost use Rattle.requests.specs.NextRequest.{IsAt, parts_in, request_len};
 ghost use Rattle.requests.specs.Order.{is_bare};
 ghost use Rattle.requests.specs.Request.{path_of};
@@ -34,6 +34,7 @@ pub(crate) fn note_of(
         status: told.status(closes),
         came: request.len() as u64,
         went: told.len(request.is_bare(bytes), closes) as u64,
+        lack: lack_word(told),
     }
 }
 
@@ -50,6 +51,17 @@ pub(crate) fn note_refused(told: &Told, came: usize, is_bare: bool) -> Note
         status: told.status(true),
         came: came as u64,
         went: told.len(is_bare, true) as u64,
+        lack: lack_word(told),
+    }
+}
+
+// The word for what a call lacked, if the answer says so.
+fn lack_word(told: &Told) -> Option<Word>
+    ensures { result ≡ lack_word (lack_told told.now) }
+{
+    match told.lack() {
+        Some(lack) => Some(Word::of(lack.name().as_bytes())),
+        None => None,
     }
 }
 

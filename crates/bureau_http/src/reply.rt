@@ -5,12 +5,12 @@ ghost use Rattle.arrayvec.specs.ArrayVec.{array_vec_len};
 ghost use Rattle.transfer.specs.Transfer.{AppendsFront};
 ghost use Rattle.requests.specs.Status.{code_of};
 ghost use Rattle.bureau_http.specs.Exchange.{body_told, status_numbered};
-ghost use Rattle.bureau_http.specs.Told.{answer_told, head_told, told_text};
+ghost use Rattle.bureau_http.specs.Told.{answer_told, head_told, lack_told, told_text};
 ghost use Rattle.bureau_http.specs.declared.fault.ConnFault.TheVariants.{Write as NotWritten};
 
 use crate::fault::ConnFault;
 use arrayvec::ArrayVec;
-use bureau::Reply;
+use bureau::{Lack, Reply};
 use requests::{Refusal, ReplyHead, Status, head_text};
 use std::io::Write;
 use transfer::write_whole;
@@ -25,8 +25,8 @@ pub(crate) enum Told {
     Answered(Reply),
     /// The reason why the request isn't given to the bureau.
     Refused(Refusal),
-    /// There was no room to learn whose token it has.
-    NoRoom,
+    /// There was no room to learn whose token it has, since this lacked.
+    NoRoom(Lack),
 }
 
 impl Told {
@@ -50,7 +50,7 @@ impl Told {
                 allow: refusal.allow(),
                 closes,
             },
-            Told::NoRoom => ReplyHead {
+            Told::NoRoom(_) => ReplyHead {
                 status: Status::ServiceUnavailable,
                 is_json: false,
                 length,
@@ -76,6 +76,17 @@ impl Told {
         ensures { result.now ≡ (if is_bare then [] else body_told (answer_told self.now)) }
     {
         if is_bare { b"" } else { self.body() }
+    }
+
+    // What the call lacked, if the status is 503.
+    pub(crate) fn lack(&self) -> Option<Lack>
+        ensures { result ≡ lack_told self.now }
+    {
+        match self {
+            Told::Answered(reply) if reply.status == 503 => reply.lack,
+            Told::NoRoom(lack) => Some(*lack),
+            _ => None,
+        }
     }
 
     // The number of the status.

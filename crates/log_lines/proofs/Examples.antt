@@ -1,5 +1,5 @@
 -- Worked examples.
-use Rattle.std.proofs.Common.{◌≡◌, [], codes, refl}
+use Rattle.std.proofs.Common.{◌≡◌, [], codes, refl, Some, None}
 use Rattle.std.specs.Fmt.{digits}
 use Rattle.httpdate.specs.declared.parts.Parts.{Parts}
 use Rattle.log_lines.specs.Lines.{fault_text, lost_text, request_text}
@@ -22,11 +22,17 @@ second_stamped : stamp_text second 7 ≡ codes "1994-11-06T08:49:37.007Z"
 second_stamped = refl
 
 abbrev report : Note
-report = record { caller = codes "NORTH"; method = codes "GET"; path = codes "/zones/TGT1"; status = 404; came = 71; went = 120 }
+report = record { caller = codes "NORTH"; method = codes "GET"; path = codes "/zones/TGT1"; status = 404; came = 71; went = 120; lack = None }
 
 report_told : request_text (codes "1994-11-06T08:49:37.007Z") report 0 ≡ codes "1994-11-06T08:49:37.007Z NORTH GET /zones/TGT1 404 71 120 0\n"
 unfolding digits
 report_told = refl
+
+-- a call for which there was no room
+lacking_told : request_text (codes "1994-11-06T08:49:37.007Z") (record report { status = 503; lack = Some (codes "device") }) 0
+    ≡ codes "1994-11-06T08:49:37.007Z NORTH GET /zones/TGT1 503 71 120 0 device\n"
+unfolding digits
+lacking_told = refl
 
 lost_told : lost_text (codes "2026-11-28T08:15:09.002Z") 17 ≡ codes "2026-11-28T08:15:09.002Z - LOST 17\n"
 unfolding digits

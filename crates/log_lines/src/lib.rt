@@ -19,6 +19,7 @@
 //!     status: 200,
 //!     came: 71,
 //!     went: 412,
+//!     lack: None,
 //! };
 //! let line = request_line(&time_word(Duration::from_millis(784_111_777_123)), &note, 7);
 //! let text: &[u8] = b"1994-11-06T08:49:37.123Z NORTH GET /zones/TGT1/errsysmods 200 71 412 7\n";

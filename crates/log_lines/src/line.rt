@@ -1,7 +1,7 @@
 //! A line, with its line end.
 ghost use Rattle.std.specs.Prelude.{◌≡◌, ◌+◌, ◌<◌, ◌≤◌, ◌∷◌, ◌++◌, []};
 ghost use Rattle.arrayvec.specs.ArrayVec.{array_vec_len};
-ghost use Rattle.log_lines.specs.Lines.{ArePrinted, IsOneLine, fault_text, field, lost_text, request_text};
+ghost use Rattle.log_lines.specs.Lines.{ArePrinted, IsOneLine, fault_text, field, lack_text, lost_text, request_text};
 
 use crate::note::Note;
 use crate::word::Word;
@@ -49,7 +49,7 @@ impl Line {
 }
 
 /// The line of a request whose reply went out whole: the time of that, and the milliseconds that the request
-/// took.
+/// took. What its call lacked comes last, if it lacked something.
 pub fn request_line(stamp: &Word, note: &Note, took: u64) -> Line
     ensures { result ≡ request_text stamp.now note.now took }
 {
@@ -62,6 +62,7 @@ pub fn request_line(stamp: &Word, note: &Note, took: u64) -> Line
     put_field(&mut bytes, &Word::number(note.came));
     put_field(&mut bytes, &Word::number(note.went));
     put(&mut bytes, &Word::number(took));
+    put_lack(&mut bytes, &note.lack);
     Line::of(bytes)
 }
 
@@ -99,6 +100,20 @@ fn put_field(bytes: &mut ArrayVec<u8, 600>, word: &Word)
 {
     put(bytes, word);
     bytes.push(b' ');
+}
+
+// Appends a blank and a word, if there is one.
+fn put_lack(bytes: &mut ArrayVec<u8, 600>, lack: &Option<Word>)
+    requires room { array_vec_len bytes.old ≤ 529 }
+    requires printed { ArePrinted bytes.old.items }
+    ensures text { bytes.new.items ≡ bytes.old.items ++ lack_text lack.now }
+    ensures len { array_vec_len bytes.new ≤ array_vec_len bytes.old + 65 }
+    ensures printed { ArePrinted bytes.new.items }
+{
+    if let Some(word) = lack {
+        bytes.push(b' ');
+        put(bytes, word);
+    }
 }
 
 // Appends a word.

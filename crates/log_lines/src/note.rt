@@ -16,4 +16,6 @@ pub struct Note {
     pub came: u64,
     /// The number of bytes of the reply.
     pub went: u64,
+    /// What the call lacked, if the reply says so.
+    pub lack: Option<Word>,
 }

@@ -1,6 +1,6 @@
 //! Connections to a desk that knows only the publisher and answers each call with its own name, and to the bureau.
 use super::tableless::{Answering, Tableless};
-use bureau::{Body, Bureau, Call, Reply};
+use bureau::{Body, Bureau, Call, Lack, Reply};
 use bureau_http::{ConnFault, Desk, serve_one};
 use bureau_store::{Caller, ListStore, StoreFault, callers};
 use chains::Whole;
@@ -58,8 +58,9 @@ impl Answering for Echo {
                 status,
                 json,
                 body: Body::from_vec(bytes),
+                lack: None,
             },
-            Err(_) => Reply::no_room(self.alloc),
+            Err(_) => Reply::no_room(self.alloc, Lack::Memory),
         }
     }
 }

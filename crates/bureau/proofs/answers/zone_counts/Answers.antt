@@ -1,5 +1,4 @@
 use Rattle.std.proofs.Common.{◌∙◌, ap, rules}
-use Rattle.holddata.specs.declared.key.Kind.TheVariants.{ErrorHold, FixcatHold}
 use Rattle.catalogue.proofs.SourceFacts.{no_fault, told_so}
 use Rattle.bureau.specs.Outcome.{as_json}
 use Rattle.bureau.proofs.QuestionFacts.{counts_absent, counts_told, with_rows, without_rows}
