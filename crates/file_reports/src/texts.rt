@@ -48,7 +48,9 @@ pub struct Counts {
 /// A report, and what was read for it.
 #[derive(Debug, Drop)]
 pub struct Made {
+    /// The text of the report.
     pub text: Vec<u8>,
+    /// How much was read.
     pub counts: Counts,
 }
 

@@ -37,7 +37,8 @@ pub struct ReportAsked<'a, 'f> {
 /// Prints a report of the publications and of a zone's lists. Returns the exit status.
 ///
 /// The text is whole before its first byte is written. A fault goes to `errors` alone, as `FAULT`, its number, its line
-/// or record, and the name of its file.
+/// or record, and the name of its file. If the files say so, `errors` also gets how much was read (`verbose`), and what
+/// the fault means (`explain`).
 pub fn run_report<W: Write, E: Write>(
     alloc: Global,
     asked: &ReportAsked<'_, '_>,

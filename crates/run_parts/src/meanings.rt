@@ -67,7 +67,7 @@ pub(crate) fn meaning(number: u8) -> &'static str {
         73 =>
             "the desk can't listen on the port, or the system tells no more of connections: take another port, or end what uses it; after LISTENING, start the desk again\n",
         75 =>
-            "the file has no statement: send it as lines of text in ASCII or UTF-8, unpacked and not from EBCDIC; publication reads more forms\n",
+            "the file has no statement that the bureau reads: send HOLDDATA or SYSMODs as lines of text in ASCII or UTF-8, not packed and not in EBCDIC; publication makes such text of other forms\n",
         _ => "docs/FAULTS.md has the faults\n",
     }
 }
