@@ -1,3 +1,4 @@
+mod AloneFacts
 pub mod KeepingFacts
 pub mod OpensFacts
 mod ReadFacts

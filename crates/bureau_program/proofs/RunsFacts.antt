@@ -1,7 +1,8 @@
 -- The calls of any number of runs, and the callers that were set between them, are one course.
 use Rattle.std.proofs.Common.{◌≡◌, ◌∙◌, ℕ, false, List, None, Option, Some, [], ◌∷◌, ◌++◌, ap, append-nil, inl, inr, refl, subst, sym}
 use Rattle.std.proofs.Math.Logic.{∥∥₁_elim, ∥∥₁_map}
-use Rattle.std.specs.Prelude.{if◌then◌else◌}
+use Rattle.std.specs.List.{AllByRecursion}
+use Rattle.std.specs.Prelude.{◌⊎◌, if◌then◌else◌}
 use Rattle.faults.specs.declared.any.AnyFault.{AnyFault}
 use Rattle.bureau_store.specs.SetCallers.{with_callers}
 use Rattle.bureau_store.specs.Tables.{AreInOrder, Tables, opened}
@@ -15,24 +16,25 @@ use Rattle.bureau.specs.Outcome.{Answer, Outcome, accepted, answer_of, answered,
 use Rattle.bureau.specs.View.{view_of}
 use Rattle.bureau.proofs.AgreesFacts.{view_caller}
 use Rattle.bureau.proofs.AgainFacts.{acts_once_in, stays_stale_in}
-use Rattle.bureau.proofs.CourseFacts.{alone_in, course_of, join_courses}
+use Rattle.bureau.proofs.CourseFacts.{course_callers, course_of, join_courses}
 use Rattle.bureau.proofs.KeptFacts.{not_503}
 use Rattle.bureau.proofs.RepeatFacts.{split_run, run_join}
 use Rattle.connections.specs.Rounds.{Log}
 use Rattle.bureau_sql.specs.Files.{HoldTables, HoldsStore}
 use Rattle.sqlite_disk.specs.declared.Disk as disk
 use Rattle.sqlite_wal.specs.Recovery.{Image}
-use Rattle.store_runs.specs.Callers.{KeepsCallers, LeavesSet, MayHaveSet}
+use Rattle.store_runs.specs.Callers.{KeepsCallers, LeavesSet, MayHaveSet, TellsSet}
 use Rattle.store_runs.specs.Desk.{AreRowsOf}
 use Rattle.store_runs.specs.Keeping.{EndsWell, HoldCallers, KeepsTables, Leaves}
 use Rattle.bureau_program.specs.Served.{KeepsServed}
-use Rattle.bureau_program.specs.Runs.{AreFoundAs, AreFoundBy, AreJoined, AreOneCourse, AreRuns, AreRunsIn, AreRunsOver, FileRun, GoesOn, HasMade, HoldAfter, HoldSinceInit, IsRunOver, MayStand, Other, Run, Serves, Sets, StandsBy, as_made, left_by, stages_of}
+use Rattle.bureau_program.specs.Runs.{AreCallsIn, AreCoursesOn, AreFoundAs, AreFoundBy, AreJoined, AreOneCourse, AreRuns, AreRunsIn, AreRunsOver, FileRun, GoesOn, HasMade, HasSet, HaveThePublisher, HoldAfter, HoldSinceInit, IsRunOver, MayStand, Other, Run, Serves, Sets, StandsBy, as_made, left_by, stages_of}
 use Rattle.store_runs.specs.Ended.{IsNothing}
 use Rattle.store_runs.specs.declared.ended.Ended.{Ended}
 use Rattle.store_runs.specs.declared.ended.Ended.TheVariants.{Nothing, Left, Closed}
 use Rattle.store_runs.proofs.StayFacts.{kept_tables}
+use Rattle.bureau_program.proofs.AloneFacts.{alone_throughout}
 use Rattle.bureau_program.proofs.KeepingFacts.{in_order}
-use Rattle.bureau_program.proofs.StayingFacts.{all_have, has_the_publisher, publisher_stays}
+use Rattle.bureau_program.proofs.StayingFacts.{all_have, found_have, has_the_publisher, publisher_stays, sets_have, still_has}
 
 not_asked : (caller : Caller) (call : Call) (this : Tables) → may_ask caller call ≡ false → outcome (view_of caller this) call ≡ answered forbidden
 not_asked caller call this refused =
@@ -149,7 +151,7 @@ one_course opening files [] this ordered within are = record {
   all = [];
   joined = refl;
   course = are;
-  alone = alone_in opening this [] ordered are;
+  alone = alone_throughout opening ordered this [] are;
   once = acts_once_in opening this [] are;
   stale = stays_stale_in opening this [] are;
   stays = λ has. tt;
@@ -162,48 +164,71 @@ one_course opening files (run ∷ runs) this ordered within are =
       all = it.0;
       joined = it.1;
       course = whole;
-      alone = alone_in opening this it.0 ordered whole;
+      alone = alone_throughout opening ordered this it.0 whole;
       once = acts_once_in opening this it.0 whole;
       stale = stays_stale_in opening this it.0 whole;
       stays = λ has. publisher_stays opening.callers it.0 has have;
     }
 
+-- ---- from each run on
+
+-- the next run finds the publisher, if the one before found it, or set callers
+next_has : (Had : Type 0) (file : FileRun) (run : Run) (at : Tables) → AreCallsIn file run → IsRun run.before run.calls run.closing → MayStand run at
+    → (Had → HaveThePublisher run.before.callers) → Had ⊎ HasSet run → HaveThePublisher at.callers
+next_has Had file run at within now stands has (inl had) =
+    let found = as_found run at now stands in
+    subst HaveThePublisher (sym (course_callers found.0 run.before at found.2))
+    (still_has run.before.callers found.0 (has had) (found_have run.callers run at found.0 (sets_have file run within) found.1))
+next_has Had file run at within now stands has (inr (rows, is, tells)) =
+    by (subst (λ (callers : Option (List CallerRow)). StandsBy callers run at) is stands)
+  where
+    by : LeavesSet rows run.outcome run.closing at → HaveThePublisher at.callers
+    by (inl kept) = absurd (kept.0 tells)
+    by (inr set) = subst (λ (this : Tables). HaveThePublisher this.callers) (sym set.1) (sets_have file run within rows is)
+
+courses_on : (Had : Type 0) (files : List FileRun) (runs : List Run) (this : Tables) (Begins : Tables → Type 0) → AreRunsIn files runs → AreRuns Begins runs this
+    → AllByRecursion (λ (run : Run). AreInOrder run.before) runs → ((at : Tables) → Begins at → Had → HaveThePublisher at.callers) → AreCoursesOn Had runs this
+courses_on Had files [] this Begins within are ordered has = has this are
+courses_on Had [] (run ∷ runs) this Begins within are ordered has = absurd within
+courses_on Had (file ∷ files) (run ∷ runs) this Begins within are ordered has = (
+  has run.before are.0,
+  one_course run.before (file ∷ files) (run ∷ runs) this ordered.0 within (refl, are.1, are.2),
+  courses_on (Had ⊎ HasSet run) files runs this (MayStand run) within.1 are.2 ordered.1 (λ at stands. next_has Had file run at within.0 are.1 stands (has run.before are.0)),
+)
+
 -- ---- over files
 
 -- what is left after all runs, by what the first one found
-all_held : (files : List FileRun) (from last : Image) (Begins : Tables → Type 0) → HoldTables from Begins → AreRunsOver from files last
-    → HoldTables last (λ this. (runs : List Run) × AreRunsIn files runs × AreRuns Begins runs this)
-all_held [] from last Begins held same = subst (λ (at : Image). HoldTables at (λ this. (runs : List Run) × AreRunsIn [] runs × AreRuns Begins runs this)) (sym same)
+abbrev AreHeld : (Tables → Type 0) → List FileRun → Tables → Type 0
+AreHeld Begins files this = (runs : List Run) × AreRunsIn files runs × AreRuns Begins runs this × AllByRecursion (λ (run : Run). AreInOrder run.before) runs
+
+one_held : (file : FileRun) (files : List FileRun) (from last : Image) (Begins : Tables → Type 0) (run : Run) → HoldsStore from run.before → Begins run.before → AreCallsIn file run
+    → IsRun run.before run.calls run.closing → HoldTables last (AreHeld (MayStand run) files) → HoldTables last (AreHeld Begins (file ∷ files))
+one_held file files from last Begins run holds begins within is rest = ∥∥₁_map rest (λ more.
+    let r : (this : Tables) × HoldsStore last this × AreHeld Begins (file ∷ files) this = (
+      more.0,
+      more.1,
+      (run ∷ more.2.0, (within, more.2.1), (begins, is, more.2.2), (in_order from run.before holds, more.2.3)),
+    ) in r)
+
+all_held : (files : List FileRun) (from last : Image) (Begins : Tables → Type 0) → HoldTables from Begins → AreRunsOver from files last → HoldTables last (AreHeld Begins files)
+all_held [] from last Begins held same = subst (λ (at : Image). HoldTables at (AreHeld Begins [])) (sym same)
     (∥∥₁_map held (λ it.
-    let r : (this : Tables) × HoldsStore from this × ((runs : List Run) × AreRunsIn [] runs × AreRuns Begins runs this) = (it.0, it.1, ([], tt, it.2)) in r))
+    let r : (this : Tables) × HoldsStore from this × AreHeld Begins [] this = (it.0, it.1, ([], tt, it.2, tt)) in r))
 all_held (Serves log log_after outcome left ∷ files) from last Begins held are = ∥∥₁_elim held squash₁ (λ it.
     let served = are.0 it.0 it.1 in
     let run : Run = record { before = it.0; calls = served.calls; closing = served.closing; outcome = outcome; callers = None } in
-    let rest = all_held files left last (MayStand run) (served.left left refl) are.1 in
-    ∥∥₁_map rest (λ more.
-    let r : (this : Tables) × HoldsStore last this × ((runs : List Run) × AreRunsIn (Serves log log_after outcome left ∷ files) runs × AreRuns Begins runs this) = (
-      more.0,
-      more.1,
-      (run ∷ more.2.0, ((refl, refl, served.made), more.2.1), (it.2, served.run, more.2.2)),
-    ) in r))
+    one_held (Serves log log_after outcome left) files from last Begins run it.1 it.2 (refl, refl, served.made) served.run
+    (all_held files left last (MayStand run) (served.left left refl) are.1))
 all_held (Sets rows outcome left ∷ files) from last Begins held are = ∥∥₁_elim held squash₁ (λ it.
     let run : Run = record { before = it.0; calls = []; closing = it.0; outcome = outcome; callers = Some rows } in
-    ∥∥₁_map (all_held files left last (MayStand run) (are.0.1 it.0 it.1) are.1) (λ more.
-    let r : (this : Tables) × HoldsStore last this × ((runs : List Run) × AreRunsIn (Sets rows outcome left ∷ files) runs × AreRuns Begins runs this) = (
-      more.0,
-      more.1,
-      (run ∷ more.2.0, ((refl, refl, refl, are.0.0), more.2.1), (it.2, refl, more.2.2)),
-    ) in r))
+    one_held (Sets rows outcome left) files from last Begins run it.1 it.2 (refl, refl, refl, are.0.0) refl
+    (all_held files left last (MayStand run) (are.0.1 it.0 it.1) are.1))
 all_held (Other left ∷ files) from last Begins held are = ∥∥₁_elim held squash₁ (λ it.
     let run : Run = record { before = it.0; calls = []; closing = it.0; outcome = None; callers = None } in
     let stays = ∥∥₁_map (are.0 it.0 it.1) (λ now.
     let r : (this : Tables) × HoldsStore left this × MayStand run this = (now.0, now.1, inl now.2) in r) in
-    ∥∥₁_map (all_held files left last (MayStand run) stays are.1) (λ more.
-    let r : (this : Tables) × HoldsStore last this × ((runs : List Run) × AreRunsIn (Other left ∷ files) runs × AreRuns Begins runs this) = (
-      more.0,
-      more.1,
-      (run ∷ more.2.0, ((refl, refl), more.2.1), (it.2, refl, more.2.2)),
-    ) in r))
+    one_held (Other left) files from last Begins run it.1 it.2 (refl, refl) refl (all_held files left last (MayStand run) stays are.1))
 
 -- from such tables
 pub held_after : (opening : Tables) (image : Image) → HoldTables image (λ this. this ≡ opening)
@@ -211,11 +236,11 @@ pub held_after : (opening : Tables) (image : Image) → HoldTables image (λ thi
 held_after opening image held files last are = ∥∥₁_elim held squash₁ (λ it.
     let ordered : AreInOrder opening = subst AreInOrder it.2 (in_order image it.0 it.1) in
     ∥∥₁_map (all_held files image last (λ this. this ≡ opening) held are) (λ more.
-    let r : (this : Tables) × HoldsStore last this × ((runs : List Run) × AreRunsIn files runs × AreRuns (λ at. at ≡ opening) runs this × AreOneCourse opening runs this) = (
-      more.0,
-      more.1,
-      (more.2.0, more.2.1, more.2.2, one_course opening files more.2.0 more.0 ordered more.2.1 more.2.2),
-    ) in r))
+    let course = one_course opening files more.2.0 more.0 ordered more.2.1 more.2.2 in
+    let on = courses_on (HaveThePublisher opening.callers) files more.2.0 more.0 (λ at. at ≡ opening) more.2.1 more.2.2 more.2.3
+    (λ at same has. subst (λ (this : Tables). HaveThePublisher this.callers) (sym same) has) in
+    let r : (this : Tables) × HoldsStore last this × ((runs : List Run) × AreRunsIn files runs × AreRuns (λ at. at ≡ opening) runs this × AreOneCourse opening runs this
+    × AreCoursesOn (HaveThePublisher opening.callers) runs this) = (more.0, more.1, (more.2.0, more.2.1, more.2.2, course, on)) in r))
 
 -- from the store that `init` made
 pub held_since : (source : List ℕ) (image : Image) → HoldCallers source image → (files : List FileRun) (last : Image) → AreRunsOver image files last

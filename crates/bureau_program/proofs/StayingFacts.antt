@@ -13,7 +13,7 @@ use Rattle.bureau_store.specs.declared.fault.CallerFault.{CallerFault}
 use Rattle.bureau_store.specs.declared.fault.CallerFault.TheVariants.{NoPublisher}
 use Rattle.zone_lists.specs.Lists.{answer, records_of}
 use Rattle.zone_lists.specs.declared.fault.ListFault.{ListFault}
-use Rattle.bureau.specs.Course.{Called, Callers, Stage, Stays}
+use Rattle.bureau.specs.Course.{Called, Callers, Stage, Stays, callers_after}
 use Rattle.bureau.specs.Joint.{CallBy}
 use Rattle.bureau_program.specs.Runs.{AreCallsIn, AreFoundBy, AreJoined, AreRunsIn, FileRun, HaveThePublisher, Other, Run, Serves, Sets, found_next, stages_of}
 use Rattle.store_runs.specs.Desk.{AreRowsOf}
@@ -59,6 +59,12 @@ publisher_stays callers [] has all = tt
 publisher_stays callers (Called call_by ∷ stages) has all = publisher_stays callers stages has all
 publisher_stays callers (Callers rows ∷ stages) has all = ((has, all.0), publisher_stays rows stages all.0 all.1)
 
+-- who had the publisher has it after them
+pub still_has : (callers : List CallerRow) (stages : List Stage) → HaveThePublisher callers → AllHave stages → HaveThePublisher (callers_after callers stages)
+still_has callers [] has all = has
+still_has callers (Called call_by ∷ stages) has all = still_has callers stages has all
+still_has callers (Callers rows ∷ stages) has all = still_has rows stages all.0 all.1
+
 both_have : (first later : List Stage) → AllHave first → AllHave later → AllHave (first ++ later)
 both_have [] later one two = two
 both_have (Called call_by ∷ first) later one two = both_have first later one two
@@ -69,7 +75,7 @@ calls_have [] = tt
 calls_have (call_by ∷ calls) = calls_have calls
 
 -- of one run
-found_have : (callers : Option (List CallerRow)) (run : Run) (next : Tables) (found : List Stage) → ((rows : List CallerRow) → callers ≡ Some rows → HaveThePublisher rows)
+pub found_have : (callers : Option (List CallerRow)) (run : Run) (next : Tables) (found : List Stage) → ((rows : List CallerRow) → callers ≡ Some rows → HaveThePublisher rows)
     → AreFoundBy callers run next found → AllHave found
 found_have None run next found all (inl same) = subst AllHave (sym same.1) (calls_have run.calls)
 found_have None run next found all (inr (device, made)) = subst AllHave (sym made.2) (calls_have made.0)
@@ -78,7 +84,7 @@ found_have (Some rows) run next found all (inl set) =
 found_have (Some rows) run next found all (inr kept) = subst AllHave (sym kept.2) (calls_have run.calls)
 
 -- the callers that a run sets are those of a callers file
-sets_have : (file : FileRun) (run : Run) → AreCallsIn file run → (rows : List CallerRow) → run.callers ≡ Some rows → HaveThePublisher rows
+pub sets_have : (file : FileRun) (run : Run) → AreCallsIn file run → (rows : List CallerRow) → run.callers ≡ Some rows → HaveThePublisher rows
 sets_have (Serves log log_after outcome left) run are rows is =
     absurd (let other : ◌≡◌ {A = Option (List CallerRow)} None (Some rows) = sym are.1 ∙ is in cc)
 sets_have (Sets set outcome left) run are rows is =

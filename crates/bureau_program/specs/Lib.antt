@@ -1,5 +1,6 @@
 pub mod Program
 pub mod Replay
 pub mod Runs
+pub mod RunsAlone
 pub mod Served
 pub mod Serving

@@ -7,7 +7,7 @@ use Rattle.bureau_store.specs.Tables.{Tables, opened}
 use Rattle.bureau_store.specs.declared.caller.Caller.TheVariants.{Publisher}
 use Rattle.bureau_store.specs.declared.caller.CallerRow.{CallerRow}
 use Rattle.bureau_store.specs.declared.fault.StoreFault.TheVariants.{Device}
-use Rattle.bureau.specs.Course.{ActsOnceIn, Called, Callers, IsAloneWhereItStays, IsCourse, Stage, Stays, StaysStaleIn}
+use Rattle.bureau.specs.Course.{ActsOnceIn, Called, Callers, IsCourse, Stage, Stays, StaysStaleIn}
 use Rattle.bureau.specs.Joint.{CallBy, IsRun}
 use Rattle.bureau.specs.Kept.{TellNothing, tables_with}
 use Rattle.bureau.specs.Outcome.{answer_of, no_room, outcome}
@@ -19,6 +19,7 @@ use Rattle.sqlite_wal.specs.Recovery.{Image}
 use Rattle.store_runs.specs.Callers.{LeavesSet, MayHaveSet, TellsSet}
 use Rattle.store_runs.specs.Desk.{AreRowsOf, of_store}
 use Rattle.store_runs.specs.Keeping.{EndsWell, HoldCallers, Leaves}
+use Rattle.bureau_program.specs.RunsAlone.{IsAloneThroughout}
 use Rattle.bureau_program.specs.Served.{HasFailed, IsServedFrom, MayFollow}
 use Rattle.store_runs.specs.declared.ended.Ended.{Ended}
 
@@ -144,15 +145,14 @@ AreJoined (run ∷ runs) this all =
 abbrev pub HaveThePublisher : List CallerRow → Type 0
 HaveThePublisher rows = has_name rows publisher_name ≡ true
 
--- The stages of all runs together are one course of the bureau, to these tables. So each reply to a caller who stays, other
--- than 503, is that of a bureau which got only some of the calls of all runs before. These are the publisher's and that
--- caller's own, without those told 503, and perhaps the one on its way at each stop. If no run sets callers, this is so for
--- every caller.
+-- The stages of all runs together are one course of the bureau, to these tables. So each reply to a caller, other than 503, is that
+-- of a bureau which got only some of the calls of all runs before. These are the publisher's and that caller's own since it came,
+-- without those told 503, and perhaps the one on its way at each stop. If no run sets callers, this is so for every caller.
 pub record AreOneCourse (opening : Tables) (runs : List Run) (this : Tables) : Type 0 where
   pub all : List Stage
   pub joined : AreJoined runs this all
   pub course : IsCourse opening all this
-  pub alone : IsAloneWhereItStays opening all
+  pub alone : IsAloneThroughout opening all
   -- A change acts once, in whichever run it comes again, as long as its caller stays. So does one that was told 503 at a stop, and
   -- was made: it stands among the stages with the answer that it would have had.
   pub once : ActsOnceIn opening all this
@@ -160,13 +160,25 @@ pub record AreOneCourse (opening : Tables) (runs : List Run) (this : Tables) : T
   -- The publisher stays, if it was there in the beginning, since each callers file has it.
   pub stays : HaveThePublisher opening.callers → Stays Publisher opening.callers all
 
+-- the run set callers, as its end tells
+abbrev pub HasSet : Run → Type 0
+HasSet run = (rows : List CallerRow) × (run.callers ≡ Some rows) × TellsSet run.outcome
+
+-- Each run and those after it are one course too, from the tables that it found. If the publisher was there in the beginning
+-- (`Had`), or once a run has set callers, each later run found the publisher; and it is there in the end.
+abbrev pub AreCoursesOn : Type 0 → List Run → Tables → Type 0
+AreCoursesOn Had [] this = Had → HaveThePublisher this.callers
+AreCoursesOn Had (run ∷ runs) this =
+    (Had → HaveThePublisher run.before.callers) × AreOneCourse run.before (run ∷ runs) this × AreCoursesOn (Had ⊎ HasSet run) runs this
+
 -- ---- from one run to the next
 
 -- The files hold the bureau's own store, with the tables to which the calls of all these runs lead. Each run found the tables that the
 -- one before left, so it knew the callers of those by their tokens, and no others.
 abbrev pub HoldAfter : Tables → List FileRun → Image → Type 0
 HoldAfter opening files image = HoldTables image (λ this.
-    (runs : List Run) × AreRunsIn files runs × AreRuns (λ at. at ≡ opening) runs this × AreOneCourse opening runs this)
+    (runs : List Run) × AreRunsIn files runs × AreRuns (λ at. at ≡ opening) runs this × AreOneCourse opening runs this
+    × AreCoursesOn (HaveThePublisher opening.callers) runs this)
 
 -- The same, if `init` made the store with the callers of this file, the publisher among them, before the first of them.
 abbrev pub HoldSinceInit : List ℕ → List FileRun → Image → Type 0
