@@ -14,7 +14,7 @@ use Rattle.bureau.specs.Course.{Called, Callers, IsCourse, IsInBoth, Stage, Stay
 use Rattle.bureau.specs.Joint.{CallBy, IsStep, tables_left}
 use Rattle.bureau.specs.Outcome.{Answer, Outcome, accepted, answer_of, answered, no_room, outcome}
 use Rattle.bureau.specs.Own.{Accepted, Asked, Opening, accepted_in, own_answer}
-use Rattle.bureau.specs.View.{View, view_of}
+use Rattle.bureau.specs.View.{view_of}
 use Rattle.bureau.proofs.AgreesFacts.{Agrees, agrees_at_first, call_agrees, call_alone, history_after, history_more, with_call}
 use Rattle.bureau.proofs.CourseFacts.{course_callers, split_course, stays}
 use Rattle.bureau.proofs.RunFacts.{step_callers}
@@ -41,13 +41,14 @@ agrees_with viewer opening changes now rows publisher still agrees = record {
   content = agrees.content;
   publisher = agrees.publisher ∙ sym (ap (λ (b : Bool). if b then no_change else now.last Publisher) (stays Publisher now.callers rows publisher));
   own = agrees.own ∙ sym (ap (λ (b : Bool). if b then no_change else now.last viewer) still);
-  zones = λ name is. agrees.zones name is ∙ sym (ap (λ (b : Bool). if b then [] else now.zones name) (named name is));
-  received = λ name is. agrees.received name is ∙ sym (ap (λ (b : Bool). if b then [] else now.received name) (named name is));
+  zones = λ name is.
+      let named = subst (λ caller. comes_or_goes now.callers rows (name_of caller) ≡ false) is still in
+      agrees.zones name is ∙ sym (ap (λ (b : Bool). if b then [] else now.zones name) named);
+  received = λ name is.
+      let named = subst (λ caller. comes_or_goes now.callers rows (name_of caller) ≡ false) is still in
+      agrees.received name is ∙ sym (ap (λ (b : Bool). if b then [] else now.received name) named);
   kept = agrees.kept;
 }
-  where
-    named : (name : List ℕ) → viewer ≡ Client name → comes_or_goes now.callers rows name ≡ false
-    named name is = ap (λ caller. comes_or_goes now.callers rows (name_of caller)) (sym is) ∙ still
 
 -- from tables that agree with a history on, a caller who stays is answered as if alone
 alone_on : (viewer : Caller) (opening : Opening) (stages : List Stage) (history : List Asked) (now at : Tables) (call_by : CallBy) (next : Tables)
@@ -225,10 +226,9 @@ module _ (name : List ℕ) (opening : Tables) where
       named other is = cc
 
 -- who is among the second callers alone comes
-comes_so : (a b : Bool) → a ≡ false → b ≡ true → ((b && not a) || (a && not b)) ≡ true
-comes_so true b none there = cc
-comes_so false true none there = refl
-comes_so false false none there = cc
+comes : (callers rows : List CallerRow) (name : List ℕ) → has_name callers name ≡ false → has_name rows name ≡ true → comes_or_goes callers rows name ≡ true
+comes callers rows name none there =
+    ap (λ (a : Bool). (has_name rows name && not a) || (a && not (has_name rows name))) none ∙ ap (λ (b : Bool). (b && true) || (false && not b)) there
 
 -- ---- of a course
 
@@ -257,7 +257,7 @@ module _ (opening : Tables) (ordered : AreInOrder opening) where
       (bare_first name opening ordered) in
       let earlier : List Asked = history_after Publisher (calls_in come.earlier) [] in
       let agrees = subst (Agrees (Client name) (opening_of_newcomer opening) (accepted_in (opening_of_newcomer opening) earlier)) (sym same)
-      (has_come name opening earlier parts.0 come.rows both.0 (comes_so (has_name parts.0.callers name) (has_name come.rows name) none come.is_one) bare) in
+      (has_come name opening earlier parts.0 come.rows both.0 (comes parts.0.callers come.rows name none come.is_one) bare) in
       let own = subst (λ (this : Tables). Stays viewer this.callers come.since) (sym same) come.stays in
       let answer = alone_on viewer (opening_of_newcomer opening) come.since earlier parts.2.0 at call_by next
       (subst (λ who. Agrees who (opening_of_newcomer opening) (accepted_in (opening_of_newcomer opening) earlier) parts.2.0) (sym come.viewer_is) agrees)

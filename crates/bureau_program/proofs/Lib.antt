@@ -1,4 +1,5 @@
 mod AloneFacts
+mod BeginFacts
 pub mod KeepingFacts
 pub mod OpensFacts
 mod ReadFacts

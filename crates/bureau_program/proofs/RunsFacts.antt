@@ -23,7 +23,7 @@ use Rattle.connections.specs.Rounds.{Log}
 use Rattle.bureau_sql.specs.Files.{HoldTables, HoldsStore}
 use Rattle.sqlite_disk.specs.declared.Disk as disk
 use Rattle.sqlite_wal.specs.Recovery.{Image}
-use Rattle.store_runs.specs.Callers.{KeepsCallers, LeavesSet, MayHaveSet, TellsSet}
+use Rattle.store_runs.specs.Callers.{KeepsCallers, LeavesSet, MayHaveSet}
 use Rattle.store_runs.specs.Desk.{AreRowsOf}
 use Rattle.store_runs.specs.Keeping.{EndsWell, HoldCallers, KeepsTables, Leaves}
 use Rattle.bureau_program.specs.Served.{KeepsServed}

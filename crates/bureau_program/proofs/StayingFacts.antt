@@ -30,12 +30,15 @@ any_found {A} {B} p f (x ∷ xs) some = elim (cases_Bool (p x)) [
       ∙ any_found p f xs (sym (ap (λ it. it || list_any p xs) other) ∙ some)
 ]
 
+pub among : (rows : List CallerRow) → has_publisher rows ≡ true → HaveThePublisher rows
+among rows there = any_found (λ (row : CallerRow). is_publisher row.name) (λ (row : CallerRow). row.token) rows there
+
 was_there : (found rows : List CallerRow) → with_publisher (Ok found) ≡ Ok rows → HaveThePublisher rows
 was_there found rows is = elim (cases_Bool (has_publisher found)) [
   | inl there ↦
       let same : ◌≡◌ {A = Result (List CallerRow) CallerFault} (Ok found) (Ok rows) = sym (ap (λ it. if it then Ok found else Err NoPublisher) there) ∙ is in
       let one : found ≡ rows = cc in
-      subst HaveThePublisher one (any_found (λ (row : CallerRow). is_publisher row.name) (λ (row : CallerRow). row.token) found there)
+      subst HaveThePublisher one (among found there)
   | inr none ↦ absurd (let other : ◌≡◌ {A = Result (List CallerRow) CallerFault} (Err NoPublisher) (Ok rows) = sym (ap (λ it. if it then Ok found else Err NoPublisher) none) ∙ is in cc)
 ]
 
