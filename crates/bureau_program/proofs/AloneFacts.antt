@@ -1,5 +1,5 @@
 -- Each caller alone over a course, also one who came in it.
-use Rattle.std.proofs.Common.{◌≡◌, ◌⊎◌, ◌∙◌, ◌&&◌, ◌||◌, ℕ, not, Bool, true, false, List, [], ◌∷◌, ◌++◌, ap, append-nil, inl, inr, refl, subst, sym}
+use Rattle.std.proofs.Common.{Err, Ok, ◌≡◌, ◌⊎◌, ◌∙◌, ◌&&◌, ◌||◌, ℕ, not, Bool, true, false, List, [], ◌∷◌, ◌++◌, ap, append-nil, inl, inr, refl, subst, sym}
 use Rattle.std.specs.Prelude.{◌+◌, if◌then◌else◌}
 use Rattle.std.specs.List.Sorted.{IsStrictlySortedBy}
 use Rattle.bureau_store.specs.Caller.{is_caller}
@@ -18,7 +18,9 @@ use Rattle.bureau.specs.View.{view_of}
 use Rattle.bureau.proofs.AgreesFacts.{Agrees, agrees_at_first, call_agrees, call_alone, history_after, history_more, with_call}
 use Rattle.bureau.proofs.CourseFacts.{course_callers, split_course, stays}
 use Rattle.bureau.proofs.RunFacts.{step_callers}
-use Rattle.bureau_program.specs.RunsAlone.{HasCome, IsAloneThroughout}
+use Rattle.bureau_http.specs.Asked.{What}
+use Rattle.bureau_http.specs.Exchange.{call_from, exchange_text}
+use Rattle.bureau_program.specs.RunsAlone.{AreOwnReplies, HasCome, IsAloneThroughout}
 
 -- ---- who stays
 
@@ -281,3 +283,24 @@ module _ (opening : Tables) (ordered : AreInOrder opening) where
           (subst (λ o. (call_by.answer ≡ no_room) ⊎ (call_by.answer ≡ own_answer o (own_history call_by.caller (calls_in before)) call_by.caller call_by.call)) (sym always.1)
           (from_first before at call_by next course step there always.0))
       by at next course step there (inr come) = from_coming before at call_by next course step there found history come
+
+-- ---- to the byte
+
+-- the call that a request made has its answer
+same_answer : (what : What) (answer : Answer) (call_by : CallBy) → call_from what answer ≡ call_by ∷ [] → answer ≡ call_by.answer
+same_answer (Ok call) answer call_by is =
+    let one : ◌≡◌ {A = CallBy} (record { caller = call.0; call = call.1; answer = answer }) call_by = cc in ap (λ (it : CallBy). it.answer) one
+same_answer (Err refusal) answer call_by is = absurd (cc)
+
+pub own_replies : (opening : Tables) (stages : List Stage) → IsAloneThroughout opening stages → AreOwnReplies opening stages
+own_replies opening stages alone before exchange call_by after found history are makes publisher counts =
+    by (alone before call_by after found history are publisher counts)
+  where
+    same : exchange.answer ≡ call_by.answer
+    same = same_answer exchange.asked.what exchange.answer call_by makes
+
+    by : (call_by.answer ≡ no_room) ⊎ (call_by.answer ≡ own_answer found history call_by.caller call_by.call)
+        → (exchange.answer ≡ no_room)
+        ⊎ (exchange_text exchange ≡ exchange_text (record { asked = exchange.asked; answer = own_answer found history call_by.caller call_by.call }))
+    by (inl none) = inl (same ∙ none)
+    by (inr own) = inr (ap (λ answer. exchange_text (record { asked = exchange.asked; answer = answer })) (same ∙ own))

@@ -32,7 +32,7 @@ use Rattle.store_runs.specs.Ended.{IsNothing}
 use Rattle.store_runs.specs.declared.ended.Ended.{Ended}
 use Rattle.store_runs.specs.declared.ended.Ended.TheVariants.{Nothing, Left, Closed}
 use Rattle.store_runs.proofs.StayFacts.{kept_tables}
-use Rattle.bureau_program.proofs.AloneFacts.{alone_throughout}
+use Rattle.bureau_program.proofs.AloneFacts.{alone_throughout, own_replies}
 use Rattle.bureau_program.proofs.KeepingFacts.{in_order}
 use Rattle.bureau_program.proofs.StayingFacts.{all_have, found_have, has_the_publisher, publisher_stays, sets_have, still_has}
 
@@ -152,6 +152,7 @@ one_course opening files [] this ordered within are = record {
   joined = refl;
   course = are;
   alone = alone_throughout opening ordered this [] are;
+  bytes = own_replies opening [] (alone_throughout opening ordered this [] are);
   once = acts_once_in opening this [] are;
   stale = stays_stale_in opening this [] are;
   stays = λ has. tt;
@@ -165,6 +166,7 @@ one_course opening files (run ∷ runs) this ordered within are =
       joined = it.1;
       course = whole;
       alone = alone_throughout opening ordered this it.0 whole;
+      bytes = own_replies opening it.0 (alone_throughout opening ordered this it.0 whole);
       once = acts_once_in opening this it.0 whole;
       stale = stays_stale_in opening this it.0 whole;
       stays = λ has. publisher_stays opening.callers it.0 has have;

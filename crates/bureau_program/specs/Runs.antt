@@ -19,7 +19,7 @@ use Rattle.sqlite_wal.specs.Recovery.{Image}
 use Rattle.store_runs.specs.Callers.{LeavesSet, MayHaveSet, TellsSet}
 use Rattle.store_runs.specs.Desk.{AreRowsOf, of_store}
 use Rattle.store_runs.specs.Keeping.{EndsWell, HoldCallers, Leaves}
-use Rattle.bureau_program.specs.RunsAlone.{IsAloneThroughout}
+use Rattle.bureau_program.specs.RunsAlone.{AreOwnReplies, IsAloneThroughout}
 use Rattle.bureau_program.specs.Served.{HasFailed, IsServedFrom, MayFollow}
 use Rattle.store_runs.specs.declared.ended.Ended.{Ended}
 
@@ -153,6 +153,7 @@ pub record AreOneCourse (opening : Tables) (runs : List Run) (this : Tables) : T
   pub joined : AreJoined runs this all
   pub course : IsCourse opening all this
   pub alone : IsAloneThroughout opening all
+  pub bytes : AreOwnReplies opening all
   -- A change acts once, in whichever run it comes again, as long as its caller stays. So does one that was told 503 at a stop, and
   -- was made: it stands among the stages with the answer that it would have had.
   pub once : ActsOnceIn opening all this

@@ -1,5 +1,5 @@
 -- Each caller alone, over all runs: also one who came between two of them, or went.
-use Rattle.std.specs.Prelude.{◌≡◌, ◌⊎◌, ℕ, true, false, List, ◌∷◌, ◌++◌}
+use Rattle.std.specs.Prelude.{◌≡◌, ◌⊎◌, ℕ, true, false, List, [], ◌∷◌, ◌++◌}
 use Rattle.bureau_store.specs.SetCallers.{has_name}
 use Rattle.bureau_store.specs.Tables.{Tables}
 use Rattle.bureau_store.specs.declared.caller.Caller.{Caller}
@@ -10,6 +10,7 @@ use Rattle.bureau.specs.Course.{Called, Callers, Stage, Stays, callers_after, ca
 use Rattle.bureau.specs.Joint.{CallBy}
 use Rattle.bureau.specs.Outcome.{no_room}
 use Rattle.bureau.specs.Own.{Asked, Opening, own_answer}
+use Rattle.bureau_http.specs.Exchange.{Exchange, call_in, exchange_text}
 
 -- A client came with callers that were set, and has stayed since. It found what is published and nothing of its own, whoever had its
 -- name before. Its own calls count from then on, and those of the publisher from the beginning on.
@@ -39,3 +40,12 @@ IsAloneThroughout opening stages =
     (before : List Stage) (call_by : CallBy) (after : List Stage) (found : Opening) (history : List Asked) →
     stages ≡ before ++ Called call_by ∷ after → Stays Publisher opening.callers before → CountsFor call_by.caller opening before found history →
     (call_by.answer ≡ no_room) ⊎ (call_by.answer ≡ own_answer found history call_by.caller call_by.call)
+
+-- And so are the bytes of the reply to each request that made such a call.
+abbrev pub AreOwnReplies : Tables → List Stage → Type 0
+AreOwnReplies opening stages =
+    (before : List Stage) (exchange : Exchange) (call_by : CallBy) (after : List Stage) (found : Opening) (history : List Asked) →
+    stages ≡ before ++ Called call_by ∷ after → call_in exchange ≡ call_by ∷ [] →
+    Stays Publisher opening.callers before → CountsFor call_by.caller opening before found history →
+    (exchange.answer ≡ no_room)
+    ⊎ (exchange_text exchange ≡ exchange_text (record { asked = exchange.asked; answer = own_answer found history call_by.caller call_by.call }))

@@ -92,7 +92,8 @@ pub fn what_a_copy_leaves<D: Start>(ended: &Ended<FileFrom<D>>, closed: &Ended<F
 /// If the log of a run is known, the calls of the run (`AreCallsOf`) are those that the rounds of the log ask for, and
 /// no others: it grew by just these rounds. If the run told 42, the last round may have had more events.
 pub fn which_calls()
-    ensures { (rows : List CallerRow) (before entries : List Entry) (calls : List CallBy) (outcome : Option AnyFault)
-        → (HasFailed outcome → ⊥) → AreCallsOf rows (Some before) (Some (before ++ entries)) (HasFailed outcome) calls
+    ensures { (rows : List CallerRow) (before entries : List Entry) (calls : List CallBy)
+        → (outcome : Option AnyFault) → (HasFailed outcome → ⊥)
+        → AreCallsOf rows (Some before) (Some (before ++ entries)) (HasFailed outcome) calls
         → AreAskedIn rows entries calls }
 {}

@@ -24,7 +24,7 @@ const BOTH: &str = "SYSMOD,STATE\nHBB7790,APPLIED\nUA10001,APPLIED\n";
 const FUNCTION: &str = "SYSMOD,STATE\nHBB7790,APPLIED\n";
 
 // A publication, zones, and the answers to each client before and after the next publication.
-static SCRIPT: [Exchange; 10] = [
+pub(crate) static SCRIPT: [Exchange; 10] = [
     (
         (PUBLISHER, "POST /publish", FIRST, BASE),
         (OK, "", "ACCEPTED SYSMODS 3 HOLDS 1 RELEASES 0\n"),

@@ -4,7 +4,7 @@ ghost use Rattle.sqlite_disk.specs.Memory.{memory_is_usable};
 
 use super::desk_tests::CALLERS;
 use super::surroundings::{Around, PortHas};
-use bureau_program::{Service, open_and_serve};
+use bureau_program::{Service, Surroundings, open_and_serve};
 use connections::RoundFault;
 use socket_desk::{Patience, SocketRounds};
 use sqlite::{Alter, Connection, FileStore, Files, Options};
@@ -32,7 +32,7 @@ fn connected(alloc: Global, db: Memory) -> Result<Connection<FileStore<Memory>>,
 }
 
 // A connection to a new file.
-fn fresh(alloc: Global) -> Result<Connection<FileStore<Memory>>, Fail>
+pub(super) fn fresh(alloc: Global) -> Result<Connection<FileStore<Memory>>, Fail>
     ensures { IfOk result (λ conn. conn.in_transaction ≡ false) }
 {
     connected(alloc, Memory::new(alloc))
@@ -56,8 +56,8 @@ fn init<S: Alter>(alloc: Global, conn: &mut Connection<S>, callers: &[u8]) -> Re
 }
 
 // The output of `serve` over a new store in this file, with so many connections, and its text on a fault.
-fn served<S: Alter + Drop>(
-    around: &mut Around<'_>,
+pub(super) fn served<U: Surroundings, S: Alter + Drop>(
+    around: &mut U,
     alloc: Global,
     conn: Connection<S>,
     connections: u32,
@@ -79,7 +79,7 @@ fn served<S: Alter + Drop>(
     Ok((told(alloc, status, &output, &none)?, errors))
 }
 
-const LISTENING: &str = "0 LISTENING 127.0.0.1:4711\n";
+pub(super) const LISTENING: &str = "0 LISTENING 127.0.0.1:4711\n";
 
 #[test]
 fn a_desk_serves_as_many_as_it_is_asked_to(rt: HostRuntime) -> Result<(), Fail> {
