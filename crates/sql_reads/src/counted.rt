@@ -35,10 +35,24 @@ pub fn counts<S: Alter>(conn: &mut Connection<S>) -> Result<(u64, u64), ReadFaul
         × (counts.1 ≡ length (tables_of stored).content.holds)) }
 {
     let sysmods = count(conn, read::sysmod_count(), &[])?;
-    match count(conn, read::hold_count(), &[]) {
+    match hold_count(conn) {
         Ok(holds) => Ok((sysmods, holds)),
         Err(fault) => Err(fault),
     }
+}
+
+/// Counts the holds of the book. It goes through all of them, and through nothing else.
+///
+/// # Errors
+///
+/// Those of [`ReadFault`].
+pub fn hold_count<S: Alter>(conn: &mut Connection<S>) -> Result<u64, ReadFault>
+    requires rest { conn.old.in_transaction ≡ false }
+    ensures mode { conn.new.in_transaction ≡ false }
+    ensures finds { Finds (state S.Store conn.old) (state S.Store conn.new) result
+        (λ stored count. count ≡ length (tables_of stored).content.holds) }
+{
+    count(conn, read::hold_count(), &[])
 }
 
 /// Counts the zones of a client.

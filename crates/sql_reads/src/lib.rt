@@ -6,7 +6,7 @@
 //! - [`all_callers`], [`caller_of`], [`last`]: callers, and the last change of each
 //! - [`zones`], [`zone_count`], [`has_zone`], [`zone`], [`zone_rows`], [`patterns`], [`received`]: the data of a
 //!   client; [`held_in`]: the holds on its SYSMODs
-//! - [`ids`], [`sysmod`], [`superseders`], [`holds`], [`holds_on`], [`counts`]: the published content
+//! - [`ids`], [`sysmod`], [`superseders`], [`holds`], [`holds_on`], [`counts`], [`hold_count`]: the published content
 //! - [`seen`], [`is_run`]: the records and holds of many SYSMODs at once
 //! - [`each_zone`], [`names_ascend`]: the zones in a client's rows
 //! - [`AllColumns`]: the text that shows all columns of a table
@@ -38,7 +38,7 @@ mod tables_version;
 mod zone_counts;
 
 pub use all_columns::AllColumns;
-pub use counted::{counts, zone_count};
+pub use counted::{counts, hold_count, zone_count};
 pub use entry::{Entry, Ordered, are_ascending, each, entries};
 pub use fault::ReadFault;
 pub use joins::{held_in, superseders, zone};
