@@ -3,6 +3,7 @@ pub mod CallersFacts
 pub mod RefusedFacts
 pub mod ToldFacts
 pub mod RecentFacts
+pub mod KeptFacts
 pub mod ChangedFacts
 pub mod SetCallersFacts
 pub mod CommitFacts

@@ -1,5 +1,5 @@
 -- What a store has read since its last change stays so over reads.
-use Rattle.std.proofs.Common.{◌≡◌, ◌∙◌, ◌⊎◌, ℕ, IfOk, IfSome, IsTrue, List, Ok, Option, Result, Some, ap, inl, inr, length, map, subst, sym}
+use Rattle.std.proofs.Common.{◌≡◌, ◌∙◌, ◌⊎◌, ℕ, IfOk, IfSome, IsTrue, List, None, Ok, Option, Result, Some, ap, inl, inr, length, map, subst, sym}
 use Rattle.std.specs.Global.{Vec}
 use Rattle.std.specs.List.{Contains}
 use Rattle.std.specs.Option.{option_map}
@@ -13,7 +13,7 @@ use Rattle.sql_tables.specs.Reading.{OnlyReads}
 use Rattle.zone_lists.specs.declared.zones.ZoneRow.{ZoneRow}
 use Rattle.sql_tables.specs.Stored.{Stored, tables_of}
 use Rattle.sql_tables.proofs.StopFacts.{was_clean}
-use Rattle.bureau_sql.specs.Recent.{AreCountsOf, AreReadFrom, AreZonesOf, HasMore, HasNew, IsBookOf, IsRecent, RecentLists}
+use Rattle.bureau_sql.specs.Recent.{AreCountsOf, AreReadFrom, AreZonesOf, HasMore, HasNew, HasNoMore, IsBookOf, IsRecent, RecentLists}
 
 -- what the committed rows are after a read, they were before
 module _ (old new : State) (reads : OnlyReads old new) (Fact : Stored → Type 0) where
@@ -27,6 +27,24 @@ module _ (old new : State) (reads : OnlyReads old new) (Fact : Stored → Type 0
 
 pub recent_after : (old new : State) (recent : RecentLists) → OnlyReads old new → IsRecent old recent → IsRecent new recent
 recent_after old new recent reads was = fact_after old new reads (λ stored. AreReadFrom (tables_of stored) recent) was
+
+-- some of it may be gone
+pub fewer_recent : (at : State) (old new : RecentLists) → HasNoMore old new → IsRecent at old → IsRecent at new
+fewer_recent at old new fewer was clean is_open ours =
+    let before = was clean is_open ours in
+    record {
+      tokens = λ read inside. before.tokens read (fewer.tokens read inside);
+      zones = λ read inside. before.zones read (fewer.zones read inside);
+      rows = λ read inside. before.rows read (fewer.rows read inside);
+      counts = subst (λ it. IfSome it (AreCountsOf (tables_of (held_by at.committed)))) (sym fewer.counts) before.counts;
+      book = subst (λ it. IfSome it (IsBookOf (tables_of (held_by at.committed)))) (sym fewer.book) before.book;
+    }
+
+-- what is read of those that are left, was there before
+pub read_before : {Answer Read : Type 0} (read_of : Answer → Read) (own new old : List Read) → own ≡ old → ((one : Read) → Contains new one → Contains own one)
+    → (result : Option Answer) → IfSome result (λ answer. Contains new (read_of answer)) → IfSome result (λ answer. Contains old (read_of answer))
+read_before read_of own new old same fewer (Some answer) inside = subst (λ list. Contains list (read_of answer)) same (fewer (read_of answer) inside)
+read_before read_of own new old same fewer None inside = tt
 
 -- ---- what a read adds
 

@@ -1,6 +1,7 @@
 -- The reads of a store since its last change, which it answers again.
 use Rattle.std.specs.Prelude.{◌≡◌, ◌⊎◌, ℕ, IfSome, IsTrue, List, [], None, Ok, Option, Result, Some, Contains, length, map}
 use Rattle.std.specs.Option.{option_map}
+use Rattle.lru.specs.LruCache.{LruCache}
 use Rattle.bureau_store.specs.Caller.{caller_with}
 use Rattle.bureau_store.specs.Tables.{Tables, zone_named}
 use Rattle.bureau_store.specs.declared.caller.Caller.{Caller}
@@ -9,6 +10,11 @@ use Rattle.sqlite.specs.State.{HasCleanDisk, State}
 use Rattle.sql_tables.specs.Ours.{IsOurs, held_by}
 use Rattle.sql_tables.specs.Stored.{tables_of}
 use Rattle.zone_lists.specs.declared.zones.ZoneRow.{ZoneRow}
+
+-- the values that a cache has
+abbrev pub values_in : {K V : Type 0} → Option (LruCache K V) → List V
+values_in None = []
+values_in (Some cache) = map (λ entry. entry.1) cache.entries
 
 -- whose token this is
 pub record TokenRead : Type 0 where
@@ -66,6 +72,14 @@ pub record AreReadFrom (tables : Tables) (recent : RecentLists) : Type 0 where
 -- Of an open connection whose database is ours, each is what the committed tables have.
 abbrev pub IsRecent : State → RecentLists → Type 0
 IsRecent at recent = HasCleanDisk at → IsTrue at.is_open → IsOurs at.committed → AreReadFrom (tables_of (held_by at.committed)) recent
+
+-- nothing but what was kept before
+pub record HasNoMore (old new : RecentLists) : Type 0 where
+  pub tokens : (read : TokenRead) → Contains new.tokens read → Contains old.tokens read
+  pub zones : (read : ZonesRead) → Contains new.zones read → Contains old.zones read
+  pub rows : (read : RowsRead) → Contains new.rows read → Contains old.rows read
+  pub counts : new.counts ≡ old.counts
+  pub book : new.book ≡ old.book
 
 -- those of before, and what was found now, if anything was
 abbrev pub HasMore : {Read Found Fault : Type 0} → (Found → Read → Type 0) → Result Found Fault → List Read → List Read → Type 0

@@ -14,13 +14,26 @@ const CATEGORIES: usize = 8 << 20;
 // Up to so many rows are joined with the holds before these are counted, which takes about as long.
 const FEW: u64 = 5_000;
 
+// To find the holds of a row takes as long as to read so many in their order.
+const ROW: u64 = 4;
+
+// What is known of how many holds are published. A client's change leaves it.
+#[derive(Clone, Copy)]
+enum Size {
+    Unknown,
+    Counted(u64),
+    // Their categories take more than the most bytes.
+    TooLarge,
+}
+
 /// All holds, if they were read since the last change. They are kept up to 40,000, and up to 8 MiB of categories: less
 /// than 16 MiB in all. A contract sees the holds. Beside them stands how many rows of zones were joined with the table
-/// of holds since.
+/// of holds since, and what is known of their number since the last publication.
 #[derive(Drop)]
 pub(crate) struct Book {
     holds: Option<Vec<Hold>>,
     joined: u64,
+    size: Size,
 }
 
 impl Model for Book {
@@ -43,10 +56,11 @@ impl Book {
         Book {
             holds: None,
             joined: 0,
+            size: Size::Unknown,
         }
     }
 
-    /// Forgets them.
+    /// Forgets them, and not how many they are.
     pub(crate) fn forget(&mut self)
         ensures { self.new ≡ None }
     {
@@ -54,7 +68,8 @@ impl Book {
         self.joined = 0;
     }
 
-    /// Keeps these holds, unless they are too many. Joins are counted anew.
+    /// Keeps these holds, unless they are too many: then they aren't wanted until the next publication. Joins are
+    /// counted anew.
     pub(crate) fn keep(&mut self, holds: Vec<Hold>)
         requires { IsInKeyOrder holds.items }
         ensures { (self.new ≡ self.old) ⊎ (self.new ≡ Some holds.items) }
@@ -62,6 +77,8 @@ impl Book {
         self.joined = 0;
         if fits(holds.as_slice()) {
             self.holds = Some(holds);
+        } else {
+            self.size = Size::TooLarge;
         }
     }
 
@@ -90,15 +107,47 @@ impl Book {
         self.joined = self.joined.saturating_add(rows as u64);
     }
 
-    /// Whether the holds aren't kept, and so many rows were joined with them that they should be counted.
+    /// Whether the holds aren't kept, and so many rows were joined with them that they should be counted. Those that
+    /// are known to be too many aren't wanted.
     pub(crate) fn is_wanted(&self) -> bool {
-        self.holds.is_none() && self.joined >= FEW
+        self.holds.is_none() && self.joined >= FEW && !matches!(self.size, Size::TooLarge)
     }
 
-    /// Whether to read so many holds costs no more than the joins did. To find the holds of a row takes as long as to
-    /// read four in their order.
+    /// Whether to read so many holds costs no more than the joins did.
     pub(crate) fn is_worth(&self, holds: u64) -> bool {
-        holds <= MOST && holds <= self.joined.saturating_mul(4)
+        holds <= MOST && holds <= self.joined.saturating_mul(ROW)
+    }
+
+    /// Whether the holds are kept, and to go through them costs no more than to join so many rows with them.
+    pub(crate) fn is_better(&self, rows: usize) -> bool {
+        match &self.holds {
+            Some(holds) => holds.len() as u64 <= (rows as u64).saturating_mul(ROW),
+            None => false,
+        }
+    }
+}
+
+impl Book {
+    /// How many holds there are, if they were counted.
+    pub(crate) fn count(&self) -> Option<u64> {
+        match self.size {
+            Size::Counted(count) => Some(count),
+            _ => None,
+        }
+    }
+
+    /// Keeps how many there are.
+    pub(crate) fn keep_count(&mut self, count: u64)
+        ensures { self.new ≡ self.old }
+    {
+        self.size = Size::Counted(count);
+    }
+
+    /// Forgets how many there are.
+    pub(crate) fn forget_count(&mut self)
+        ensures { self.new ≡ self.old }
+    {
+        self.size = Size::Unknown;
     }
 }
 

@@ -1,85 +1,42 @@
 //! A cache of what a store has read since its last change. It answers that again, so that a client that asks often
 //! costs little.
-ghost use Rattle.std.specs.Prelude.{◌≡◌, ◌⊎◌, Contains, IfOk, IfSome, Some, map, option_map};
+ghost use Rattle.std.specs.Prelude.{◌≡◌, Contains, IfOk, IfSome, Some, map, option_map};
 ghost use Rattle.std.specs.Result.{result_map_both};
-ghost use Rattle.bureau_sql.specs.Recent.{HasMore, HasNew, nothing_read};
+ghost use Rattle.bureau_sql.specs.Recent.{HasMore, HasNew, HasNoMore, nothing_read};
 ghost use Rattle.bureau_store.specs.Caller.{IsProper};
 ghost use Rattle.bureau_store.specs.Tables.{NamesAscend};
 ghost use Rattle.holddata.specs.HoldBook.{IsInKeyOrder};
 ghost use Rattle.zone_lists.specs.ZoneList.{RowsAscend};
 
 use crate::book::Book;
-use bureau_store::Caller;
+use crate::kept::Kept;
+use crate::reads::{RowsRead, TokenRead, ZonesRead};
+use bureau_store::{Caller, Effect};
 use holddata::Hold;
 use mcs_reader::Id;
 use sql_reads::ReadFault;
 use std::alloc::Global;
+use std::hash::{BuildHasher, BuildHasherDefault, FoldHasher};
 use std::marker::Model;
 use zone_lists::ZoneRow;
 
-// The number of answers of each kind that are kept.
-const MOST: usize = 16;
+// The most bytes that the answers of each kind take together, as they are counted: 64 MiB in all.
+const TOKENS: usize = 4 << 20;
 
-#[derive(Drop)]
-struct TokenRead {
-    token: Vec<u8>,
-    caller: Caller,
-}
+const ZONES: usize = 12 << 20;
 
-impl Model for TokenRead {
-    ghost use Rattle.bureau_sql.specs.Recent.{TokenRead};
-    ghost use Rattle.bureau_store.specs.Caller.{IsProper};
+const ROWS: usize = 48 << 20;
 
-    ghost Value = { TokenRead };
-
-    ghost view = { λ read. record { token = read.token.items; caller = read.caller } };
-
-    ghost invariant = { λ read. IsProper read.caller };
-}
-
-#[derive(Drop)]
-struct ZonesRead {
-    client: Id,
-    zones: Vec<(Id, u64)>,
-}
-
-impl Model for ZonesRead {
-    ghost use Rattle.std.specs.Prelude.{map};
-    ghost use Rattle.bureau_sql.specs.Recent.{ZonesRead};
-    ghost use Rattle.bureau_store.specs.Tables.{NamesAscend};
-
-    ghost Value = { ZonesRead };
-
-    ghost view = { λ read. record { client = read.client; zones = read.zones.items } };
-
-    ghost invariant = { λ read. NamesAscend (map (λ zone. zone.0) read.zones.items) };
-}
-
-#[derive(Drop)]
-struct RowsRead {
-    client: Id,
-    zone: Id,
-    rows: Vec<ZoneRow>,
-}
-
-impl Model for RowsRead {
-    ghost use Rattle.bureau_sql.specs.Recent.{RowsRead};
-    ghost use Rattle.zone_lists.specs.ZoneList.{RowsAscend};
-
-    ghost Value = { RowsRead };
-
-    ghost view = { λ read. record { client = read.client; zone = read.zone; rows = read.rows.items } };
-
-    ghost invariant = { λ read. RowsAscend read.rows.items };
-}
-
-/// Answers of reads since the last change, of each kind at most so many. If there is no memory to keep or to copy one,
-/// it is read anew. All holds are kept once.
+/// Answers of reads since the last change. Those that were used last are kept, as many as take 64 MiB. If there is no
+/// memory to keep or to copy one, it is read anew. All holds are kept once.
 #[derive(Drop)]
 pub(crate) struct Recent {
-    tokens: Vec<TokenRead>,
-    zones: Vec<ZonesRead>,
-    rows: Vec<RowsRead>,
+    // By a number that is made of the token.
+    tokens: Kept<u64, TokenRead>,
+    // By the client.
+    zones: Kept<Id, ZonesRead>,
+    // By the client and the zone.
+    rows: Kept<(Id, Id), RowsRead>,
     // How many SYSMODs and holds are published.
     counts: Option<(u64, u64)>,
     book: Book,
@@ -91,9 +48,9 @@ impl Model for Recent {
     ghost Value = { RecentLists };
 
     ghost view = { λ recent. record {
-      tokens = recent.tokens.items;
-      zones = recent.zones.items;
-      rows = recent.rows.items;
+      tokens = recent.tokens;
+      zones = recent.zones;
+      rows = recent.rows;
       counts = recent.counts;
       book = recent.book;
     } };
@@ -101,19 +58,19 @@ impl Model for Recent {
 
 impl Recent {
     /// Nothing was read yet.
-    pub(crate) fn nothing(alloc: Global) -> Self
+    pub(crate) fn nothing() -> Self
         ensures { result ≡ nothing_read }
     {
         Recent {
-            tokens: Vec::new(alloc),
-            zones: Vec::new(alloc),
-            rows: Vec::new(alloc),
+            tokens: Kept::nothing(),
+            zones: Kept::nothing(),
+            rows: Kept::nothing(),
             counts: None,
             book: Book::unread(),
         }
     }
 
-    /// Forgets all.
+    /// Forgets all but the number of holds.
     pub(crate) fn forget(&mut self)
         ensures { self.new ≡ nothing_read }
     {
@@ -123,49 +80,89 @@ impl Recent {
         self.counts = None;
         self.book.forget();
     }
+
+    /// Forgets all before a change: also the number of holds, if it is a publication.
+    pub(crate) fn forget_before(&mut self, effect: &Effect<'_>)
+        ensures { self.new ≡ nothing_read }
+    {
+        if matches!(effect, Effect::Publication { .. }) {
+            self.book.forget_count();
+        }
+        self.forget();
+    }
 }
 
 impl Recent {
-    /// The caller whose token this is, if it was read.
-    pub(crate) fn caller_of(&self, token: &[u8]) -> Option<Caller>
+    /// The caller whose token this is, if it was read. It counts as used last, as the others do below.
+    pub(crate) fn caller_of(&mut self, token: &[u8]) -> Option<Caller>
+        ensures read { IfSome result (λ caller. Contains self.old.tokens
+            (record { token = token.now; caller = caller })) }
+        ensures proper { IfSome result IsProper }
+        ensures fewer { HasNoMore self.old self.new }
+    {
+        self.tokens.use_now(&number_of(token));
+        self.caller_kept(token)
+    }
+
+    fn caller_kept(&self, token: &[u8]) -> Option<Caller>
         ensures read { IfSome result (λ caller. Contains self.now.tokens
             (record { token = token.now; caller = caller })) }
         ensures proper { IfSome result IsProper }
     {
-        for read in &self.tokens {
-            if read.token.as_slice() == token {
-                return Some(read.caller);
-            }
+        let read = self.tokens.get(&number_of(token))?;
+        if read.token.as_slice() == token {
+            Some(read.caller)
+        } else {
+            None
         }
-        None
     }
 
     /// The zones of a client, if they were read.
-    pub(crate) fn zones_of(&self, alloc: Global, client: &Id) -> Option<Vec<(Id, u64)>>
+    pub(crate) fn zones_of(&mut self, alloc: Global, client: &Id) -> Option<Vec<(Id, u64)>>
+        ensures read { IfSome result (λ zones. Contains self.old.zones
+            (record { client = client.now; zones = zones.items })) }
+        ensures ascend { IfSome result (λ zones. NamesAscend (map (λ zone. zone.0) zones.items)) }
+        ensures fewer { HasNoMore self.old self.new }
+    {
+        self.zones.use_now(client);
+        self.zones_kept(alloc, client)
+    }
+
+    fn zones_kept(&self, alloc: Global, client: &Id) -> Option<Vec<(Id, u64)>>
         ensures read { IfSome result (λ zones. Contains self.now.zones
             (record { client = client.now; zones = zones.items })) }
         ensures ascend { IfSome result (λ zones. NamesAscend (map (λ zone. zone.0) zones.items)) }
     {
-        for read in &self.zones {
-            if read.client == *client {
-                return Vec::from_slice(alloc, &read.zones).ok();
-            }
+        let read = self.zones.get(client)?;
+        if read.client == *client {
+            Vec::from_slice(alloc, &read.zones).ok()
+        } else {
+            None
         }
-        None
     }
 
     /// The rows of a client's zone, if they were read.
-    pub(crate) fn rows_of(&self, alloc: Global, client: &Id, zone: &Id) -> Option<Vec<ZoneRow>>
+    pub(crate) fn rows_of(&mut self, alloc: Global, client: &Id, zone: &Id) -> Option<Vec<ZoneRow>>
+        ensures read { IfSome result (λ rows. Contains self.old.rows
+            (record { client = client.now; zone = zone.now; rows = rows.items })) }
+        ensures ascend { IfSome result (λ rows. RowsAscend rows.items) }
+        ensures fewer { HasNoMore self.old self.new }
+    {
+        self.rows.use_now(&(*client, *zone));
+        self.rows_kept(alloc, client, zone)
+    }
+
+    fn rows_kept(&self, alloc: Global, client: &Id, zone: &Id) -> Option<Vec<ZoneRow>>
         ensures read { IfSome result (λ rows. Contains self.now.rows
             (record { client = client.now; zone = zone.now; rows = rows.items })) }
         ensures ascend { IfSome result (λ rows. RowsAscend rows.items) }
     {
-        for read in &self.rows {
-            if read.client == *client && read.zone == *zone {
-                return Vec::from_slice(alloc, &read.rows).ok();
-            }
+        let read = self.rows.get(&(*client, *zone))?;
+        if read.client == *client && read.zone == *zone {
+            Vec::from_slice(alloc, &read.rows).ok()
+        } else {
+            None
         }
-        None
     }
 
     /// How many SYSMODs and holds are published, if that was read.
@@ -192,11 +189,13 @@ impl Recent {
     {
         let Ok(answer) = found else { return };
         let Some(caller) = answer else { return };
+        let key = number_of(token);
         let Ok(token) = Vec::from_slice(alloc, token) else {
             return;
         };
         let caller = *caller;
-        put(&mut self.tokens, TokenRead { token, caller });
+        self.tokens
+            .put(alloc, key, TokenRead { token, caller }, TOKENS);
     }
 
     /// Keeps the zones of a client, if the read found them.
@@ -217,7 +216,8 @@ impl Recent {
             return;
         };
         let client = *client;
-        put(&mut self.zones, ZonesRead { client, zones });
+        self.zones
+            .put(alloc, client, ZonesRead { client, zones }, ZONES);
     }
 
     /// Keeps the rows of a client's zone, if the read found them.
@@ -241,7 +241,8 @@ impl Recent {
             return;
         };
         let (client, zone) = (*client, *zone);
-        put(&mut self.rows, RowsRead { client, zone, rows });
+        let read = RowsRead { client, zone, rows };
+        self.rows.put(alloc, (client, zone), read, ROWS);
     }
 
     /// Keeps how many SYSMODs and holds are published, if the read found it.
@@ -295,12 +296,10 @@ impl Recent {
 
     // The number of a zone's rows, if they were read.
     fn row_count(&self, client: &Id, zone: &Id) -> usize {
-        for read in &self.rows {
-            if read.zone == *zone && read.client == *client {
-                return read.rows.len();
-            }
+        match self.rows.get(&(*client, *zone)) {
+            Some(read) => read.rows.len(),
+            None => 0,
         }
-        0
     }
 
     /// Whether all holds should be counted, since they aren't kept and many rows were joined with them.
@@ -312,14 +311,28 @@ impl Recent {
     pub(crate) fn is_book_worth(&self, holds: u64) -> bool {
         self.book.is_worth(holds)
     }
+
+    /// Whether to go through all holds costs no more than to join so many rows with them. They must be kept for that.
+    pub(crate) fn is_book_better(&self, rows: usize) -> bool {
+        self.book.is_better(rows)
+    }
+
+    /// The number of holds, if they were counted since the last publication.
+    pub(crate) fn hold_count(&self) -> Option<u64> {
+        self.book.count()
+    }
+
+    /// Keeps the number of holds until the next publication, if they were counted.
+    pub(crate) fn keep_hold_count(&mut self, found: &Result<u64, ReadFault>)
+        ensures { self.new ≡ self.old }
+    {
+        if let Ok(count) = found {
+            self.book.keep_count(*count);
+        }
+    }
 }
 
-// Keeps an answer, if there is memory for it. If the most are kept already, they all go first.
-fn put<A: Drop>(kept: &mut Vec<A>, answer: A)
-    ensures { (one : A) → Contains kept.new.items one → Contains kept.old.items one ⊎ (one ≡ answer) }
-{
-    if kept.len() >= MOST {
-        kept.clear();
-    }
-    let _ = kept.push(answer);
+// The number under which the caller of a token is kept. Other tokens may have it too.
+fn number_of(token: &[u8]) -> u64 {
+    BuildHasherDefault::<FoldHasher>::new().hash_one(token)
 }

@@ -28,8 +28,9 @@ use std::marker::Model;
 /// failures.
 ///
 /// Until the next change the store keeps whose token it was, the zones of a client, and the rows of a zone, as it read
-/// them: the last sixteen or fewer of each. It answers these without a query. Once it has looked for the holds of many
-/// SYSMODs it keeps all holds too, if they are no more than 40,000 with no more than 8 MiB of categories.
+/// them: those that were used last, as many as take 64 MiB. It answers these without a query. Once it has looked for
+/// the holds of many SYSMODs it keeps all holds too, if they are no more than 40,000 with no more than 8 MiB of
+/// categories.
 #[derive(Drop)]
 pub struct SqlStore<S: Alter> {
     pub(crate) alloc: Global,
@@ -72,7 +73,7 @@ impl<S: Alter> SqlStore<S> {
             conn,
             failures: 0,
             unseen: false,
-            recent: Recent::nothing(alloc),
+            recent: Recent::nothing(),
         }
     }
 

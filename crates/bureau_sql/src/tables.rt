@@ -108,7 +108,7 @@ impl<S: Alter> Store for SqlStore<S> {
         self.held_by_join(client, zone, kind)
     }
 
-    // It forgets what was read before the change.
+    // It forgets what was read before the change. How many holds there are stays, unless others are published.
     fn make(&mut self, number: u64, reply: &[u8], effect: &Effect<'_>) -> Result<(), StoreFault>
         requires maker { IsProper (maker_of effect.now) }
         requires number { number ≤ greatest_number }
@@ -121,7 +121,7 @@ impl<S: Alter> Store for SqlStore<S> {
             self.old self.new) }
     {
         self.check_open(StoreFault::Device)?;
-        self.recent.forget();
+        self.recent.forget_before(effect);
         // It does nothing. Its contract tells the proof that the types of the effect make it fit to be written.
         fit::effect(effect);
         let made = changes::make(self.alloc, &mut self.conn, number, reply, effect);

@@ -1,6 +1,6 @@
 //! The holds on the SYSMODs of a zone. They are found among all holds, once to read these costs no more than the joins
 //! of zones with the table of holds did since the last change.
-ghost use Rattle.std.specs.Prelude.{◌≡◌, IfOk, IfSome, IsTrue, [], option_map, unwrap_or};
+ghost use Rattle.std.specs.Prelude.{◌≡◌, IfOk, IfSome, IsTrue};
 ghost use Rattle.bureau_store.specs.Caller.{IsProper};
 ghost use Rattle.bureau_store.specs.Held.{held_in};
 ghost use Rattle.bureau_store.specs.Store.{Reads};
@@ -20,11 +20,23 @@ use bureau_store::{Store, StoreFault};
 use holddata::{Hold, Kind};
 use mcs_reader::Id;
 use sqlite_trees::store::Alter;
-use std::alloc::Global;
 use supersede::Zone;
 use zone_lists::ZoneRow;
 
 impl<S: Alter> SqlStore<S> {
+    // How many holds are published. They are counted once between two publications.
+    fn hold_count(&mut self) -> Result<u64, StoreFault>
+        ensures { Reads (sql_view S.Store) self.old self.new result }
+    {
+        self.check_open(StoreFault::Device)?;
+        if let Some(count) = self.recent.hold_count() {
+            return Ok(count);
+        }
+        let found = sql_reads::hold_count(&mut self.conn);
+        self.recent.keep_hold_count(&found);
+        self.answered(found)
+    }
+
     // Whether it costs no more to read all holds than the joins did since the last change.
     fn is_book_due(&mut self) -> Result<bool, StoreFault>
         ensures { Reads (sql_view S.Store) self.old self.new result }
@@ -33,7 +45,7 @@ impl<S: Alter> SqlStore<S> {
         if !self.recent.wants_book() {
             return Ok(false);
         }
-        let Some((_, holds)) = unless_short(self.counts())? else {
+        let Some(holds) = unless_short(self.hold_count())? else {
             return Ok(false);
         };
         Ok(self.recent.is_book_worth(holds))
@@ -61,7 +73,8 @@ impl<S: Alter> SqlStore<S> {
         Ok(())
     }
 
-    // The holds of a kind on SYSMODs that these rows have as installed, if all holds are kept and memory is at hand.
+    // The holds of a kind on SYSMODs that these rows have as installed, if all holds are kept, a join costs no less, and
+    // memory is at hand.
     fn held_on(&self, rows: Vec<ZoneRow>, kind: Kind) -> Option<Vec<Hold>>
         requires { RowsAscend rows.items }
         ensures holds { IfSome result (λ holds. HasCleanDisk (shown S.Store self.now)
@@ -69,13 +82,16 @@ impl<S: Alter> SqlStore<S> {
             → holds.items ≡ held_in (tables_in S.Store self.now).content rows.items kind) }
         ensures in_key_order { IfSome result (λ holds. IsInKeyOrder holds.items) }
     {
+        if !self.recent.is_book_better(rows.len()) {
+            return None;
+        }
         let book = self.recent.holds()?;
         let zone = Zone::from_rows(rows);
         held_among(self.alloc, book, &zone, kind).ok()
     }
 
     /// The holds of a kind on SYSMODs that are installed in a zone, among all holds. It answers nothing if these aren't
-    /// kept, or if memory is short.
+    /// kept, if a join costs less, or if memory is short.
     pub(crate) fn held_by_book(
         &mut self,
         client: &Id,
@@ -93,10 +109,9 @@ impl<S: Alter> SqlStore<S> {
         if self.recent.holds().is_none() {
             return Ok(None);
         }
-        let Some(found) = unless_short(self.zone(client, zone))? else {
+        let Some(Some(rows)) = unless_short(self.zone(client, zone))? else {
             return Ok(None);
         };
-        let rows = rows_in(self.alloc, found);
         Ok(self.held_on(rows, kind))
     }
 
@@ -117,18 +132,6 @@ impl<S: Alter> SqlStore<S> {
         let found = sql_reads::held_in(self.alloc, &mut self.conn, client, zone, kind);
         self.recent.count_join(client, zone);
         self.answered(found)
-    }
-}
-
-// The rows of a zone; none if it isn't there.
-fn rows_in(alloc: Global, found: Option<Vec<ZoneRow>>) -> Vec<ZoneRow>
-    requires { IfSome found (λ rows. RowsAscend rows.items) }
-    ensures rows { result.items ≡ unwrap_or (option_map (λ rows. rows.items) found) [] }
-    ensures ascend { RowsAscend result.items }
-{
-    match found {
-        Some(rows) => rows,
-        None => Vec::new(alloc),
     }
 }
 

@@ -1,4 +1,4 @@
-use Rattle.std.proofs.Common.{◌≡◌, subst, sym}
+use Rattle.std.proofs.Common.{subst, sym}
 use Rattle.sqlite.specs.Held.{state}
 use Rattle.bureau_sql.specs.Recent.{IsRecent}
 use Rattle.bureau_sql.specs.SqlState.{SqlState}

@@ -1,4 +1,4 @@
-use Rattle.std.proofs.Common.{◌≡◌, ◌∙◌, ap, refl, subst}
+use Rattle.std.proofs.Common.{◌∙◌, ap, refl, subst}
 use Rattle.bureau_store.specs.Store.{Reads}
 use Rattle.bureau_store.specs.declared.fault.StoreFault.TheVariants.{Device}
 use Rattle.sqlite.specs.Held.{state}
