@@ -48,14 +48,18 @@ class Desk:
         callers, store = os.path.join(folder, "callers.csv"), os.path.join(folder, "store")
         with open(callers, "w") as out:
             out.write("NAME,TOKEN\nPUBLISH,publisher-token\nALPHA,alpha-token\n")
+        self.start(program, store, callers)
+        self.ask("POST", "/publish", "publisher-token", published, 1)
+        self.ask("PUT", "/zones/TGT1", "alpha-token", "SYSMOD,STATE\n" + "".join("%s,APPLIED\n" % name for name in installed), 1)
+        self.ask("PUT", "/zones/TGT1/categories", "alpha-token", "CATEGORY\n*\n", 2)
+
+    def start(self, program, store, callers):
+        """Makes the store, and begins to serve."""
         subprocess.run([program, "init", store, callers], check=True, stdout=subprocess.DEVNULL)
         port = free_port()
         self.process = subprocess.Popen([program, "serve", "--port", str(port), store], stdout=subprocess.PIPE)
         self.process.stdout.readline()
         self.line = http.client.HTTPConnection("127.0.0.1", port, timeout=600)
-        self.ask("POST", "/publish", "publisher-token", published, 1)
-        self.ask("PUT", "/zones/TGT1", "alpha-token", "SYSMOD,STATE\n" + "".join("%s,APPLIED\n" % name for name in installed), 1)
-        self.ask("PUT", "/zones/TGT1/categories", "alpha-token", "CATEGORY\n*\n", 2)
 
     def ask(self, method, path, token="alpha-token", body=None, number=None):
         """The milliseconds of processor time that the desk takes, and the reply."""
