@@ -12,8 +12,8 @@ PUBLISHER, ALPHA = "publisher-token", "alpha-token"
 CALLERS = "NAME,TOKEN\nPUBLISH,%s\nALPHA,%s\n" % (PUBLISHER, ALPHA)
 KINDS = ["ERROR", "FIXCAT", "SYSTEM", "USER"]
 NAMES = ["UA%05d" % number for number in range(9000)]
-# rows enough for the desk to read all holds, two rows, and SYSMODs that nobody has heard of
-ZONES = {"LARGE": NAMES[:6000], "SMALL": [NAMES[7], NAMES[5999], NAMES[6000]], "STRANGE": ["UZ00001"]}
+# rows enough for the desk to read all holds, and to look among them; few rows, and SYSMODs that nobody has heard of, for which it does not
+ZONES = {"LARGE": NAMES[:6000], "MIDDLE": NAMES[5800:6200], "SMALL": [NAMES[7], NAMES[5999], NAMES[6000]], "STRANGE": ["UZ00001"]}
 
 
 def operands(name, kind):

@@ -6,7 +6,7 @@ use Rattle.std.specs.Map.{lookup, remove_entry}
 use Rattle.lemmas.proofs.ListFacts.{map_from, map_inside}
 use Rattle.lru.specs.LruCache.{LruCache, lru_cache, promoted, put_entries}
 use Rattle.lru.proofs.CallerLemmas.{Contains-lookup, Contains-promoted, Contains-put_entries, Contains-remove_entry, Contains-take}
-use Rattle.bureau_sql.specs.Recent.{values_in}
+use Rattle.bureau_sql.specs.Kept.{values_in}
 
 abbrev value_of : {K V : Type 0} → K × V → V
 value_of entry = entry.1

@@ -5,6 +5,7 @@ pub mod Founded
 pub mod Laws
 pub mod Migrated
 pub mod Opening
+pub mod Kept
 pub mod Recent
 pub mod Outgrown
 pub mod Spared

@@ -1,7 +1,6 @@
 -- The reads of a store since its last change, which it answers again.
 use Rattle.std.specs.Prelude.{◌≡◌, ◌⊎◌, ℕ, IfSome, IsTrue, List, [], None, Ok, Option, Result, Some, Contains, length, map}
 use Rattle.std.specs.Option.{option_map}
-use Rattle.lru.specs.LruCache.{LruCache}
 use Rattle.bureau_store.specs.Caller.{caller_with}
 use Rattle.bureau_store.specs.Tables.{Tables, zone_named}
 use Rattle.bureau_store.specs.declared.caller.Caller.{Caller}
@@ -10,11 +9,6 @@ use Rattle.sqlite.specs.State.{HasCleanDisk, State}
 use Rattle.sql_tables.specs.Ours.{IsOurs, held_by}
 use Rattle.sql_tables.specs.Stored.{tables_of}
 use Rattle.zone_lists.specs.declared.zones.ZoneRow.{ZoneRow}
-
--- the values that a cache has
-abbrev pub values_in : {K V : Type 0} → Option (LruCache K V) → List V
-values_in None = []
-values_in (Some cache) = map (λ entry. entry.1) cache.entries
 
 -- whose token this is
 pub record TokenRead : Type 0 where

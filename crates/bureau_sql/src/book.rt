@@ -14,8 +14,11 @@ const CATEGORIES: usize = 8 << 20;
 // Up to so many rows are joined with the holds before these are counted, which takes about as long.
 const FEW: u64 = 5_000;
 
-// To find the holds of a row takes as long as to read so many in their order.
-const ROW: u64 = 4;
+// To find the holds of a row by a join takes as long as to read four in their order, or to go through a hundred that
+// are kept.
+const READ: u64 = 4;
+
+const WALKED: u64 = 100;
 
 // What is known of how many holds are published. A client's change leaves it.
 #[derive(Clone, Copy)]
@@ -104,24 +107,36 @@ impl Book {
     pub(crate) fn count_join(&mut self, rows: usize)
         ensures { self.new ≡ self.old }
     {
-        self.joined = self.joined.saturating_add(rows as u64);
+        self.joined = self.joined_with(rows);
     }
 
-    /// Whether the holds aren't kept, and so many rows were joined with them that they should be counted. Those that
-    /// are known to be too many aren't wanted.
-    pub(crate) fn is_wanted(&self) -> bool {
-        self.holds.is_none() && self.joined >= FEW && !matches!(self.size, Size::TooLarge)
+    /// Whether the holds aren't kept and may be read, before so many rows are joined with them: they were counted, or
+    /// should be after so many rows. Those that are known to be too many aren't wanted.
+    pub(crate) fn is_wanted(&self, rows: usize) -> bool {
+        let is_time = match self.size {
+            Size::Unknown => self.joined_with(rows) >= FEW,
+            Size::Counted(_) => true,
+            Size::TooLarge => false,
+        };
+        self.holds.is_none() && is_time
     }
 
-    /// Whether to read so many holds costs no more than the joins did.
-    pub(crate) fn is_worth(&self, holds: u64) -> bool {
-        holds <= MOST && holds <= self.joined.saturating_mul(ROW)
+    /// Whether to read so many holds costs no more than the joins did, with one of so many rows, for which they would
+    /// be used.
+    pub(crate) fn is_worth(&self, holds: u64, rows: usize) -> bool {
+        let most = self.joined_with(rows).saturating_mul(READ).min(MOST);
+        holds <= most && is_few_for(holds, rows)
+    }
+
+    // How many rows are joined after so many more.
+    fn joined_with(&self, rows: usize) -> u64 {
+        self.joined.saturating_add(rows as u64)
     }
 
     /// Whether the holds are kept, and to go through them costs no more than to join so many rows with them.
     pub(crate) fn is_better(&self, rows: usize) -> bool {
         match &self.holds {
-            Some(holds) => holds.len() as u64 <= (rows as u64).saturating_mul(ROW),
+            Some(holds) => is_few_for(holds.len() as u64, rows),
             None => false,
         }
     }
@@ -149,6 +164,11 @@ impl Book {
     {
         self.size = Size::Unknown;
     }
+}
+
+// Whether to go through so many holds that are kept costs no more than to join so many rows with them.
+fn is_few_for(holds: u64, rows: usize) -> bool {
+    holds <= (rows as u64).saturating_mul(WALKED)
 }
 
 // Whether these are few enough to be kept.

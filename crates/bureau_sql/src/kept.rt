@@ -23,7 +23,7 @@ pub(crate) struct Kept<K: Eq + Hash + Drop, V: Weighs + Drop> {
 impl<K: Eq + Hash + Drop, V: Weighs + Drop> Model for Kept<K, V> {
     ghost use Rattle.std.specs.Prelude.{List};
     ghost use Rattle.std.specs.Coded.{coded_list};
-    ghost use Rattle.bureau_sql.specs.Recent.{values_in};
+    ghost use Rattle.bureau_sql.specs.Kept.{values_in};
 
     ghost Value = { List V };
 

@@ -294,22 +294,24 @@ impl Recent {
         self.book.count_join(rows);
     }
 
-    // The number of a zone's rows, if they were read.
-    fn row_count(&self, client: &Id, zone: &Id) -> usize {
+    /// The number of a zone's rows, if they were read; else 0.
+    pub(crate) fn row_count(&self, client: &Id, zone: &Id) -> usize {
         match self.rows.get(&(*client, *zone)) {
             Some(read) => read.rows.len(),
             None => 0,
         }
     }
 
-    /// Whether all holds should be counted, since they aren't kept and many rows were joined with them.
-    pub(crate) fn wants_book(&self) -> bool {
-        self.book.is_wanted()
+    /// Whether all holds should be counted, since they aren't kept and many rows were joined with them, or will be with
+    /// so many more.
+    pub(crate) fn wants_book(&self, rows: usize) -> bool {
+        self.book.is_wanted(rows)
     }
 
-    /// Whether to read so many holds costs no more than the joins did.
-    pub(crate) fn is_book_worth(&self, holds: u64) -> bool {
-        self.book.is_worth(holds)
+    /// Whether to read so many holds costs no more than the joins did, with one of so many rows, for which they would
+    /// be used.
+    pub(crate) fn is_book_worth(&self, holds: u64, rows: usize) -> bool {
+        self.book.is_worth(holds, rows)
     }
 
     /// Whether to go through all holds costs no more than to join so many rows with them. They must be kept for that.

@@ -101,7 +101,7 @@ impl<S: Alter> Store for SqlStore<S> {
     }
 
     fn held_in(&mut self, client: &Id, zone: &Id, kind: Kind) -> Result<Vec<Hold>, StoreFault> {
-        self.read_book()?;
+        self.read_book(client, zone)?;
         if let Some(holds) = self.held_by_book(client, zone, kind)? {
             return Ok(holds);
         }

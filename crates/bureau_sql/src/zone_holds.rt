@@ -1,5 +1,5 @@
-//! The holds on the SYSMODs of a zone. They are found among all holds, once to read these costs no more than the joins
-//! of zones with the table of holds did since the last change.
+//! The holds on the SYSMODs of a zone. They are found among all holds, once to read these costs no more than to join
+//! this zone and those before it, since the last change, with the table of holds.
 ghost use Rattle.std.specs.Prelude.{◌≡◌, IfOk, IfSome, IsTrue};
 ghost use Rattle.bureau_store.specs.Caller.{IsProper};
 ghost use Rattle.bureau_store.specs.Held.{held_in};
@@ -37,18 +37,19 @@ impl<S: Alter> SqlStore<S> {
         self.answered(found)
     }
 
-    // Whether it costs no more to read all holds than the joins did since the last change.
-    fn is_book_due(&mut self) -> Result<bool, StoreFault>
+    // Whether it costs no more to read all holds than the joins did since the last change, with one of this zone.
+    fn is_book_due(&mut self, client: &Id, zone: &Id) -> Result<bool, StoreFault>
         ensures { Reads (sql_view S.Store) self.old self.new result }
     {
         self.check_open(StoreFault::Device)?;
-        if !self.recent.wants_book() {
+        let rows = self.recent.row_count(client, zone);
+        if !self.recent.wants_book(rows) {
             return Ok(false);
         }
         let Some(holds) = unless_short(self.hold_count())? else {
             return Ok(false);
         };
-        Ok(self.recent.is_book_worth(holds))
+        Ok(self.recent.is_book_worth(holds, rows))
     }
 
     // Reads all holds.
@@ -61,12 +62,12 @@ impl<S: Alter> SqlStore<S> {
         self.answered(kept)
     }
 
-    /// Reads all holds, if it is time. If memory is short for them, nothing is kept, and it is tried again after as
-    /// many joins.
-    pub(crate) fn read_book(&mut self) -> Result<(), StoreFault>
+    /// Reads all holds, if it is time before those of this zone are looked for. If memory is short for them, nothing is
+    /// kept, and joins are counted anew.
+    pub(crate) fn read_book(&mut self, client: &Id, zone: &Id) -> Result<(), StoreFault>
         ensures { Reads (sql_view S.Store) self.old self.new result }
     {
-        if !self.is_book_due()? {
+        if !self.is_book_due(client, zone)? {
             return Ok(());
         }
         unless_short(self.read_holds())?;
