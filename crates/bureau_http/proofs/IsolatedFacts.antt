@@ -1,12 +1,14 @@
 -- From a run in which each caller is answered as if alone to the bytes of the replies.
-use Rattle.std.proofs.Common.{◌≡◌, inl, inr, List, [], ◌∷◌, ◌++◌, Ok, refl, sym, ap, ◌∙◌}
+use Rattle.std.proofs.Common.{◌≡◌, ◌⊎◌, inl, inr, List, [], ◌∷◌, ◌++◌, Ok, refl, sym, ap, ◌∙◌}
 use Rattle.std.proofs.lemmas.Grind.{flat_map-append}
 use Rattle.bureau_store.specs.Tables.{AreInOrder, Tables}
 use Rattle.bureau_store.specs.declared.caller.Caller.{Caller}
 use Rattle.bureau.specs.Alone.{AreAnsweredAlike, IsAlone, opening_of}
 use Rattle.bureau.specs.Call.{Call}
 use Rattle.bureau.specs.Joint.{CallBy, IsRun}
+use Rattle.bureau.specs.Kept.{TellNothing}
 use Rattle.bureau.specs.Outcome.{Answer}
+use Rattle.bureau.proofs.SilentFacts.{silent_alike, silent_alone}
 use Rattle.bureau_http.specs.Asked.{Asked}
 use Rattle.bureau_http.specs.Exchange.{Exchange, call_from, call_in, calls_of, exchange_text}
 use Rattle.bureau_http.specs.Isolated.{AreIsolated, AreOwnBytes, HaveSameBytes, joined, own_exchange}
@@ -74,4 +76,19 @@ isolated opening closing exchanges alone alike in_order run = record {
   bytes = own_bytes opening exchanges (λ viewer. alone opening closing (calls_of exchanges) viewer in_order run);
   alike = λ opening2 closing2 others viewer in_order2 run2 same.
       bytes_alike viewer exchanges others (alike opening closing opening2 closing2 (calls_of exchanges) (calls_of others) viewer in_order in_order2 run run2 same);
+}
+
+-- Nothing is told from tables that may be in no order.
+abbrev pub IsKnown : (Tables → List CallBy → Tables → Type 0) → Tables → Type 0
+IsKnown Runs this = (calls : List CallBy) (next : Tables) → Runs this calls next → AreInOrder this ⊎ TellNothing calls
+
+-- so each caller is answered as if alone, whatever the tables are
+pub isolated_so : (opening closing : Tables) (exchanges : List Exchange) → Alone → Alike → AreInOrder opening ⊎ TellNothing (calls_of exchanges)
+    → IsRun opening (calls_of exchanges) closing → AreIsolated opening exchanges
+isolated_so opening closing exchanges alone alike (inl in_order) run = isolated opening closing exchanges alone alike in_order run
+isolated_so opening closing exchanges alone alike (inr silent) run = record {
+  alone = λ viewer. silent_alone opening closing (calls_of exchanges) viewer (opening_of viewer opening) silent run;
+  bytes = own_bytes opening exchanges (λ viewer. silent_alone opening closing (calls_of exchanges) viewer (opening_of viewer opening) silent run);
+  alike = λ opening2 closing2 others viewer in_order2 run2 same.
+      bytes_alike viewer exchanges others (silent_alike opening closing opening2 closing2 (calls_of exchanges) (calls_of others) viewer silent run run2);
 }

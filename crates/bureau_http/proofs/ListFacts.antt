@@ -1,16 +1,17 @@
 -- How a list of connections is served.
-use Rattle.std.proofs.Common.{◌≡◌, ℕ, ◌+◌, ◌<◌, List, [], ◌∷◌, ◌++◌, length, map, take, drop, get_or, refl, sym, ap, ◌∙◌, subst, arith, append-nil}
+use Rattle.std.proofs.Common.{◌≡◌, ◌⊎◌, ℕ, ◌+◌, ◌<◌, List, [], ◌∷◌, ◌++◌, length, map, take, drop, get_or, refl, sym, ap, ◌∙◌, subst, arith, append-nil}
 use Rattle.std.proofs.lemmas.Grind.{flat_map-append}
 use Rattle.std.proofs.lemmas.List.{drop-map, drop_more, length-map, length-take, map-append, take_more}
 use Rattle.std.specs.List.{take-map}
-use Rattle.bureau_store.specs.Tables.{Tables}
+use Rattle.bureau_store.specs.Tables.{AreInOrder, Tables}
 use Rattle.bureau_store.specs.declared.caller.CallerRow.{CallerRow}
 use Rattle.bureau.specs.Joint.{CallBy, IsRun}
+use Rattle.bureau.specs.Kept.{TellNothing}
 use Rattle.bureau_http.specs.Connection.{IsConnection, cut}
 use Rattle.bureau_http.specs.Exchange.{Exchange, calls_of}
 use Rattle.bureau_http.specs.List.{AreServed, AreServedInPart, AreSoFar, AreWhole, IsInHand, IsOneCut, IsOneServed, IsWhole, calls_in}
 use Rattle.bureau_http.specs.Isolated.{joined}
-use Rattle.bureau_http.proofs.IsolatedFacts.{Alike, Alone, calls_joined, calls_with_hand, isolated}
+use Rattle.bureau_http.proofs.IsolatedFacts.{Alike, Alone, IsKnown, calls_joined, calls_with_hand, isolated_so}
 use Rattle.bureau_http.proofs.ServingFacts.{ActOnce, Join, one_run}
 
 whole_on : (rows : List CallerRow) (cs ws : List (List ℕ)) (es : List (List Exchange)) (c w : List ℕ) (e : List Exchange) → AreWhole rows cs ws es
@@ -71,20 +72,21 @@ abbrev pub IsPlain : (Tables → List CallBy → Tables → Type 0) → Type 0
 IsPlain Runs = (this next : Tables) (calls : List CallBy) → Runs this calls next → IsRun this calls next
 
 -- all connections were served
-pub all_served : (Runs : Tables → List CallBy → Tables → Type 0) → IsPlain Runs → ActOnce Runs → (this : Tables) (cs ws : List (List ℕ)) → Alone → Alike → AreSoFar Runs this cs ws → AreServed Runs this cs ws
-all_served Runs plain once this cs ws alone alike so = record {
+pub all_served : (Runs : Tables → List CallBy → Tables → Type 0) → IsPlain Runs → ActOnce Runs → (this : Tables) (cs ws : List (List ℕ)) → Alone → Alike → IsKnown Runs this → AreSoFar Runs this cs ws → AreServed Runs this cs ws
+all_served Runs plain once this cs ws alone alike known so = record {
   exchanges = so.exchanges;
   ran = one_run Runs once this so.now (calls_in so.exchanges) so.run so.callers;
   whole = so.whole;
-  isolated = λ in_order. isolated this so.now (joined so.exchanges) alone alike in_order
+  isolated = isolated_so this so.now (joined so.exchanges) alone alike
+      (subst (λ ts. AreInOrder this ⊎ TellNothing ts) (sym (calls_joined so.exchanges)) (known (calls_in so.exchanges) so.now so.run))
       (subst (λ ts. IsRun this ts so.now) (sym (calls_joined so.exchanges)) (plain this so.now (calls_in so.exchanges) so.run));
 }
 
 -- the connection in hand was cut off
 pub in_part : {V : Type 0} (f : V → List ℕ) (First Then Whole : Tables → List CallBy → Tables → Type 0) → Join First Then Whole → IsPlain Whole → ActOnce Whole → (this : Tables) (cs : List V) (ws : List (List ℕ)) (i : ℕ) (item : V)
-    (so : AreSoFar First this (map f (take i cs)) ws) → i < length cs → item ≡ get_or cs i item → Alone → Alike → IsOneCut Then so.now (f item)
+    (so : AreSoFar First this (map f (take i cs)) ws) → i < length cs → item ≡ get_or cs i item → Alone → Alike → IsKnown Whole this → IsOneCut Then so.now (f item)
     → AreServedInPart Whole this (map f cs) ws
-in_part f First Then Whole join plain once this cs ws i item so low is alone alike one =
+in_part f First Then Whole join plain once this cs ws i item so low is alone alike known one =
     let short = length-take i cs in
     let mapped = length-map (take i cs) f in
     let whole = whole_len this.callers (map f (take i cs)) ws so.exchanges so.whole in
@@ -100,7 +102,8 @@ in_part f First Then Whole join plain once this cs ws i item so low is alone ali
       whole = subst (λ l. AreWhole this.callers l ws so.exchanges) front so.whole;
       in_hand = subst (λ l. IsInHand this.callers l one.exchanges) (sym rest)
           (one.answered, (one.stop, subst (λ rows. IsConnection rows (f item) (map (λ exchange. exchange.asked) one.exchanges) one.stop) so.callers one.connection));
-      isolated = λ in_order. isolated this one.closing (joined so.exchanges ++ one.exchanges) alone alike in_order
+      isolated = isolated_so this one.closing (joined so.exchanges ++ one.exchanges) alone alike
+          (subst (λ ts. AreInOrder this ⊎ TellNothing ts) (sym (calls_with_hand so.exchanges one.exchanges)) (known (calls_in so.exchanges ++ calls_of one.exchanges) one.closing run))
           (subst (λ ts. IsRun this ts one.closing) (sym (calls_with_hand so.exchanges one.exchanges)) (plain this one.closing (calls_in so.exchanges ++ calls_of one.exchanges) run));
     }
 
@@ -109,12 +112,12 @@ none_in_hand rows [] = refl
 none_in_hand rows (bytes ∷ all) = (tt, (cut, record { first = []; last = []; following = bytes; reads = refl; stops = refl; all = refl }))
 
 -- nothing was served
-pub nothing : (Runs : Tables → List CallBy → Tables → Type 0) → IsPlain Runs → ActOnce Runs → (this : Tables) (all : List (List ℕ)) → Alone → Alike → Runs this [] this → AreServedInPart Runs this all []
-nothing Runs plain once this all alone alike run = record {
+pub nothing : (Runs : Tables → List CallBy → Tables → Type 0) → IsPlain Runs → ActOnce Runs → (this : Tables) (all : List (List ℕ)) → Alone → Alike → IsKnown Runs this → Runs this [] this → AreServedInPart Runs this all []
+nothing Runs plain once this all alone alike known run = record {
   exchanges = [];
   hand = [];
   ran = one_run Runs once this this [] run refl;
   whole = tt;
   in_hand = none_in_hand this.callers all;
-  isolated = λ in_order. isolated this this [] alone alike in_order (plain this this [] run);
+  isolated = isolated_so this this [] alone alike (known [] this run) (plain this this [] run);
 }

@@ -1,21 +1,21 @@
 -- What is served next, after what was served so far.
-use Rattle.std.proofs.Common.{◌≡◌, ℕ, ◌+◌, ◌<◌, List, [], ◌∷◌, ◌++◌, length, map, take, get_or, Option, Result, Ok, Err, IfSome, subst}
+use Rattle.std.proofs.Common.{◌≡◌, ◌⊎◌, inl, inr, ℕ, ◌+◌, ◌<◌, List, [], ◌∷◌, ◌++◌, length, map, take, get_or, Option, Result, Ok, Err, IfSome, subst}
 use Rattle.std.specs.Io.KnownBytes.{prepend_known}
 use Rattle.lemmas.proofs.ResultFacts.{some_is}
 use Rattle.log_lines.specs.declared.note.Note.{Note}
 use Rattle.catalogue.specs.View.{Goes, Tells, View}
-use Rattle.bureau_store.specs.Tables.{Tables}
+use Rattle.bureau_store.specs.Tables.{AreInOrder, Tables}
 use Rattle.bureau.specs.Joint.{CallBy, IsRun}
-use Rattle.bureau.specs.Kept.{IsKeptRun}
+use Rattle.bureau.specs.Kept.{IsKeptRun, TellNothing}
 use Rattle.bureau.specs.Repeat.{ActsOnce, StaysStale}
-use Rattle.bureau.proofs.KeptFacts.{kept_on, kept_run, stands_after}
+use Rattle.bureau.proofs.KeptFacts.{kept_on, kept_run, open_or_closed, stands_after, told_closed}
 use Rattle.bureau_http.specs.Exchange.{calls_of}
 use Rattle.bureau_http.specs.List.{AreServedInPart, AreSoFar, IsOneCut, IsOneServed, calls_in}
 use Rattle.bureau_http.specs.Served.{HasRun, IsServed, IsSoFar, Serves}
 use Rattle.bureau_http.specs.declared.fault.ConnFault.{ConnFault}
 use Rattle.bureau_http.specs.declared.serving.Step.{Step}
 use Rattle.bureau_http.specs.declared.serving.Step.TheVariants as step
-use Rattle.bureau_http.proofs.IsolatedFacts.{Alike, Alone}
+use Rattle.bureau_http.proofs.IsolatedFacts.{Alike, Alone, IsKnown}
 use Rattle.bureau_http.proofs.ListFacts.{IsPlain, in_part, one_more}
 use Rattle.bureau_http.proofs.ServingFacts.{ActOnce, map_some, ran_more, served_end, served_err, served_last, stays}
 
@@ -24,10 +24,22 @@ pub acts_once : ((this next : Tables) (calls : List CallBy) → IsRun this calls
     → ((this next : Tables) (calls : List CallBy) → IsRun this calls next → StaysStale this calls next) → ActOnce IsRun
 acts_once once stale this next calls run = (once this next calls run, stale this next calls run)
 
+-- the tables of a desk that is open are in order
+abbrev pub IsOrderly : {Desk : Type 0} → View Desk Tables → Type 0
+IsOrderly {Desk} view = (desk : Desk) (this : Tables) → view.is_ours desk → view.failures desk ≡ 0 → view.stands desk this → AreInOrder this
+
 module _ {Desk : Type 0} (view : View Desk Tables) (old new : Desk) where
   -- a run that is kept is a run of the tables, in which a change acts once
   pub kept_plain : IsPlain (IsKeptRun view old new)
   kept_plain this next calls run = kept_run view old new this calls next run
+
+  -- if it is open, its tables are in order; and if it isn't, nothing is told from them
+  pub kept_known : IsOrderly view → view.is_ours old → (this : Tables) → view.stands old this → IsKnown (IsKeptRun view old new) this
+  kept_known ordered ours this stands calls next kept = by (open_or_closed (view.failures old))
+    where
+      by : (view.failures old ≡ 0) ⊎ (view.failures old ≡ 0 → ⊥) → AreInOrder this ⊎ TellNothing calls
+      by (inl is_open) = inl (ordered old this ours is_open stands)
+      by (inr closed) = inr (told_closed view old new this calls next closed kept).0
 
   pub kept_once : ActOnce IsRun → ActOnce (IsKeptRun view old new)
   kept_once once this next calls run = once this next calls (kept_run view old new this calls next run)
@@ -105,12 +117,12 @@ module _ {Desk : Type 0} (view : View Desk Tables) (desk between after : Desk) (
     }
 
     -- it was cut off
-    pub cut_next : ActOnce IsRun → Alone → Alike → Tells view between after (λ this. IsOneCut (IsKeptRun view between after) this (bytes_of connection))
+    pub cut_next : IsOrderly view → ActOnce IsRun → Alone → Alike → Tells view between after (λ this. IsOneCut (IsKeptRun view between after) this (bytes_of connection))
         → Tells view desk after (λ this. AreServedInPart (IsKeptRun view desk after) this (map bytes_of connections) written)
-    cut_next once alone alike next = record {
+    cut_next ordered once alone alike next = record {
       told = λ ours clean this stand.
           let so = so_far.told ours (next_goes.clean clean) this stand in
           in_part bytes_of First Then Whole (kept_on view desk between after) (kept_plain view desk after) (kept_once view desk after once) this connections written index connection
-          so there is alone alike
+          so there is alone alike (kept_known view desk after ordered ours this stand)
           (next.told (goes.ours ours (next_goes.clean clean)) clean so.now (stands_after view desk between this (calls_in so.exchanges) so.now so.run));
     }

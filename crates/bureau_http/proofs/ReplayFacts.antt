@@ -1,11 +1,10 @@
 -- Connections over a store in memory.
 use Rattle.std.proofs.Common.{◌≡◌, ℕ, List, Result, Ok, IfOk, subst}
 use Rattle.faults.specs.declared.any.AnyFault.{AnyFault}
-use Rattle.std.specs.List.Sorted.{IsStrictlySortedBy}
 use Rattle.std.proofs.lemmas.Result.{IfOk-weaker}
 use Rattle.bureau_store.specs.Callers.{callers_of}
 use Rattle.bureau_store.specs.Lists.{Lists, tables_of}
-use Rattle.bureau_store.specs.Tables.{AreInOrder, Tables, opened}
+use Rattle.bureau_store.specs.Tables.{Tables, opened}
 use Rattle.bureau_store.specs.declared.caller.CallerRow.{CallerRow}
 use Rattle.bureau.specs.Joint.{CallBy, IsRun}
 use Rattle.bureau_http.specs.List.{AreServed, calls_in}
@@ -35,11 +34,6 @@ pub from_store : (connections written : List (List ℕ)) (store that : Lists) �
     → AreServed IsRun (tables_of that) connections written
 from_store connections written store that same served = subst (λ (store : Lists). AreServed IsRun (tables_of store) connections written) same served
 
--- a store that is new is in order
-opened_in_order : (rows : List CallerRow) → AreInOrder (opened rows)
-unfolding IsStrictlySortedBy
-opened_in_order rows = record { content = record { sysmods = tt; holds = tt }; zones = λ client. tt }
-
 -- what is served over a store that is new is a replay
 pub replayed : {Texts : Type 0} (texts : Texts → List (List ℕ)) (result : Result Texts AnyFault) (text : List ℕ) (connections : List (List ℕ)) (rows slice : List CallerRow) → slice ≡ rows
     → callers_of text ≡ Ok rows → IfOk result (λ written. AreServed IsRun (opened slice) connections (texts written))
@@ -47,4 +41,4 @@ pub replayed : {Texts : Type 0} (texts : Texts → List (List ℕ)) (result : Re
 replayed texts result text connections rows slice same read served =
     IfOk-weaker result _ _ (λ written all.
     let whole = subst (λ (r : List CallerRow). AreServed IsRun (opened r) connections (texts written)) same all in
-    record { rows = rows; read = read; served = whole; isolated = whole.isolated (opened_in_order rows) }) served
+    record { rows = rows; read = read; served = whole; isolated = whole.isolated }) served

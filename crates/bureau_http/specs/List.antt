@@ -2,7 +2,7 @@
 use Rattle.std.specs.Prelude.{◌≡◌, ℕ, List, [], ◌∷◌, ◌++◌, length, map, take, drop, Result, Ok, Err}
 use Rattle.std.specs.Global.{Vec}
 use Rattle.std.specs.List.{AllByRecursion, flat_map}
-use Rattle.bureau_store.specs.Tables.{AreInOrder, Tables}
+use Rattle.bureau_store.specs.Tables.{Tables}
 use Rattle.bureau_store.specs.declared.caller.CallerRow.{CallerRow}
 use Rattle.bureau.specs.Joint.{CallBy}
 use Rattle.bureau_http.specs.Connection.{IsConnection, IsOwn, Stop}
@@ -37,7 +37,7 @@ pub record AreServed (Runs : Tables → List CallBy → Tables → Type 0) (this
   pub exchanges : List (List Exchange)
   pub ran : IsOneRun Runs this (calls_in exchanges)
   pub whole : AreWhole this.callers connections written exchanges
-  pub isolated : AreInOrder this → AreIsolated this (joined exchanges)
+  pub isolated : AreIsolated this (joined exchanges)
 
 -- of a connection that was cut off, some first requests were answered
 abbrev pub IsInHand : List CallerRow → List (List ℕ) → List Exchange → Type 0
@@ -51,7 +51,7 @@ pub record AreServedInPart (Runs : Tables → List CallBy → Tables → Type 0)
   pub ran : IsOneRun Runs this (calls_in exchanges ++ calls_of hand)
   pub whole : AreWhole this.callers (take (length written) connections) written exchanges
   pub in_hand : IsInHand this.callers (drop (length written) connections) hand
-  pub isolated : AreInOrder this → AreIsolated this (joined exchanges ++ hand)
+  pub isolated : AreIsolated this (joined exchanges ++ hand)
 
 -- ---- private: what serving a list answers, and one connection of it
 

@@ -18,4 +18,7 @@ impl<S: Store, J: Judge<S>> Desk for Bureau<S, J> {
     }
 
     ghost tables_lawful = { bureau_lawful S.tables_view J.is_right S.tables_lawful };
+
+    ghost tables_in_order = { λ bureau tables ours is_open stands.
+        S.tables_in_order bureau.store tables ours is_open stands.0 };
 }

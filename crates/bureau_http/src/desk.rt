@@ -1,12 +1,12 @@
 //! Desks: they know whose a token is, and answer calls. The bureau over any store and judge is one.
 ghost use Rattle.std.specs.Prelude.{◌≡◌, IfOk, IfSome};
-ghost use Rattle.catalogue.specs.View.{IsLawful, Tells, View};
+ghost use Rattle.catalogue.specs.View.{IsLawful, IsOpen, Tells, View};
 ghost use Rattle.bureau.specs.Answering.{IsAnswered};
 ghost use Rattle.bureau.specs.Calls.{call_as};
 ghost use Rattle.bureau.specs.Replies.{reply_as};
 ghost use Rattle.bureau_store.specs.Caller.{IsProper, caller_with};
 ghost use Rattle.bureau_store.specs.Store.{Reads};
-ghost use Rattle.bureau_store.specs.Tables.{Tables};
+ghost use Rattle.bureau_store.specs.Tables.{AreInOrder, Tables};
 
 use bureau::{Call, Reply};
 use bureau_store::{Caller, StoreFault};
@@ -39,4 +39,9 @@ pub trait Desk {
 
     /// The laws of the view.
     ghost tables_lawful: { IsLawful tables_view };
+
+    /// If this product made what lies below, the published content and each client's zones are in order.
+    ghost tables_in_order: { (desk : Self) (tables : Tables)
+        → tables_view.is_ours desk → IsOpen tables_view desk → tables_view.stands desk tables
+        → AreInOrder tables };
 }

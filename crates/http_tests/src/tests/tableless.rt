@@ -45,6 +45,8 @@ impl<A: Answering + Drop> Desk for Tableless<A> {
       one = λ desk is_open this other first second. absurd first;
     } };
 
+    ghost tables_in_order = { λ desk tables ours is_open stands. absurd stands };
+
     fn caller_of(&mut self, token: &[u8]) -> Result<Option<Caller>, StoreFault> {
         match self.answering.found(token) {
             Ok(found) => Ok(found),

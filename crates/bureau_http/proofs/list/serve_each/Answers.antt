@@ -6,7 +6,7 @@ use Rattle.catalogue.proofs.SourceFacts.{goes_on, told_so}
 use Rattle.catalogue.specs.View.{Tells}
 use Rattle.bureau_http.specs.List.{AreServed, AreServedInPart, AreSoFar, IsOneCut, IsOneServed}
 use Rattle.bureau_http.proofs.ListFacts.{all_served, as_cut, nothing}
-use Rattle.bureau_http.proofs.NextFacts.{acts_once, cut_next, kept_once, kept_plain, served_next}
+use Rattle.bureau_http.proofs.NextFacts.{acts_once, cut_next, kept_known, kept_once, kept_plain, served_next}
 use Rattle.bureau_http.proofs.list.serve_each.Goals as goal
 
 pub returns-in_default-clause-served : goal.returns-in_default-clause-served
@@ -18,7 +18,7 @@ returns-in_default-clause-served g c = record {
       let all = map (λ t. t.items) c.args.connections.now in
       subst (AreServedInPart whole this all) (ap (map (λ t. t.items)) (sym c.new-written.ensures.items))
       (nothing whole (kept_plain view desk desk) (kept_once view desk desk (acts_once c.repeats.ensures.once c.repeats.ensures.stale)) this all
-      c.isolation.ensures.alone c.isolation.ensures.alike (refl, idle view desk this stand));
+      c.isolation.ensures.alone c.isolation.ensures.alike (kept_known view desk desk g.met.D.Desk.tables_in_order ours this stand) (refl, idle view desk this stand));
 }
 
 pub returns-in_default-replies_to-clause-served : goal.returns-in_default-replies_to-clause-served
@@ -28,7 +28,7 @@ returns-in_default-replies_to-clause-served g c =
     let after = c.replies_to.new.desk in
     cut_next view c.args.desk.now between after c.loop-connection.invariant.goes c.replies_to.ensures.goes (λ v. v.items) c.args.connections.now
     (map (λ t. t.items) c.loop-connection.written.items) c.loop-connection.connection-index c.connection-item.result c.loop-connection-test.true c.connection-item.is c.loop-connection.invariant.so_far
-    (acts_once c.repeats.ensures.once c.repeats.ensures.stale) c.isolation.ensures.alone c.isolation.ensures.alike
+    g.met.D.Desk.tables_in_order (acts_once c.repeats.ensures.once c.repeats.ensures.stale) c.isolation.ensures.alone c.isolation.ensures.alike
     (subst (λ b. Tells view between after (λ this. IsOneCut (IsKeptRun view between after) this b)) c.as_slice.ensures.value c.in_default-replies_to.ensures.cut)
 
 pub returns-in-Err-clause-served : goal.returns-in-Err-clause-served
@@ -42,7 +42,7 @@ returns-in-Err-clause-served g c =
     (ap (map (λ t. t.items)) (sym c.in-Err.ensures.items))
     (cut_next view desk between after c.loop-connection.invariant.goes c.replies_to.ensures.goes (λ v. v.items) c.args.connections.now
     (map (λ t. t.items) c.loop-connection.written.items) c.loop-connection.connection-index c.connection-item.result c.loop-connection-test.true c.connection-item.is c.loop-connection.invariant.so_far
-    (acts_once c.repeats.ensures.once c.repeats.ensures.stale) c.isolation.ensures.alone c.isolation.ensures.alike
+    g.met.D.Desk.tables_in_order (acts_once c.repeats.ensures.once c.repeats.ensures.stale) c.isolation.ensures.alone c.isolation.ensures.alike
     (told_so (subst (λ b. Tells view between after (λ this. IsOneServed (IsKeptRun view between after) this b text)) c.as_slice.ensures.value c.in-Ok-replies_to.ensures.served)
     (λ this one. as_cut (IsKeptRun view between after) this c.connection-item.result.items text one)))
 
@@ -74,5 +74,6 @@ returns-clause-served g c = record {
       let all = ap (map (λ t. t.items)) (take_all c.loop-connection.connection-index c.args.connections.now c.loop-connection-test.false) in
       subst (λ cs. AreServed whole this cs texts) all
       (all_served whole (kept_plain view desk between) (kept_once view desk between (acts_once c.repeats.ensures.once c.repeats.ensures.stale)) this
-      (map (λ t. t.items) (take c.loop-connection.connection-index c.args.connections.now)) texts c.isolation.ensures.alone c.isolation.ensures.alike so);
+      (map (λ t. t.items) (take c.loop-connection.connection-index c.args.connections.now)) texts c.isolation.ensures.alone c.isolation.ensures.alike
+      (kept_known view desk between g.met.D.Desk.tables_in_order ours this stand) so);
 }
