@@ -4,9 +4,10 @@ use Rattle.std.proofs.Math.ListN.{length-set, replicate}
 use Rattle.std.proofs.lemmas.List.Sums.{sum_by-cons}
 use Rattle.std.specs.List.{sum}
 use Rattle.connections.specs.Items.{Event, Grows, IsEnded, Moves, Sends, Slots, came, bytes, wrote, ended, failed, late, fresh}
-use Rattle.connections.specs.Memory.{AreWithin, HasRoom, IsWithin, Needs, StaysWithin, held_by, held_in}
+use Rattle.connections.specs.Memory.{AreWithin, HasRoom, IsReplyCounted, IsWithin, Needs, ReadsOn, StaysWithin, held_by, held_in}
+use Rattle.connections.specs.Replies.{IsCounted, kept_of}
 use Rattle.connections.specs.Shares.{Shared}
-use Rattle.connections.specs.Turns.{IsToldOf, Misses, Occurs}
+use Rattle.connections.specs.Turns.{IsToldOf, Misses, Occurs, out_at}
 use Rattle.connections.specs.declared.connection.Connection.{Connection}
 use Rattle.connections.specs.declared.connection.Phase.TheVariants.{Open}
 use Rattle.connections.specs.declared.event.Told.{Told}
@@ -143,6 +144,13 @@ needs_by t shares slot share (Some x) e h low = let held : held_in x ≤ 16384 +
 pub needs_more : (t : Slots) (shares : List ℕ) (slot share : ℕ) → AreWithin t shares → get_or shares slot 0 ≤ share → Needs share (slice_get t slot)
 needs_more t shares slot share h low = needs_by t shares slot share (slice_get t slot) refl h low
 
+-- ---- replies
+
+-- the reply was counted after a step that counts none
+pub reply_counted : (slot other : ℕ) (old mid new : Connections) → mid.replies ≡ old.replies → slot ≡ other → IsReplyCounted slot mid new → IsReplyCounted other old new
+reply_counted slot other old mid new same is counted =
+    subst (λ n. IsReplyCounted n old new) is (subst (λ l. IsCounted slot (kept_of (get_or l slot 0) (out_at (slice_get new.slots.items slot))) l new.replies) same counted)
+
 -- ---- room for more
 
 pub no_room : (given : List ℕ) (slot : ℕ) (o : Option (Option Connection)) → HasRoom 0 given slot o
@@ -153,6 +161,12 @@ no_room given slot (Some (Some connection)) = λ some. absurd (omega arith)
 pub has_room : (room : ℕ) (given : List ℕ) (slot : ℕ) (o : Option (Option Connection)) (connection : Connection) → o ≡ Some (Some connection)
     → connection.out ≡ [] → connection.phase ≡ Open → (0 < room → length connection.held + room ≤ 16384 + get_or given slot 0) → HasRoom room given slot o
 has_room room given slot o connection e out phase low = subst (HasRoom room given slot) (sym e) (λ some. (out, phase, low some))
+
+-- a connection that reads on has the room that is left
+pub reads_room : (room held : ℕ) (given : List ℕ) (slot : ℕ) (old new : Slots) → new ≡ old → ReadsOn held (slice_get old slot)
+    → (0 < room → held + room ≤ 16384 + get_or given slot 0) → HasRoom room given slot (slice_get new slot)
+reads_room room held given slot old new same (connection, at, out, phase, len) low =
+    has_room room given slot (slice_get new slot) connection (ap (λ l. slice_get l slot) same ∙ at) out phase (λ some. let fits = low some in omega (arith, fits, len))
 
 -- ---- after an event that brings no bytes
 

@@ -6,6 +6,7 @@ pub mod SideBySide
 pub mod Service
 pub mod Rounds
 pub mod Shares
+pub mod Replies
 pub mod Memory
 pub mod Fair
 pub mod Preview

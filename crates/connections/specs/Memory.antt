@@ -1,6 +1,8 @@
 -- The bytes that all connections hold together: those that came over them and were not yet taken off as requests.
-use Rattle.std.specs.Prelude.{◌≡◌, ℕ, ◌+◌, ◌<◌, ◌≤◌, List, [], ◌∷◌, get_or, length, sum_by, Option, Some, None}
+use Rattle.std.specs.Prelude.{◌≡◌, ◌⊎◌, ℕ, ◌+◌, ◌<◌, ◌≤◌, List, [], ◌∷◌, get_or, length, sum, slice_get, sum_by, Option, Some, None}
 use Rattle.connections.specs.Items.{Slots}
+use Rattle.connections.specs.Replies.{IsCounted, kept_of}
+use Rattle.connections.specs.Turns.{out_at}
 use Rattle.connections.specs.declared.connection.Connection.{Connection}
 use Rattle.connections.specs.declared.connection.Phase.TheVariants.{Open}
 use Rattle.connections.specs.declared.slots.Connections.{Connections}
@@ -30,6 +32,14 @@ pub record StaysWithin (old new : Connections) : Type 0 where
   pub limit : new.shares.limit ≡ old.shares.limit
   pub within : IsWithin old → IsWithin new
 
+-- A slot gets more of the limit only if bodies and replies together are within it then.
+abbrev pub AreBeside : Connections → Connections → Type 0
+AreBeside old new = (new.replies ≡ old.replies) × ((new.shares ≡ old.shares) ⊎ (sum new.shares.given + sum new.replies ≤ new.shares.limit))
+
+-- The reply in a slot was counted, and that of no other.
+abbrev pub IsReplyCounted : ℕ → Connections → Connections → Type 0
+IsReplyCounted slot old new = IsCounted slot (kept_of (get_or old.replies slot 0) (out_at (slice_get new.slots.items slot))) old.replies new.replies
+
 -- So many bytes more may come to a slot: only over a connection that reads on, and no more than fit a head's room and its share.
 abbrev pub HasRoom : ℕ → List ℕ → ℕ → Option (Option Connection) → Type 0
 HasRoom room given slot None = room ≡ 0
@@ -43,3 +53,7 @@ HasRoom room given slot (Some (Some connection)) =
 abbrev pub Needs : ℕ → Option (Option Connection) → Type 0
 Needs needed None = Unit {0}
 Needs needed (Some slot) = held_in slot ≤ 16384 + needed
+
+-- a connection stands there that reads on, and holds so many bytes
+abbrev pub ReadsOn : ℕ → Option (Option Connection) → Type 0
+ReadsOn held slot = (connection : Connection) × (slot ≡ Some (Some connection)) × (connection.out ≡ []) × (connection.phase ≡ Open) × (length connection.held ≡ held)

@@ -95,11 +95,11 @@ impl Connection {
     }
 
     // Notes that so many of the bytes that have to go out were written.
-    pub(crate) fn wrote(&mut self, count: usize)
+    pub(crate) fn wrote(&mut self, alloc: Global, count: usize)
         requires { count ≤ length self.old.out }
         ensures { Sends (take count self.old.out) self.old self.new }
     {
-        self.out.wrote(count);
+        self.out.wrote(alloc, count);
     }
 
     // Notes that its peer ended its side.

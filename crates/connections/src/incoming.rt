@@ -97,6 +97,16 @@ impl Incoming {
         if self.is_short_of(unread.len()) {
             return Ok(Preview::Part);
         }
+        if self.len() == 0 {
+            return preview_of(alloc, self.bytes.bytes(), unread);
+        }
+        let mut all = Vec::from_slice(alloc, self.bytes.bytes())?;
+        all.extend_from_slice(unread)?;
+        // What came was looked through before.
+        let mut progress = self.progress;
+        if progress.is_short(all.as_slice()) {
+            return Ok(Preview::Part);
+        }
         preview_of(alloc, self.bytes.bytes(), unread)
     }
 

@@ -4,7 +4,7 @@
 //! Nothing here reads or writes. The caller does, tells what happened, one [`Event`] after the other, in whatever
 //! order, and writes what [`Connections::outgoing`] shows. So no connection waits for another.
 //!
-//! - [`Connections`]: the connections, each in its slot
+//! - [`Connections`]: the connections, each in its slot, and what bodies ([`Shares`]) and replies ([`Replies`]) take
 //! - [`Event`]: what happens to one of them
 //! - [`serve_events`]: goes through events in order; [`serve_event`]: serves one of them
 //! - [`serve_rounds`]: serves the events of [`Rounds`], until all connections were served; [`Halt`]
@@ -37,6 +37,7 @@ mod event;
 mod incoming;
 mod outgoing;
 mod preview;
+mod replies;
 mod rounds;
 mod service;
 mod serving;
@@ -49,6 +50,7 @@ pub use event::Event;
 pub use incoming::Incoming;
 pub use outgoing::Outgoing;
 pub use preview::Preview;
+pub use replies::Replies;
 pub use rounds::{Halt, Round, RoundFault, Rounds, serve_rounds};
 pub use serving::{serve_event, serve_events};
 pub use shares::Shares;

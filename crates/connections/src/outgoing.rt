@@ -64,11 +64,15 @@ impl Outgoing {
         self.len() == 0
     }
 
-    /// Removes the first bytes, which were written.
-    pub fn wrote(&mut self, count: usize)
+    /// Removes the first bytes, which were written. Once all were, they take no memory.
+    pub fn wrote(&mut self, alloc: Global, count: usize)
         requires { count ≤ length self.old }
         ensures { self.new ≡ drop count self.old }
     {
-        self.written += count;
+        if count == self.len() {
+            *self = Outgoing::new(alloc);
+        } else {
+            self.written += count;
+        }
     }
 }

@@ -1,10 +1,10 @@
 //! Events in order, and the requests that are answered after each.
-ghost use Rattle.std.specs.Prelude.{◌+◌, ◌*◌, ◌≤◌, [], ◌∷◌, length, map};
+ghost use Rattle.std.specs.Prelude.{◌≡◌, ◌+◌, ◌*◌, ◌≤◌, [], ◌∷◌, length, map};
 ghost use Rattle.bureau.specs.Kept.{IsKeptRun};
 ghost use Rattle.bureau.specs.Runs.{IsLawfulRun};
 ghost use Rattle.catalogue.specs.View.{Goes, Tells};
-ghost use Rattle.connections.specs.Items.{event_of};
-ghost use Rattle.connections.specs.Memory.{IsWithin, StaysWithin, held_by};
+ghost use Rattle.connections.specs.Items.{event_of, slot_of};
+ghost use Rattle.connections.specs.Memory.{IsReplyCounted, IsWithin, StaysWithin, held_by};
 ghost use Rattle.connections.specs.SideBySide.{AreDone, AreServedSideBySide, IsOnward};
 ghost use Rattle.connections.specs.Turns.{AreSettled, AreSettledBut};
 
@@ -61,7 +61,7 @@ fn go_through<D: Desk>(
 }
 
 /// Serves one event. Then it answers the next request of its connection, if that has come whole and the last reply
-/// went out.
+/// went out. The reply counts from then on, until all of it went out.
 pub fn serve_event<D: Desk>(
     alloc: Global,
     desk: &mut D,
@@ -71,6 +71,7 @@ pub fn serve_event<D: Desk>(
 )
     ensures onward { IsOnward D.tables_view desk.old desk.new (event_of event.now ∷ [])
         connections.old connections.new }
+    ensures replies { IsReplyCounted (slot_of (event_of event.now)) connections.old connections.new }
 {
     tell(alloc, desk, routes, connections, event);
     connections.give_back(event.slot());
@@ -86,6 +87,7 @@ fn tell<D: Desk>(
 )
     ensures onward { IsOnward D.tables_view desk.old desk.new (event_of event.now ∷ [])
         connections.old connections.new }
+    ensures replies { connections.new.replies ≡ connections.old.replies }
 {
     match connections.happens(alloc, event) {
         Told::Done => go_on(alloc, desk, routes, connections, event.slot()),
@@ -109,6 +111,7 @@ fn go_on<D: Desk>(
     ensures settled { Tells D.tables_view desk.old desk.new (λ this.
         AreSettledBut slot connections.old.slots.items → AreSettled connections.new.slots.items) }
     ensures within { StaysWithin connections.old connections.new }
+    ensures replies { connections.new.replies ≡ connections.old.replies }
 {
     let Some(mut connection) = connections.take(slot) else {
         return;

@@ -51,6 +51,13 @@ impl Shares {
         self.limit
     }
 
+    /// What is left of it.
+    pub fn left(&self) -> usize
+        ensures { result + sum self.now.given ≡ self.now.limit }
+    {
+        self.left
+    }
+
     /// The share of a slot.
     pub fn of(&self, slot: usize) -> usize
         ensures { result ≡ get_or self.now.given slot 0 }
@@ -66,6 +73,8 @@ impl Shares {
         ensures given { result ≡ true →
             self.new ≡ record { limit = self.old.limit; given = slice_set self.old.given slot share } }
         ensures share { result ≡ true → get_or self.new.given slot 0 ≡ share }
+        ensures sum { result ≡ true →
+            sum self.new.given + get_or self.old.given slot 0 ≡ sum self.old.given + share }
         ensures kept { result ≡ false → self.new ≡ self.old }
         ensures fits { result ≡ false → slot < length self.old.given →
             self.old.limit + get_or self.old.given slot 0 < sum self.old.given + share }

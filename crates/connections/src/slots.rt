@@ -1,11 +1,13 @@
 //! Connections, each in its slot.
-ghost use Rattle.std.specs.Prelude.{◌≡◌, ◌+◌, ◌<◌, ◌≤◌, ◌↔◌, true, IsTrue, get_or, length, None, Some, IfNone, IfOk, IfSome, replicate, slice_get, slice_set};
+ghost use Rattle.std.specs.Prelude.{◌≡◌, ◌+◌, ◌<◌, ◌≤◌, ◌↔◌, true, IsTrue, get_or, length, None, Some, IfNone, IfOk, IfSome, replicate, slice_get, slice_set, sum};
 ghost use Rattle.connections.specs.Items.{AreFree, NoneIs, bytes, came, ended, event_of, failed, wrote};
-ghost use Rattle.connections.specs.Memory.{HasRoom, IsWithin, Needs, StaysWithin};
+ghost use Rattle.connections.specs.Memory.{AreBeside, HasRoom, IsReplyCounted, IsWithin, Needs, ReadsOn, StaysWithin};
+ghost use Rattle.connections.specs.Replies.{kept_of};
 ghost use Rattle.connections.specs.Turns.{AreSettled, IsToldOf, out_at};
 
 use crate::connection::{Connection, Phase};
 use crate::event::{Event, Told};
+use crate::replies::Replies;
 use crate::shares::Shares;
 use std::alloc::{AllocError, Global};
 
@@ -14,13 +16,16 @@ const HEAD_ROOM: usize = 16_384;
 
 /// Connections, each in its slot.
 ///
-/// Each may hold as many bytes as a head may have. To hold more, it needs a share of a limit for all.
+/// Each may hold as many bytes as a head may have. To hold more, it needs a share of a limit for all. The replies that
+/// wait count against the same limit.
 #[derive(Drop)]
 pub struct Connections {
     /// The connection in each slot.
     pub slots: Vec<Option<Connection>>,
     /// The bytes that each may hold beyond that.
     pub shares: Shares,
+    /// The bytes of the reply in each slot, until all of it went out.
+    pub replies: Replies,
 }
 
 impl Connections {
@@ -33,6 +38,7 @@ impl Connections {
         ensures free { IfOk result (λ connections. connections.slots.items ≡ replicate count None) }
         ensures settled { IfOk result (λ connections. AreSettled connections.slots.items) }
         ensures limit { IfOk result (λ connections. connections.shares.limit ≡ limit) }
+        ensures replies { IfOk result (λ connections. connections.replies ≡ replicate count 0) }
         ensures within { IfOk result IsWithin }
     {
         let mut slots = Vec::new(alloc);
@@ -42,6 +48,7 @@ impl Connections {
         Ok(Connections {
             slots,
             shares: Shares::new(alloc, count, limit)?,
+            replies: Replies::new(alloc, count)?,
         })
     }
 
@@ -67,6 +74,14 @@ impl Connections {
         true
     }
 
+    /// Whether bodies and replies together take more than the limit: then a reply more has to wait.
+    pub fn are_full(&self) -> bool
+        ensures { IsTrue result ↔
+            self.now.shares.limit < sum self.now.shares.given + sum self.now.replies }
+    {
+        self.shares.left() < self.replies.all()
+    }
+
     /// The bytes that have to go out over the connection in a slot, and were not yet written.
     pub fn outgoing(&self, slot: usize) -> &[u8]
         ensures { result.now ≡ out_at (slice_get self.now.slots.items slot) }
@@ -85,6 +100,7 @@ impl Connections {
         ensures none { IfNone result (NoneIs self.old.slots.items slot (λ before. Unit {0})
             × (self.new.slots.items ≡ self.old.slots.items)) }
         ensures shares { self.new.shares ≡ self.old.shares }
+        ensures replies { self.new.replies ≡ self.old.replies }
     {
         if slot < self.slots.len() {
             self.slots[slot].take()
@@ -98,6 +114,7 @@ impl Connections {
         requires { slot < length self.old.slots.items }
         ensures into { self.new.slots.items ≡ slice_set self.old.slots.items slot (Some connection) }
         ensures shares { self.new.shares ≡ self.old.shares }
+        ensures replies { self.new.replies ≡ self.old.replies }
     {
         self.slots[slot] = Some(connection);
     }
@@ -116,6 +133,7 @@ impl Connections {
     fn come(&mut self, alloc: Global, slot: usize) -> Told
         ensures told { IsToldOf result self.old.slots.items (came slot) self.new.slots.items }
         ensures shares { self.new.shares ≡ self.old.shares }
+        ensures replies { self.new.replies ≡ self.old.replies }
     {
         if !self.is_free(slot) {
             return Told::Stray;
@@ -128,6 +146,7 @@ impl Connections {
     fn take_in(&mut self, slot: usize, text: &[u8]) -> Told
         ensures told { IsToldOf result self.old.slots.items (bytes slot text.now) self.new.slots.items }
         ensures within { StaysWithin self.old self.new }
+        ensures replies { self.new.replies ≡ self.old.replies }
     {
         let Some(mut connection) = self.take(slot) else {
             return Told::Stray;
@@ -147,9 +166,10 @@ impl Connections {
     }
 
     // Notes that so many bytes of a slot were written.
-    fn sent(&mut self, slot: usize, count: usize) -> Told
+    fn sent(&mut self, alloc: Global, slot: usize, count: usize) -> Told
         ensures told { IsToldOf result self.old.slots.items (wrote slot count) self.new.slots.items }
         ensures shares { self.new.shares ≡ self.old.shares }
+        ensures replies { self.new.replies ≡ self.old.replies }
     {
         let Some(mut connection) = self.take(slot) else {
             return Told::Stray;
@@ -158,7 +178,7 @@ impl Connections {
             self.put(slot, connection);
             return Told::Stray;
         }
-        connection.wrote(count);
+        connection.wrote(alloc, count);
         self.put(slot, connection);
         Told::Done
     }
@@ -167,6 +187,7 @@ impl Connections {
     fn end(&mut self, slot: usize) -> Told
         ensures told { IsToldOf result self.old.slots.items (ended slot) self.new.slots.items }
         ensures shares { self.new.shares ≡ self.old.shares }
+        ensures replies { self.new.replies ≡ self.old.replies }
     {
         let Some(mut connection) = self.take(slot) else {
             return Told::Stray;
@@ -184,6 +205,7 @@ impl Connections {
     fn give_up(&mut self, slot: usize) -> Told
         ensures told { IsToldOf result self.old.slots.items (failed slot) self.new.slots.items }
         ensures shares { self.new.shares ≡ self.old.shares }
+        ensures replies { self.new.replies ≡ self.old.replies }
     {
         match self.take(slot) {
             Some(_) => Told::Done,
@@ -195,11 +217,12 @@ impl Connections {
     pub(crate) fn happens(&mut self, alloc: Global, event: &Event) -> Told
         ensures told { IsToldOf result self.old.slots.items (event_of event.now) self.new.slots.items }
         ensures within { StaysWithin self.old self.new }
+        ensures replies { self.new.replies ≡ self.old.replies }
     {
         match event {
             Event::Came(slot) => self.come(alloc, *slot),
             Event::Bytes(slot, text) => self.take_in(*slot, text),
-            Event::Wrote(slot, count) => self.sent(*slot, *count),
+            Event::Wrote(slot, count) => self.sent(alloc, *slot, *count),
             Event::Ended(slot) => self.end(*slot),
             Event::Failed(slot) => self.give_up(*slot),
             Event::Late(slot) => self.give_up(*slot),
@@ -209,21 +232,17 @@ impl Connections {
     /// The number of bytes that may be read next over the connection in a slot.
     ///
     /// It is 0 if a reply has to go out first, or the peer ended its side. A request may have more bytes than a head.
-    /// It is read on only if all of it fits what is left of the limit, and then it gets its share of that. Until it
-    /// fits, no more of it is read.
+    /// It is read on only if all of it fits what is left of the limit beside the replies that wait, and then it gets its
+    /// share of that. Until it fits, no more of it is read.
     pub fn room(&mut self, slot: usize) -> usize
         ensures slots { self.new.slots.items ≡ self.old.slots.items }
         ensures within { StaysWithin self.old self.new }
+        ensures beside { AreBeside self.old self.new }
         ensures fits { HasRoom result self.new.shares.given slot (slice_get self.new.slots.items slot) }
     {
-        let Some(Some(connection)) = self.slots.get(slot) else {
+        let Some((held, wanted)) = self.reads_on(slot) else {
             return 0;
         };
-        if !connection.out.is_empty() || connection.phase != Phase::Open {
-            return 0;
-        }
-        let held = connection.held.len();
-        let wanted = connection.held.wanted();
         if wanted <= HEAD_ROOM {
             return HEAD_ROOM.saturating_sub(held);
         }
@@ -233,26 +252,79 @@ impl Connections {
         wanted.saturating_sub(held)
     }
 
-    // Whether a slot has at least this share. It gets the share, if so much is left.
+    // The bytes that the connection in a slot holds, and those that its next request is known to have, if it reads on.
+    fn reads_on(&self, slot: usize) -> Option<(usize, usize)>
+        ensures { IfSome result (λ reads. ReadsOn reads.0 (slice_get self.now.slots.items slot)) }
+    {
+        match self.slots.get(slot) {
+            Some(Some(connection))
+                if connection.out.is_empty() && connection.phase == Phase::Open => {
+                Some((connection.held.len(), connection.held.wanted()))
+            }
+            _ => None,
+        }
+    }
+
+    // Whether a slot has at least this share. It gets the share, if so much is left beside the replies that wait.
     fn admit(&mut self, slot: usize, share: usize) -> bool
         ensures slots { self.new.slots.items ≡ self.old.slots.items }
         ensures within { StaysWithin self.old self.new }
+        ensures beside { AreBeside self.old self.new }
         ensures has { result ≡ true → share ≤ get_or self.new.shares.given slot 0 }
     {
-        if share <= self.shares.of(slot) {
+        let has = self.shares.of(slot);
+        if share <= has {
             return true;
+        }
+        if !self.has_left(share - has) {
+            return false;
         }
         self.shares.give(slot, share)
     }
 
+    // Whether so much is left of the limit beside the replies that wait.
+    fn has_left(&self, more: usize) -> bool
+        ensures { result ≡ true →
+            sum self.now.shares.given + sum self.now.replies + more ≤ self.now.shares.limit }
+    {
+        match self.replies.all().checked_add(more) {
+            Some(taken) => taken <= self.shares.left(),
+            None => false,
+        }
+    }
+
     // Gives back what a slot doesn't need of its share any more: all of it if no connection is there, and what its
-    // connection doesn't hold if that was answered.
+    // connection doesn't hold if that was answered. Counts its reply.
     pub(crate) fn give_back(&mut self, slot: usize)
         ensures slots { self.new.slots.items ≡ self.old.slots.items }
         ensures within { StaysWithin self.old self.new }
+        ensures replies { IsReplyCounted slot self.old self.new }
     {
+        self.count_reply(slot);
         if let Some(needed) = self.needed(slot) {
             self.shares.give(slot, needed);
+        }
+    }
+
+    // Counts the reply in a slot.
+    fn count_reply(&mut self, slot: usize)
+        ensures slots { self.new.slots.items ≡ self.old.slots.items }
+        ensures shares { self.new.shares ≡ self.old.shares }
+        ensures replies { IsReplyCounted slot self.old self.new }
+    {
+        let kept = self.kept(slot);
+        self.replies.note(slot, kept);
+    }
+
+    // The bytes that the reply in a slot takes.
+    fn kept(&self, slot: usize) -> usize
+        ensures { result ≡ kept_of (get_or self.now.replies slot 0) (out_at (slice_get self.now.slots.items slot)) }
+    {
+        let left = self.outgoing(slot).len();
+        if left == 0 {
+            0
+        } else {
+            self.replies.of(slot).max(left)
         }
     }
 

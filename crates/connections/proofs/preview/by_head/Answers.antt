@@ -1,4 +1,4 @@
-use Rattle.std.proofs.Common.{arith, rules}
+use Rattle.std.proofs.Common.{rules}
 use Rattle.requests.specs.Head.{parts_at}
 use Rattle.connections.proofs.PreviewFacts.{ends_refused, ends_whole}
 use Rattle.connections.proofs.preview.by_head.Goals as goal
