@@ -17,8 +17,8 @@ from service import PROGRAM, Desk, check, folder, free_port, main, same, write
 SLOW = 1000
 SOON = 10  # seconds: half of what a desk waits for a head, on however busy a machine
 RESET = struct.pack("ii", 1, 0)
-NORTH, PUBLISHER = "north-token", "publisher-token"
-CALLERS = write(os.path.join(folder(), "callers.csv"), "NAME,TOKEN\nPUBLISH,%s\nNORTH,%s\nSOUTH,south-token\n" % (PUBLISHER, NORTH))
+NORTH, SOUTH, PUBLISHER = "north-token", "south-token", "publisher-token"
+CALLERS = write(os.path.join(folder(), "callers.csv"), "NAME,TOKEN\nPUBLISH,%s\nNORTH,%s\nSOUTH,%s\n" % (PUBLISHER, NORTH, SOUTH))
 
 soft, hard = resource.getrlimit(resource.RLIMIT_NOFILE)
 resource.setrlimit(resource.RLIMIT_NOFILE, (min(hard, 16384), hard))
@@ -188,6 +188,36 @@ class SideBySide(unittest.TestCase):
             connection.setsockopt(socket.SOL_SOCKET, socket.SO_LINGER, RESET)
             connection.close()
         same("after resets in each state the desk goes on", answered(desk.port), desk.zones)
+
+    def test_turns_go_by_caller(self):
+        """A caller asks for long reports over sixty connections at once. Another one waits for a few of them at most."""
+        process, port = open_desk()
+        self.addCleanup(lambda: (process.terminate(), process.wait(), process.stdout.close()))
+        held = ["UJ%05d" % number for number in range(2000)]
+        holds = "++FUNCTION(HBB77E0).\n++VER(Z038).\n" + "".join("++HOLD(%s) ERROR FMID(HBB77E0) REASON(A%s).\n" % (name, name[1:]) for name in held)
+        zone = "SYSMOD,STATE\nHBB77E0,APPLIED\n" + "".join("%s,APPLIED\n" % name for name in held)
+        for method, path, token, body in (("POST", "/publish", PUBLISHER, holds), ("PUT", "/zones/LONG", NORTH, zone)):
+            reply = answered(port, request(method, path, token, 1, body.encode()))
+            check("%s %s" % (method, path), reply.startswith(b"HTTP/1.1 200 "), reply[:300])
+        report, other = request("GET", "/zones/LONG/errsysmods", NORTH), request("GET", "/zones", SOUTH)
+        with connect(port) as connection:
+            reader, alone = Reader(connection), []
+            for _ in range(5):
+                began = time.monotonic()
+                connection.sendall(report)
+                check("a long report", len(reader.reply()) > 100000)
+                alone.append(time.monotonic() - began)
+        crowd = [connect(port) for _ in range(60)]
+        with connect(port) as connection:
+            for it in crowd:
+                it.sendall(report * 2)
+            began = time.monotonic()
+            connection.sendall(other)
+            check("the other is answered", Reader(connection).reply().startswith(b"HTTP/1.1 200 "))
+            waited = time.monotonic() - began
+        for it in crowd:
+            it.close()
+        check("in the time of a few reports", waited < 15 * sorted(alone)[2], "%.3f s, and %.3f s for one report" % (waited, sorted(alone)[2]))
 
     def test_places(self):
         """With four places the connection that has been idle longest gives way; --connections counts who was accepted."""

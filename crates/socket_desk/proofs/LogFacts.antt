@@ -1,11 +1,11 @@
 -- What goes out to the log.
-use Rattle.std.proofs.Common.{◌≡◌, ◌⊎◌, inl, inr, ◌∙◌, ap, sym, subst, refl, arith, ℕ, zero, suc, ◌+◌, ◌-◌, ◌<◌, ◌≤◌, min, Bool, true, false, List, [], ◌∷◌, ◌++◌, append_assoc, append-nil, length, take, drop, take-append-drop, Option, Some, None, slice_get}
+use Rattle.std.proofs.Common.{◌≡◌, inl, inr, ◌∙◌, ap, sym, subst, refl, arith, ℕ, zero, suc, ◌+◌, ◌-◌, ◌<◌, true, false, List, [], ◌∷◌, ◌++◌, append_assoc, append-nil, take, drop, take-append-drop, Option, Some, None, slice_get}
 use Rattle.std.proofs.KnownBytes.{Appends-nil, Appends-trans}
 use Rattle.std.specs.Io.KnownBytes.{Appends, Keeps}
 use Rattle.log_lines.specs.Lines.{lost_text}
 use Rattle.socket_desk.specs.declared.lines.Lines.{Lines}
 use Rattle.socket_desk.specs.declared.log.Log.{Log}
-use Rattle.socket_desk.specs.Logged.{AreLines, AreLogged, AreSent, GoesOut, IsLogged, IsSent, IsToldLost, counted, ends_line, lines_in}
+use Rattle.socket_desk.specs.Logged.{AreLines, AreLogged, AreSent, GoesOut, IsLogged, IsToldLost, counted, lines_in}
 
 -- nothing more goes out
 pub out_none : (a : Option (List ℕ)) (rest : List ℕ) → GoesOut a rest [] a rest

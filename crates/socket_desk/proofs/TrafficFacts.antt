@@ -1,10 +1,10 @@
 -- What happened to sockets, one thing after the other.
-use Rattle.std.proofs.Common.{◌≡◌, ◌⊎◌, inl, inr, ◌∙◌, ap, sym, subst, refl, arith, ℕ, zero, suc, ◌<◌, ◌≤◌, Bool, true, false, List, [], ◌∷◌, ◌++◌, append_assoc, append-nil, length, map, option_map, Option, Some, None, Result, Ok, Err, OnErr, OnOk, slice_get, slice_set}
+use Rattle.std.proofs.Common.{◌≡◌, inl, inr, ◌∙◌, ap, sym, subst, refl, arith, ℕ, zero, suc, Bool, true, false, List, [], ◌∷◌, ◌++◌, append_assoc, append-nil, map, option_map, Option, Some, None, Result, Ok, Err, OnErr, OnOk, slice_get, slice_set}
 use Rattle.std.specs.List.{AllByRecursion, flat_map}
 use Rattle.connections.specs.Items.{Event, Slots, came, bytes, wrote, ended, failed, late}
 use Rattle.connections.specs.Turns.{out_at}
 use Rattle.connections.specs.declared.connection.Connection.{Connection}
-use Rattle.socket_desk.specs.Traffic.{AreMoved, AreShownLast, AreTold, AreToldBut, Carries, IsLast, IsVisit, IsWrite, LetsGo, Move, Moved, Passes, Rests, Socket, Sockets, Transfers, Turns, Writes, comes, fails, leaves, passes, socket_of, sockets_of, times_out, told_in, transfers}
+use Rattle.socket_desk.specs.Traffic.{AreMoved, AreShownLast, AreTold, AreToldBut, Carries, IsLast, IsVisit, IsWrite, LetsGo, Move, Moved, Passes, Socket, Sockets, Transfers, Turns, comes, fails, leaves, passes, socket_of, sockets_of, times_out, told_in, transfers}
 use Rattle.socket_desk.specs.Transfers.{HasWritten}
 use Rattle.socket_desk.specs.declared.visits.Visit.{Visit}
 use Rattle.socket_desk.specs.declared.fault.LoopFault.{LoopFault}

@@ -5,7 +5,7 @@ use Rattle.socket_desk.specs.declared.patience.Patience.{Patience}
 use Rattle.socket_desk.specs.declared.patience.Stage.{Stage}
 use Rattle.socket_desk.specs.declared.patience.Stage.TheVariants.{Idle, Head, Body, Reply, Closing}
 use Rattle.socket_desk.specs.declared.side.Listed.{Listed}
-use Rattle.socket_desk.specs.declared.side.Listed.TheVariants.{Nowhere, Ready, Short}
+use Rattle.socket_desk.specs.declared.side.Listed.TheVariants.{Nowhere, Ready, Short, Turn}
 
 abbrev pub seconds : ℕ → ℕ
 seconds n = n * 1000000000
@@ -30,3 +30,11 @@ judged_at Ready false told now = told
 judged_at Ready true told now = now
 judged_at Nowhere closing told now = now
 judged_at Short closing told now = now
+judged_at Turn closing told now = now
+
+-- One that waits for its turn waits for the desk, and is not late.
+abbrev pub unless_turn : Listed → Bool → Bool
+unless_turn Nowhere late = late
+unless_turn Ready late = late
+unless_turn Short late = late
+unless_turn Turn late = false

@@ -10,7 +10,7 @@ use Rattle.connections.specs.declared.event.Event as code
 use Rattle.socket_desk.specs.Transfers.{HasRead, HasWritten}
 use Rattle.socket_desk.specs.declared.side.Side.{Side}
 use Rattle.socket_desk.specs.declared.visits.Visit.{Visit}
-use Rattle.socket_desk.specs.declared.visits.Visit.TheVariants.{Told, Goes, Waits, Short, Failed, Over}
+use Rattle.socket_desk.specs.declared.visits.Visit.TheVariants.{Told, Goes, Waits, Short, Turn, Failed, Over}
 
 -- A socket: the bytes that are still to be read, and all that were written, as far as they are known. Whether the desk has ended its
 -- side. And whether the socket is ahead of the desk: it came, or was written to, and the desk has not noted that yet.
@@ -73,6 +73,7 @@ IsVisit slot shown (Told event) old new = Transfers slot shown (event_of event) 
 IsVisit slot shown Goes old new = Passes shown old new
 IsVisit slot shown Waits old new = Passes shown old new
 IsVisit slot shown Short old new = Passes shown old new
+IsVisit slot shown Turn old new = Passes shown old new
 IsVisit slot shown Failed old new = (old.is_closing ≡ false) × Keeps old.written new.written
 IsVisit slot shown Over old new = old.is_closing ≡ true
 

@@ -27,6 +27,7 @@ mod sockets;
 mod stream;
 mod sweeping;
 mod transfers;
+mod visiting;
 mod visits;
 
 pub use fault::LoopFault;

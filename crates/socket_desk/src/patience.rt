@@ -1,5 +1,5 @@
 //! How long the desk waits for a client.
-ghost use Rattle.std.specs.Prelude.{◌≡◌};
+ghost use Rattle.std.specs.Prelude.{◌≡◌, min};
 ghost use Rattle.std.specs.Duration.{as_nanos};
 ghost use Rattle.socket_desk.specs.Patience.{is_late, seconds};
 
@@ -13,6 +13,9 @@ const IDLE: u64 = 60;
 
 // A client that sends or takes nothing for so long has gone, or is no client.
 const PAUSE: u64 = 60;
+
+// A client that reads its reply takes some of it in less.
+const PRESSED: u64 = 2;
 
 // The largest body, 64 MiB, in that time is 112 KB a second.
 const WHOLE: u64 = 600;
@@ -77,6 +80,28 @@ impl Patience {
         }
     }
 
+    /// The same, with 2 seconds in a pause at most: for a reply that nobody reads while others wait for its room.
+    pub fn pressed(&self) -> Patience
+        ensures pause { as_nanos result.pause ≡ min (as_nanos self.now.pause) (seconds 2) }
+        ensures others { result ≡ record {
+          head = self.now.head;
+          idle = self.now.idle;
+          pause = result.pause;
+          whole = self.now.whole;
+          closing = self.now.closing;
+          step = self.now.step;
+        } }
+    {
+        Patience {
+            head: self.head,
+            idle: self.idle,
+            pause: shorter(self.pause, Duration::from_secs(PRESSED)),
+            whole: self.whole,
+            closing: self.closing,
+            step: self.step,
+        }
+    }
+
     /// Whether a connection's time is up: at this stage, if it has been quiet for so long, and its request, or
     /// its end, has taken so long in all.
     pub fn is_over(&self, stage: Stage, quiet: Duration, taken: Duration) -> bool
@@ -90,5 +115,16 @@ impl Patience {
             Stage::Reply => quiet > self.pause.as_nanos() || taken > self.whole.as_nanos(),
             Stage::Closing => taken > self.closing.as_nanos(),
         }
+    }
+}
+
+// The shorter one.
+fn shorter(one: Duration, other: Duration) -> Duration
+    ensures { as_nanos result ≡ min (as_nanos one) (as_nanos other) }
+{
+    if one.as_nanos() < other.as_nanos() {
+        one
+    } else {
+        other
     }
 }

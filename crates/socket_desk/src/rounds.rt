@@ -18,8 +18,10 @@ use std::time::{Clock, Duration, Instant};
 
 /// The sockets of a port.
 ///
-/// In each round one read or one write is made of each socket that is ready. Then all of these are told, and so
-/// each connection gets at most one request answered before the next one's turn.
+/// In each round one read or one write is made of each socket that is ready. A request that lies there whole waits for
+/// the turn of its caller, and a round has one turn at most: once all were visited that were ready at the last one, and
+/// as long as bodies and replies together are within the limit. So a caller with many connections adds one request to
+/// what another one waits for.
 ///
 /// If a log is kept, it gets a line for each reply that went out whole, and for each connection that failed, at
 /// the end of the round. What can't be written to it is left out, and nothing else depends on it.
@@ -97,7 +99,7 @@ impl<'c, C: Clock, W: Write> SocketRounds<'c, C, W> {
             return Ok(Round::Busy);
         }
         self.sockets.begin(left)?;
-        let wait = self.patience();
+        let wait = self.patience(connections);
         self.port.wait(wait)?;
         let now = self.look()?;
         self.sockets.lines.begin(self.clock);
@@ -119,8 +121,8 @@ impl<'c, C: Clock, W: Write> SocketRounds<'c, C, W> {
     }
 
     // How long it waits for the system to tell of sockets: not at all if there is more to do.
-    fn patience(&self) -> Duration {
-        if self.sockets.rests() {
+    fn patience(&self, connections: &Connections) -> Duration {
+        if self.sockets.rests(connections) {
             Duration::from_secs(TICK)
         } else {
             Duration::ZERO

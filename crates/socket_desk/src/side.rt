@@ -2,7 +2,7 @@
 ghost use Rattle.std.specs.Prelude.{◌≡◌, ◌-◌, IsTrue, true, false};
 ghost use Rattle.std.specs.Duration.{as_nanos};
 ghost use Rattle.std.specs.Io.KnownBytes.{Keeps};
-ghost use Rattle.socket_desk.specs.Patience.{is_late, judged_at};
+ghost use Rattle.socket_desk.specs.Patience.{is_late, judged_at, unless_turn};
 ghost use Rattle.socket_desk.specs.Traffic.{socket_of};
 
 use crate::moment::Moment;
@@ -21,6 +21,8 @@ pub(crate) enum Listed {
     Ready,
     /// Those whose body doesn't fit the limit yet.
     Short,
+    /// Those whose next request lies there whole, until their caller has its turn.
+    Turn,
 }
 
 /// Why the desk lets a connection go, should it do so next.
@@ -67,6 +69,8 @@ pub(crate) struct Side<T> {
     pub(crate) told: Moment,
     // how many bytes may be read next
     pub(crate) room: usize,
+    // how many of those that lie there end its next request, once it waits for its turn
+    pub(crate) due: usize,
     // the desk has ended its side
     pub(crate) is_closing: bool,
     // it came, or bytes were written to it, and the desk has not noted that yet
@@ -90,6 +94,7 @@ impl<T: Stream> Side<T> {
             heard: now,
             told: now,
             room: 0,
+            due: 0,
             is_closing: false,
             is_ahead: true,
             list: Listed::Nowhere,
@@ -144,15 +149,16 @@ impl<T: Stream> Side<T> {
         self.room = room;
     }
 
-    // Whether its time is up at this stage, by the desk's own time.
+    // Whether its time is up at this stage, by the desk's own time. While it waits for its turn it waits for the desk.
     pub(crate) fn is_late(&self, patience: &Patience, stage: Stage, now: Moment) -> bool
-        ensures { result ≡ is_late patience.now stage
+        ensures { result ≡ unless_turn self.now.list (is_late patience.now stage
             (judged_at self.now.list self.now.is_closing (as_nanos self.now.told.own) (as_nanos now.own)
             - as_nanos self.now.heard.own)
             (judged_at self.now.list self.now.is_closing (as_nanos self.now.told.own) (as_nanos now.own)
-            - as_nanos self.now.since.own) }
+            - as_nanos self.now.since.own)) }
     {
         let judged = match self.list {
+            Listed::Turn => return false,
             Listed::Ready if !self.is_closing => self.told,
             _ => now,
         };

@@ -1,4 +1,4 @@
-//! Sockets that don't block, each in its slot, and whose turn it is.
+//! Sockets that don't block, each in its slot.
 ghost use Rattle.std.specs.Prelude.{◌≡◌, ◌<◌, [], ◌∷◌, ◌++◌, length, map, None, Some, IfNone, IfSome, OnErr, OnOk, slice_get, slice_set};
 ghost use Rattle.connections.specs.Items.{event_of};
 ghost use Rattle.socket_desk.specs.Traffic.{IsNoted, Tells, TellsBut, socket_of, sockets_of};
@@ -10,8 +10,8 @@ use crate::patience::{Patience, Stage};
 use crate::port::{Door, slot_of};
 use crate::side::{Listed, Side};
 use crate::stream::Stream;
-use crate::visits::{ROOM, Visit};
-use connections::{Connections, Event};
+use crate::visits::ROOM;
+use connections::{Connections, Event, Turns};
 use mio::Events;
 use std::alloc::Global;
 use std::collections::VecDeque;
@@ -32,6 +32,10 @@ pub(crate) struct Sockets<T> {
     pub(crate) ready: VecDeque<usize>,
     // Those whose body doesn't fit the limit yet, in the order in which they get what is left of it.
     pub(crate) short: VecDeque<usize>,
+    // Those whose next request lies there whole: each caller has its turn.
+    pub(crate) turns: Turns,
+    // How many of those that are ready are visited before the next turn.
+    pub(crate) before_turn: usize,
     // Connections may wait to be accepted, of which the system won't tell.
     pub(crate) more_wait: bool,
     // How many are to be accepted yet.
@@ -64,6 +68,8 @@ impl<T: Stream> Sockets<T> {
             free,
             ready: VecDeque::with_capacity(alloc, slots)?,
             short: VecDeque::with_capacity(alloc, slots)?,
+            turns: Turns::new(alloc),
+            before_turn: 0,
             more_wait: true,
             left: 0,
             swept: None,
@@ -89,15 +95,22 @@ impl<T: Stream> Sockets<T> {
         self.free.len() == self.sides.len()
     }
 
-    /// The most events of a round: those of visits, and for each that is accepted that it came, and that another
-    /// one gave way; and each connection's time may be up.
+    /// The most events of a round: those of visits and of a turn, and for each that is accepted that it came, and that
+    /// another one gave way; and each connection's time may be up.
     pub(crate) fn most_told(&self) -> usize {
-        self.sides.len().saturating_add(3 * MOST)
+        self.sides.len().saturating_add(3 * MOST + 1)
     }
 
     /// Whether there is nothing to do unless the system tells of it.
-    pub(crate) fn rests(&self) -> bool {
-        self.ready.is_empty() && !self.more_wait
+    pub(crate) fn rests(&self, connections: &Connections) -> bool {
+        self.ready.is_empty()
+            && !self.more_wait
+            && (self.turns.len() == 0 || connections.are_full())
+    }
+
+    /// Whether others wait for the memory of replies that nobody reads, or of bodies.
+    pub(crate) fn is_pressed(&self, connections: &Connections) -> bool {
+        !self.short.is_empty() || (self.turns.len() > 0 && connections.are_full())
     }
 
     /// One read or write of each socket that is ready, beside connections as they stand. What came of it is to be told.
@@ -114,7 +127,7 @@ impl<T: Stream> Sockets<T> {
             self.old.sides.items told.old.items self.new.sides.items told.new.items) }
     {
         self.hear_of(door.events())?;
-        self.visit_ready(connections, now, told)?;
+        self.visit_due(connections, now, told)?;
         self.sweep_if_due(connections, door, now, told)?;
         if self.more_wait {
             self.accept(door, connections, now, told)?;
@@ -136,81 +149,13 @@ impl<T: Stream> Sockets<T> {
         Ok(())
     }
 
-    // Each that waits for its turn gets it, as long as more may be told. The others keep their places before those
-    // that had theirs.
-    fn visit_ready(
-        &mut self,
-        connections: &Connections,
-        now: Moment,
-        told: &mut Vec<Event>,
-    ) -> Result<(), LoopFault>
-        ensures told { OnOk result (Tells T.left T.written connections.now.slots.items
-            self.old.sides.items told.old.items self.new.sides.items told.new.items) }
-        ensures stopped { OnErr result (TellsBut T.left T.written connections.now.slots.items
-            self.old.sides.items told.old.items self.new.sides.items told.new.items) }
-    {
-        for _ in 0..self.ready.len() {
-            if told.len() >= MOST {
-                return Ok(());
-            }
-            self.visit_next(connections, now, told)?;
-        }
-        Ok(())
-    }
-
-    // The turn of the next one, if one waits.
-    fn visit_next(
-        &mut self,
-        connections: &Connections,
-        now: Moment,
-        told: &mut Vec<Event>,
-    ) -> Result<(), LoopFault>
-        ensures told { OnOk result (Tells T.left T.written connections.now.slots.items
-            self.old.sides.items told.old.items self.new.sides.items told.new.items) }
-        ensures stopped { OnErr result (TellsBut T.left T.written connections.now.slots.items
-            self.old.sides.items told.old.items self.new.sides.items told.new.items) }
-    {
-        match self.ready.pop_front() {
-            Some(slot) => self.visit(connections, slot, now, told),
-            None => Ok(()),
-        }
-    }
-
-    // One read or write of the socket in a slot, which is listed no more.
-    fn visit(
-        &mut self,
-        connections: &Connections,
-        slot: usize,
-        now: Moment,
-        told: &mut Vec<Event>,
-    ) -> Result<(), LoopFault>
-        ensures told { OnOk result (Tells T.left T.written connections.now.slots.items
-            self.old.sides.items told.old.items self.new.sides.items told.new.items) }
-        ensures stopped { OnErr result (TellsBut T.left T.written connections.now.slots.items
-            self.old.sides.items told.old.items self.new.sides.items told.new.items) }
-    {
-        let Some(mut side) = self.take_out(slot) else {
-            return Ok(());
-        };
-        side.list = Listed::Nowhere;
-        match self.transfer(connections, slot, &mut side, now) {
-            Visit::Told(event) => {
-                self.put_in(slot, side, Listed::Ready)?;
-                tell(told, event)
-            }
-            Visit::Goes => self.put_in(slot, side, Listed::Ready),
-            Visit::Waits => self.put_in(slot, side, Listed::Nowhere),
-            Visit::Short => self.put_in(slot, side, Listed::Short),
-            Visit::Failed => {
-                tell(told, Event::Failed(slot))?;
-                self.leave(slot, Listed::Nowhere)
-            }
-            Visit::Over => self.leave(slot, Listed::Nowhere),
-        }
-    }
-
     // A socket that was taken out of its slot is put back, and waits among these for a visit.
-    fn put_in(&mut self, slot: usize, side: Side<T>, list: Listed) -> Result<(), LoopFault>
+    pub(crate) fn put_in(
+        &mut self,
+        slot: usize,
+        side: Side<T>,
+        list: Listed,
+    ) -> Result<(), LoopFault>
         ensures { sockets_of T.left T.written self.new.sides.items
             ≡ slice_set (sockets_of T.left T.written self.old.sides.items) slot
             (Some (socket_of T.left T.written side)) }
@@ -244,6 +189,8 @@ impl<T: Stream> Sockets<T> {
             Listed::Nowhere => {}
             Listed::Ready => self.ready.push_back(slot)?,
             Listed::Short => self.short.push_back(slot)?,
+            // It has joined those already.
+            Listed::Turn => {}
         }
         Ok(())
     }
@@ -339,13 +286,15 @@ impl<T: Stream> Sockets<T> {
     }
 
     // A slot gets free. It was listed there.
-    fn leave(&mut self, slot: usize, listed: Listed) -> Result<(), LoopFault>
+    pub(crate) fn leave(&mut self, slot: usize, listed: Listed) -> Result<(), LoopFault>
         ensures { self.new.sides.items ≡ self.old.sides.items }
     {
         match listed {
             Listed::Nowhere => {}
             Listed::Ready => self.ready.retain(|other| *other != slot),
             Listed::Short => self.short.retain(|other| *other != slot),
+            // Only a visit ends one of these, and it has left them then.
+            Listed::Turn => {}
         }
         self.free.push(slot)?;
         self.more_wait = true;

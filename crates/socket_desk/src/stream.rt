@@ -24,6 +24,10 @@ pub(crate) trait Stream: Drop {
         ensures reads { ReadConsumes (left self.old) (left self.new) result room.new }
         ensures keeps { Keeps (written self.old) (written self.new) };
 
+    /// Reads what lies there, as far as there is room, and leaves it there.
+    fn look(&self, room: &mut [u8]) -> io::Result<usize>
+        ensures bound { ReadsAtMost result room.new };
+
     /// Writes what goes out at once, from the beginning of a text.
     fn send(&mut self, text: &[u8]) -> io::Result<usize>
         ensures bound { WritesAtMost result text.now }
@@ -45,6 +49,10 @@ impl Stream for TcpStream {
 
     fn receive(&mut self, room: &mut [u8]) -> io::Result<usize> {
         self.read(room)
+    }
+
+    fn look(&self, room: &mut [u8]) -> io::Result<usize> {
+        self.peek(room)
     }
 
     fn send(&mut self, text: &[u8]) -> io::Result<usize> {

@@ -105,12 +105,16 @@ impl<T: Stream> Sockets<T> {
         self.end(slot, told)
     }
 
-    // Whether the time of the connection in a slot is up.
+    // Whether the time of the connection in a slot is up. A reply that isn't read has less while others wait for its room.
     fn is_late(&self, connections: &Connections, slot: usize, now: Moment) -> bool {
-        match self.sides.get(slot) {
-            Some(Some(side)) => side.is_late(&self.patience, stage(connections, slot, side), now),
-            _ => false,
+        let Some(Some(side)) = self.sides.get(slot) else {
+            return false;
+        };
+        let stage = stage(connections, slot, side);
+        if stage == Stage::Reply && self.is_pressed(connections) {
+            return side.is_late(&self.patience.pressed(), stage, now);
         }
+        side.is_late(&self.patience, stage, now)
     }
 
     // The time of a connection is up. That it can't be read, or written, is told of one with a request alone.

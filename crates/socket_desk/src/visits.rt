@@ -9,7 +9,9 @@ use crate::sockets::{Sockets, stage};
 use crate::stream::Stream;
 use crate::transfers::{Transfer, read_once, write_once};
 use bureau_http::ConnFault;
-use connections::{Connections, Event, Phase};
+use connections::{Connections, Event, Phase, Preview};
+use std::alloc::Global;
+use std::io::{self, ErrorKind};
 
 // The most bytes of a read.
 pub(crate) const ROOM: usize = 65_536;
@@ -25,6 +27,8 @@ pub(crate) enum Visit {
     Waits,
     // There is no room yet for what comes.
     Short,
+    // Its next request lies there whole, and waits for its turn.
+    Turn,
     // A read or a write failed, so its connection is over.
     Failed,
     // It is over, and its connection was before.
@@ -33,12 +37,13 @@ pub(crate) enum Visit {
 
 impl<T: Stream> Sockets<T> {
     /// Makes one read or write of the socket in a slot, from which it was taken out. What the desk has not noted yet comes
-    /// first: until then nothing is done.
+    /// first: until then nothing is done. A request that lies there whole is read once its caller has its turn.
     pub(crate) fn transfer(
         &mut self,
         connections: &Connections,
         slot: usize,
         side: &mut Side<T>,
+        has_turn: bool,
         now: Moment,
     ) -> Visit
         ensures sides { self.new.sides.items ≡ self.old.sides.items }
@@ -57,18 +62,72 @@ impl<T: Stream> Sockets<T> {
             return Visit::Goes;
         }
         if connections.outgoing(slot).is_empty() {
-            self.read(connections, slot, side, now)
+            self.read(connections, slot, side, has_turn, now)
         } else {
             self.write(connections, slot, side, now)
         }
     }
 
-    // Reads once.
+    // Reads what ends no request, and one that has its turn. Others wait for theirs.
     fn read(
         &mut self,
         connections: &Connections,
         slot: usize,
         side: &mut Side<T>,
+        has_turn: bool,
+        now: Moment,
+    ) -> Visit
+        requires { side.old.is_closing ≡ false }
+        ensures sides { self.new.sides.items ≡ self.old.sides.items }
+        ensures visit { IsVisit slot (slice_get connections.now.slots.items slot) result
+            (socket_of T.left T.written side.old) (socket_of T.left T.written side.new) }
+    {
+        if has_turn {
+            return self.read_some(connections, slot, side, side.due, now);
+        }
+        match self.look(connections, slot, side) {
+            Look::Read(count) => self.read_some(connections, slot, side, count, now),
+            Look::Turn(count) => {
+                side.due = count;
+                Visit::Turn
+            }
+            Look::Waits => Visit::Waits,
+            Look::Interrupted => Visit::Goes,
+            Look::Failed => self.failed(ConnFault::Read),
+        }
+    }
+
+    // Looks at what lies there over the connection in a slot. If a request ends in it, it joins those that wait for their
+    // turns, unless there is no memory for that.
+    fn look(&mut self, connections: &Connections, slot: usize, side: &Side<T>) -> Look
+        ensures sides { self.new.sides.items ≡ self.old.sides.items }
+    {
+        let most = side.room.min(self.room.len());
+        if is_short_of(connections, slot, most) {
+            return Look::Read(most);
+        }
+        let (room, _) = self.room.split_at_mut(most);
+        let count = match side.stream.look(room) {
+            Ok(0) => return Look::Read(most),
+            Ok(count) => count,
+            Err(error) => return Look::stopped(&error),
+        };
+        match preview(self.alloc, connections, slot, &room[..count]) {
+            Some(Preview::Whole(due, caller)) => match self.turns.join(caller.as_slice(), slot) {
+                Ok(()) => Look::Turn(due),
+                Err(_) => Look::Read(count),
+            },
+            _ => Look::Read(count),
+        }
+    }
+
+    // Reads once, so many bytes at most.
+    fn read_some(
+        &mut self,
+        connections: &Connections,
+        slot: usize,
+        side: &mut Side<T>,
+        count: usize,
         now: Moment,
     ) -> Visit
         requires { side.old.is_closing ≡ false }
@@ -77,7 +136,7 @@ impl<T: Stream> Sockets<T> {
             (socket_of T.left T.written side.old) (socket_of T.left T.written side.new) }
     {
         let begins = stage(connections, slot, side) == Stage::Idle;
-        let most = side.room.min(self.room.len());
+        let most = count.min(side.room).min(self.room.len());
         if most == 0 {
             return Visit::Short;
         }
@@ -203,6 +262,53 @@ impl<T: Stream> Sockets<T> {
                 _ => Visit::Over,
             },
         }
+    }
+}
+
+// What lies there over a connection.
+#[derive(Clone, Copy, Debug, PartialEq, Eq)]
+enum Look {
+    // So many bytes may be read at once: no request ends in them.
+    Read(usize),
+    // So many end a request, which waits for its turn.
+    Turn(usize),
+    // Nothing yet.
+    Waits,
+    // It was interrupted, and is to be made again.
+    Interrupted,
+    // It failed.
+    Failed,
+}
+
+impl Look {
+    // That of one that ended with this error.
+    fn stopped(error: &io::Error) -> Look {
+        match error.kind() {
+            ErrorKind::WouldBlock => Look::Waits,
+            ErrorKind::Interrupted => Look::Interrupted,
+            _ => Look::Failed,
+        }
+    }
+}
+
+// Whether the next request over the connection in a slot is known to have more bytes than came and so many more.
+fn is_short_of(connections: &Connections, slot: usize, more: usize) -> bool {
+    match connections.slots.get(slot) {
+        Some(Some(connection)) => connection.held.is_short_of(more),
+        _ => false,
+    }
+}
+
+// What bytes that lie unread would bring over the connection in a slot. None if there is no connection, or no memory.
+fn preview(
+    alloc: Global,
+    connections: &Connections,
+    slot: usize,
+    unread: &[u8],
+) -> Option<Preview> {
+    match connections.slots.get(slot) {
+        Some(Some(connection)) => connection.held.preview(alloc, unread).ok(),
+        _ => None,
     }
 }
 

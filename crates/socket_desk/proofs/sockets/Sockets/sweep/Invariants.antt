@@ -1,5 +1,5 @@
 -- what was told so far of what happened
-use Rattle.std.proofs.Common.{◌≡◌, map}
+use Rattle.std.proofs.Common.{map}
 use Rattle.connections.specs.Items.{event_of}
 use Rattle.socket_desk.specs.Traffic.{AreTold, sockets_of}
 use Rattle.socket_desk.proofs.sockets.Sockets.sweep.Given as goal

@@ -1,7 +1,7 @@
 use Rattle.std.proofs.Common.{◌∙◌, map, refl, slice_get}
 use Rattle.connections.specs.Items.{event_of, failed}
 use Rattle.socket_desk.specs.Traffic.{socket_of, sockets_of}
-use Rattle.socket_desk.specs.declared.visits.Visit.TheVariants.{Told, Goes, Waits, Short, Failed, Over}
+use Rattle.socket_desk.specs.declared.visits.Visit.TheVariants.{Told, Goes, Waits, Short, Turn, Failed, Over}
 use Rattle.socket_desk.proofs.TrafficFacts.{again_in, but_none, on_err, on_ok, then_err, then_ok, told_not, told_one, visit_as, visit_failed, visit_over, visit_passes, visit_told}
 use Rattle.socket_desk.proofs.sockets.Sockets.visit.Goals as goal
 
@@ -55,6 +55,17 @@ returns-in-Short-clause-stopped g c =
     on_err c.put_in-in-Short.result (but_none c.args.connections.now.slots.items (sockets_of g.T.Stream.left g.T.Stream.written c.args.self.now.sides.items) (sockets_of g.T.Stream.left g.T.Stream.written c.put_in-in-Short.new.self.sides.items) (map event_of c.args.told.now.items) (map event_of c.args.told.now.items)
     (visit_passes g.T.Stream.left g.T.Stream.written c.args.connections.now.slots.items c.args.self.now.sides.items (sockets_of g.T.Stream.left g.T.Stream.written c.put_in-in-Short.new.self.sides.items) c.args.slot c.in-Some.side (socket_of g.T.Stream.left g.T.Stream.written c.transfer.new.side) (map event_of c.args.told.now.items) c.in-Some.ensures.some
     (again_in g.T.Stream.left g.T.Stream.written c.args.self.now.sides.items c.transfer.new.self.sides.items (sockets_of g.T.Stream.left g.T.Stream.written c.put_in-in-Short.new.self.sides.items) c.args.slot (socket_of g.T.Stream.left g.T.Stream.written c.transfer.new.side) (c.transfer.ensures.sides ∙ c.in-Some.ensures.new) c.put_in-in-Short.ensures) (visit_as c.args.slot (slice_get c.args.connections.now.slots.items c.args.slot) c.transfer.result Short (socket_of g.T.Stream.left g.T.Stream.written c.in-Some.side) (socket_of g.T.Stream.left g.T.Stream.written c.transfer.new.side) c.in-Short.is c.transfer.ensures.visit)))
+
+pub returns-in-Turn-clause-told : goal.returns-in-Turn-clause-told
+returns-in-Turn-clause-told g c =
+    on_ok c.put_in-in-Turn.result (visit_passes g.T.Stream.left g.T.Stream.written c.args.connections.now.slots.items c.args.self.now.sides.items (sockets_of g.T.Stream.left g.T.Stream.written c.put_in-in-Turn.new.self.sides.items) c.args.slot c.in-Some.side (socket_of g.T.Stream.left g.T.Stream.written c.transfer.new.side) (map event_of c.args.told.now.items) c.in-Some.ensures.some
+    (again_in g.T.Stream.left g.T.Stream.written c.args.self.now.sides.items c.transfer.new.self.sides.items (sockets_of g.T.Stream.left g.T.Stream.written c.put_in-in-Turn.new.self.sides.items) c.args.slot (socket_of g.T.Stream.left g.T.Stream.written c.transfer.new.side) (c.transfer.ensures.sides ∙ c.in-Some.ensures.new) c.put_in-in-Turn.ensures) (visit_as c.args.slot (slice_get c.args.connections.now.slots.items c.args.slot) c.transfer.result Turn (socket_of g.T.Stream.left g.T.Stream.written c.in-Some.side) (socket_of g.T.Stream.left g.T.Stream.written c.transfer.new.side) c.in-Turn.is c.transfer.ensures.visit))
+
+pub returns-in-Turn-clause-stopped : goal.returns-in-Turn-clause-stopped
+returns-in-Turn-clause-stopped g c =
+    on_err c.put_in-in-Turn.result (but_none c.args.connections.now.slots.items (sockets_of g.T.Stream.left g.T.Stream.written c.args.self.now.sides.items) (sockets_of g.T.Stream.left g.T.Stream.written c.put_in-in-Turn.new.self.sides.items) (map event_of c.args.told.now.items) (map event_of c.args.told.now.items)
+    (visit_passes g.T.Stream.left g.T.Stream.written c.args.connections.now.slots.items c.args.self.now.sides.items (sockets_of g.T.Stream.left g.T.Stream.written c.put_in-in-Turn.new.self.sides.items) c.args.slot c.in-Some.side (socket_of g.T.Stream.left g.T.Stream.written c.transfer.new.side) (map event_of c.args.told.now.items) c.in-Some.ensures.some
+    (again_in g.T.Stream.left g.T.Stream.written c.args.self.now.sides.items c.transfer.new.self.sides.items (sockets_of g.T.Stream.left g.T.Stream.written c.put_in-in-Turn.new.self.sides.items) c.args.slot (socket_of g.T.Stream.left g.T.Stream.written c.transfer.new.side) (c.transfer.ensures.sides ∙ c.in-Some.ensures.new) c.put_in-in-Turn.ensures) (visit_as c.args.slot (slice_get c.args.connections.now.slots.items c.args.slot) c.transfer.result Turn (socket_of g.T.Stream.left g.T.Stream.written c.in-Some.side) (socket_of g.T.Stream.left g.T.Stream.written c.transfer.new.side) c.in-Turn.is c.transfer.ensures.visit)))
 
 pub returns-in_err-tell-in-Failed-clause-stopped : goal.returns-in_err-tell-in-Failed-clause-stopped
 returns-in_err-tell-in-Failed-clause-stopped g c =
