@@ -9,3 +9,5 @@ pub mod PlannedFacts
 pub mod StepFacts
 pub mod ToldFacts
 pub mod ValueFacts
+pub mod MirrorFacts
+pub mod TopFacts

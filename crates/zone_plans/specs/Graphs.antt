@@ -1,21 +1,13 @@
 -- No part of what is promised: private contracts cite it. Members by their indices in a list that ascends.
-use Rattle.std.specs.Prelude.{◌≡◌, ◌<◌, ◌&&◌, ◌⊎◌, ℕ, Bool, true, filter, not, List, [], Option, Some, None, length, map, Contains, slice_index_or}
+use Rattle.std.specs.Prelude.{◌≡◌, ◌<◌, ◌⊎◌, ℕ, Bool, List, [], Option, Some, None, length, map, Contains, slice_index_or}
 use Rattle.std.specs.Global.{Vec}
-use Rattle.std.specs.List.{list_any}
 use Rattle.mcs_reader.specs.declared.id.Id.{Id}
-use Rattle.zone_lists.specs.declared.zones.ZoneRow.{ZoneRow}
-use Rattle.catalogue.specs.Content.{Content}
-use Rattle.catalogue.specs.Ids.{same_id}
-use Rattle.supersede.specs.Reach.{has}
 use Rattle.requisites.specs.Leads.{Leads}
 use Rattle.requisites.specs.Nodes.{IsMarked, Links}
 use Rattle.requisites.specs.Sources.{HasSource}
 use Rattle.verdicts.specs.Indices.{id_at, RowsAre}
-use Rattle.verdicts.specs.Judge.{status_of}
-use Rattle.verdicts.specs.Verdicts.{verdict_of}
 use Rattle.reports.specs.Holds.{HoldLists}
 use Rattle.reports.specs.declared.holds.Resolver.{Resolver}
-use Rattle.zone_plans.specs.Findings.{known_givers}
 use Rattle.zone_plans.specs.Readings.{ReadingLists}
 
 abbrev pub lists_of : List (Vec Id) → List (List (List ℕ))
@@ -24,21 +16,9 @@ lists_of lists = map (λ list. list.items) lists
 abbrev pub list_at : List (List (List ℕ)) → ℕ → List (List ℕ)
 list_at lists p = slice_index_or lists p []
 
--- the givers of some SYSMODs are known
-abbrev pub AreKnown : Content → List ZoneRow → List (List ℕ) → List (Vec Id) → Type 0
-AreKnown content rows ids lists = lists_of lists ≡ map (known_givers content rows) ids
-
--- whether one that a list has for an id is another one of some SYSMODs
-abbrev pub is_given_by : List (List ℕ) → List (List ℕ) → List ℕ → Bool
-is_given_by list ids id = list_any (λ giver. not (same_id giver id) && has ids giver) list
-
-abbrev pub not_given : (List ℕ → List (List ℕ)) → List (List ℕ) → List (List ℕ) → List (List ℕ)
-not_given f among ids = filter (λ id. not (is_given_by (f id) among id)) ids
-
--- the givers of each resolver of a hold are known, and the status of each is right
-abbrev pub MayPlace : Content → List ZoneRow → List (List ℕ) → HoldLists → Type 0
-MayPlace content rows known hold =
-    (resolver : Resolver) → Contains hold.resolvers resolver → (has known resolver.id ≡ true) × (resolver.status ≡ status_of (verdict_of content rows resolver.id))
+-- the resolvers of a hold are among some ids
+abbrev pub AreResolversOf : List (List ℕ) → HoldLists → Type 0
+AreResolversOf ids hold = (resolver : Resolver) → Contains hold.resolvers resolver → Contains ids resolver.id
 
 -- the index of a member that is left and is among some givers
 pub record IsLeftAmong (ids : List (List ℕ)) (left : List Bool) (givers : List (List ℕ)) (q : ℕ) : Type 0 where

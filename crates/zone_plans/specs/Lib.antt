@@ -4,3 +4,4 @@ pub mod Readings
 pub mod Findings
 pub mod Graphs
 pub mod Plans
+pub mod Climbs

@@ -1,49 +1,103 @@
 //! Choosing one of the SYSMODs that resolve a hold.
-ghost use Rattle.std.specs.Prelude.{◌≡◌, ◌&&◌, ◌++◌, ◌∷◌, [], List, ℕ, true, filter, map, not, Contains, IfOk, OnOk, if◌then◌else◌};
-ghost use Rattle.zone_lists.specs.declared.zones.ZoneRow.{ZoneRow};
+ghost use Rattle.std.specs.Prelude.{◌≡◌, IfOk, filter, length, map};
 ghost use Rattle.catalogue.specs.Content.{Content};
-ghost use Rattle.catalogue.specs.Ids.{Ascend, in_order, same_id};
-ghost use Rattle.supersede.specs.Reach.{has};
-ghost use Rattle.verdicts.specs.declared.verdict.Status.TheVariants.{Lack};
-ghost use Rattle.zone_plans.specs.Choices.{choice, greatest_of, last_of, of_status, or_all, received_or_all, same_status};
-ghost use Rattle.zone_plans.specs.Graphs.{AreKnown, MayPlace, is_given_by, lists_of, not_given};
+ghost use Rattle.catalogue.specs.Ids.{Ascend};
+ghost use Rattle.zone_plans.specs.Choices.{choice, greatest_of, last_of, of_status, same_status};
+ghost use Rattle.zone_plans.specs.Climbs.{AreKnown, IsClimb};
+ghost use Rattle.zone_plans.specs.Graphs.{AreResolversOf};
 
+use crate::climbing::Climb;
+use crate::others::{Others, others_by};
+use crate::tops::{ordered, tops};
 use faults::NoMemory;
 use mcs_reader::Id;
-use reports::{HoldResolvers, Resolver, is_among, list_among, put_all};
+use reports::{HoldResolvers, Resolver};
 use std::alloc::Global;
-use std::collections::BTreeSet;
-use verdicts::{Status, listed};
+use verdicts::{Status, index_of};
 
-/// The resolver of a kind that is chosen for a hold, by the givers of each resolver.
+/// What is known of the resolvers of a kind of all holds: which of them another one gives, among all and among the
+/// received ones.
+#[derive(Debug, Drop)]
+pub(crate) struct Known {
+    pub(crate) all: Others,
+    pub(crate) received: Others,
+}
+
+/// Finds for the resolvers of a kind which of them another one gives. A hold has all candidates that give its reason as
+/// its resolvers, so if one of a kind gives another, both resolve each hold that the other does.
+pub(crate) fn known_of(
+    alloc: Global,
+    climb: &Climb,
+    status: Status,
+    holds: &[HoldResolvers],
+) -> Result<Known, NoMemory>
+    requires { Ascend climb.now.ids.items }
+    ensures { IfOk result (λ known. AreKnown climb.now.ids.items climb.now.below known) }
+{
+    let mut all = vec![in alloc; false; climb.ids.len()]?;
+    let mut received = vec![in alloc; false; climb.ids.len()]?;
+    for hold in holds {
+        mark_resolvers(
+            &mut all,
+            &mut received,
+            &climb.ids,
+            status,
+            hold.resolvers(),
+        );
+    }
+    Ok(Known {
+        all: others_by(alloc, &climb.below, all)?,
+        received: others_by(alloc, &climb.below, received)?,
+    })
+}
+
+// Marks the resolvers of a kind, and those of them that are received.
+fn mark_resolvers(
+    all: &mut [bool],
+    received: &mut [bool],
+    ids: &[Id],
+    status: Status,
+    resolvers: &[Resolver],
+)
+    requires ascend { Ascend ids.now }
+    requires all { length all.old ≡ length ids.now }
+    requires received { length received.old ≡ length ids.now }
+    ensures all { length all.new ≡ length all.old }
+    ensures received { length received.new ≡ length received.old }
+{
+    for resolver in resolvers {
+        if is_same(resolver.status, status) {
+            if let Some(index) = index_of(ids, &resolver.id) {
+                all[index] = true;
+                received[index] = received[index] || resolver.received;
+            }
+        }
+    }
+}
+
+/// The resolver of a kind that is chosen for a hold.
 pub(crate) fn choice(
     alloc: Global,
-    known: &[Id],
-    lists: &[Vec<Id>],
+    climb: &Climb,
+    known: &Known,
     status: Status,
     hold: &HoldResolvers,
 ) -> Result<Option<Id>, NoMemory>
-    requires { Ascend known.now }
-    ensures { IfOk result (λ chosen. (content : Content) (rows : List ZoneRow)
-        → AreKnown content rows known.now lists.now → MayPlace content rows known.now hold.now
-        → (status ≡ Lack → ⊥) → chosen ≡ choice content status hold.now) }
+    requires ascend { Ascend climb.now.ids.items }
+    requires known { AreKnown climb.now.ids.items climb.now.below known.now }
+    ensures { IfOk result (λ chosen. (content : Content)
+        → IsClimb content climb.now.ids.items climb.now.below
+        → AreResolversOf climb.now.ids.items hold.now
+        → chosen ≡ choice content status hold.now) }
 {
-    let among = candidates(alloc, status, hold.resolvers())?;
-    let top = tops(alloc, known, lists, among)?;
-    greatest(alloc, &top)
-}
-
-// The resolvers of a kind; only the received ones if there are any.
-fn candidates(alloc: Global, status: Status, resolvers: &[Resolver]) -> Result<Vec<Id>, NoMemory>
-    ensures { IfOk result (λ ids. ids.items
-        ≡ map (λ resolver. resolver.id) (received_or_all (of_status status resolvers.now))) }
-{
-    let kept = with_status(alloc, status, resolvers)?;
+    let kept = with_status(alloc, status, hold.resolvers())?;
     let received = those_received(alloc, &kept)?;
-    if received.is_empty() {
-        return ids_of(alloc, &kept);
-    }
-    ids_of(alloc, &received)
+    let top = if received.as_slice().is_empty() {
+        tops(alloc, climb, &known.all, ids_of(alloc, &kept)?)?
+    } else {
+        tops(alloc, climb, &known.received, ids_of(alloc, &received)?)?
+    };
+    greatest(alloc, &top)
 }
 
 fn with_status(
@@ -92,100 +146,6 @@ fn ids_of(alloc: Global, resolvers: &[Resolver]) -> Result<Vec<Id>, NoMemory>
         ids.push(resolver.id)?;
     }
     Ok(ids)
-}
-
-// Those of some ids that no other of them gives, or all if each is given.
-fn tops(alloc: Global, known: &[Id], lists: &[Vec<Id>], ids: Vec<Id>) -> Result<Vec<Id>, NoMemory>
-    requires { Ascend known.now }
-    ensures { IfOk result (λ top. (f : List ℕ → List (List ℕ)) → lists_of lists.now ≡ map f known.now
-        → ((id : List ℕ) → Contains ids.items id → has known.now id ≡ true)
-        → top.items ≡ or_all (not_given f (in_order ids.items) ids.items) ids.items) }
-{
-    let among = ordered(alloc, &ids)?;
-    let top = those_not_given(alloc, known, lists, &among, &ids)?;
-    Ok(or_all(top, ids))
-}
-
-// Those that were kept, or all if none was.
-fn or_all(kept: Vec<Id>, all: Vec<Id>) -> Vec<Id>
-    ensures { result.items ≡ or_all kept.items all.items }
-{
-    if kept.is_empty() {
-        return all;
-    }
-    kept
-}
-
-// Those of some ids that no other one among some gives.
-fn those_not_given(
-    alloc: Global,
-    known: &[Id],
-    lists: &[Vec<Id>],
-    among: &[Id],
-    ids: &[Id],
-) -> Result<Vec<Id>, NoMemory>
-    requires known { Ascend known.now }
-    requires among { Ascend among.now }
-    ensures { IfOk result (λ kept. (f : List ℕ → List (List ℕ)) → lists_of lists.now ≡ map f known.now
-        → ((id : List ℕ) → Contains ids.now id → has known.now id ≡ true)
-        → kept.items ≡ not_given f among.now ids.now) }
-{
-    let none = Vec::new(alloc);
-    let mut kept = Vec::new(alloc);
-    for id in ids {
-        let keep = is_kept(known, lists, &none, among, id);
-        push_if(&mut kept, keep, id)?;
-    }
-    Ok(kept)
-}
-
-fn push_if(ids: &mut Vec<Id>, keep: bool, id: &Id) -> Result<(), NoMemory>
-    ensures { OnOk result (ids.new.items ≡ ids.old.items ++ (if keep then id.now ∷ [] else [])) }
-{
-    if keep {
-        ids.push(*id)?;
-    }
-    Ok(())
-}
-
-// Whether no other one among some gives an id, by the known lists.
-fn is_kept(known: &[Id], lists: &[Vec<Id>], other: &Vec<Id>, among: &[Id], id: &Id) -> bool
-    requires known { Ascend known.now }
-    requires among { Ascend among.now }
-    ensures { (f : List ℕ → List (List ℕ)) → lists_of lists.now ≡ map f known.now
-        → has known.now id.now ≡ true → result ≡ not (is_given_by (f id.now) among.now id.now) }
-{
-    !is_given_by(list_among(known, lists, other, id), among, id)
-}
-
-// Whether one of a list is another one among some.
-fn is_given_by(list: &[Id], among: &[Id], id: &Id) -> bool
-    requires { Ascend among.now }
-    ensures { result ≡ is_given_by list.now among.now id.now }
-{
-    for giver in list {
-        if is_other_among(among, giver, id) {
-            return true;
-        }
-    }
-    false
-}
-
-fn is_other_among(among: &[Id], giver: &Id, id: &Id) -> bool
-    requires { Ascend among.now }
-    ensures { result ≡ (not (same_id giver.now id.now) && has among.now giver.now) }
-{
-    *giver != *id && is_among(among, giver)
-}
-
-// Some ids in order, each once.
-fn ordered(alloc: Global, ids: &[Id]) -> Result<Vec<Id>, NoMemory>
-    ensures ids { IfOk result (λ list. list.items ≡ in_order ids.now) }
-    ensures ascend { IfOk result (λ list. Ascend list.items) }
-{
-    let mut found = BTreeSet::new(alloc);
-    put_all(&mut found, ids)?;
-    listed(alloc, found)
 }
 
 // The greatest of some ids, in whatever order they are.

@@ -24,16 +24,19 @@
 #![tactic(auto)]
 
 mod choice;
+mod climbing;
 mod findings;
 mod giving;
 mod graph;
 mod holds;
 mod marks;
+mod others;
 mod placing;
 mod plan;
 mod reading;
 mod report_plans;
 mod steps;
+mod tops;
 
 pub use findings::Findings;
 pub use holds::{ChosenResolver, HoldOn};

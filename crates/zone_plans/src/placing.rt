@@ -1,17 +1,17 @@
 //! The fate of each hold.
-ghost use Rattle.std.specs.Prelude.{◌≡◌, ◌++◌, ◌∷◌, [], List, Contains, IfOk, OnOk, map};
+ghost use Rattle.std.specs.Prelude.{◌≡◌, ◌++◌, ◌∷◌, [], Contains, IfOk, OnOk, map};
 ghost use Rattle.std.specs.List.{cons_option};
-ghost use Rattle.zone_lists.specs.declared.zones.ZoneRow.{ZoneRow};
 ghost use Rattle.catalogue.specs.Content.{Content};
 ghost use Rattle.catalogue.specs.Ids.{Ascend, put_among};
 ghost use Rattle.catalogue.specs.View.{MayAsk, Tells};
 ghost use Rattle.catalogue.specs.declared.fault.SourceFault.TheVariants.{Device};
 ghost use Rattle.reports.specs.Holds.{HoldLists};
-ghost use Rattle.zone_plans.specs.Graphs.{AreKnown, MayPlace};
+ghost use Rattle.zone_plans.specs.Climbs.{AreKnown, IsClimb};
+ghost use Rattle.zone_plans.specs.Graphs.{AreResolversOf};
 ghost use Rattle.zone_plans.specs.Plans as Plans;
 
-use crate::choice::choice;
-use crate::giving::givers_of_all;
+use crate::choice::{Known, choice, known_of};
+use crate::climbing::{Climb, climb_from};
 use crate::holds::{ChosenResolver, HoldOn};
 use catalogue::{Published, SourceFault};
 use faults::NoMemory;
@@ -20,8 +20,7 @@ use mcs_reader::Id;
 use reports::{HoldResolvers, Resolver};
 use std::alloc::Global;
 use std::collections::BTreeSet;
-use supersede::Zone;
-use verdicts::{Judge, Status, listed};
+use verdicts::{Status, listed};
 
 /// The fate of a hold.
 #[derive(Clone, Copy)]
@@ -41,24 +40,19 @@ pub(crate) struct Placed {
     pub(crate) fate: Fate,
 }
 
-/// Finds the fate of each hold, in their order. It asks for the givers of the resolvers once, for all holds.
-pub(crate) fn place_all<P: Published, J: Judge<P>>(
+/// Finds the fate of each hold, in their order. It asks the source once for what supersedes each resolver.
+pub(crate) fn place_all<P: Published>(
     alloc: Global,
     source: &mut P,
-    judge: &mut J,
-    zone: &Zone,
     holds: &[HoldResolvers],
 ) -> Result<Vec<Placed>, SourceFault>
     ensures asks { MayAsk P.content_view Device source.old source.new result }
     ensures placed { IfOk result (λ found. Tells P.content_view source.old source.new
-        (λ content. J.is_right judge.old content → Plans.AreTold content zone.now holds.now
-        → found.items ≡ map (Plans.placed content) holds.now)) }
-    ensures right { Tells P.content_view source.old source.new
-        (λ content. J.is_right judge.old content → J.is_right judge.new content) }
+        (λ content. found.items ≡ map (Plans.placed content) holds.now)) }
 {
-    let known = resolvers_named(alloc, holds)?;
-    let lists = givers_of_all(alloc, source, judge, zone, &known)?;
-    Ok(placed_by(alloc, &known, &lists, holds)?)
+    let ids = resolvers_named(alloc, holds)?;
+    let climb = climb_from(alloc, source, &ids)?;
+    Ok(placed_by(alloc, &climb, holds)?)
 }
 
 // The SYSMODs that resolve some holds, ascending, each once.
@@ -83,40 +77,41 @@ fn put_resolvers(ids: &mut BTreeSet<Id>, resolvers: &[Resolver]) -> Result<(), N
     Ok(())
 }
 
-// The fate of each hold, by the givers of the resolvers.
-fn placed_by(
-    alloc: Global,
-    known: &[Id],
-    lists: &[Vec<Id>],
-    holds: &[HoldResolvers],
-) -> Result<Vec<Placed>, NoMemory>
-    requires { Ascend known.now }
-    ensures { IfOk result (λ found. (content : Content) (rows : List ZoneRow)
-        → AreKnown content rows known.now lists.now
-        → ((hold : HoldLists) → Contains holds.now hold → MayPlace content rows known.now hold)
+// The fate of each hold, by what supersedes the resolvers.
+fn placed_by(alloc: Global, climb: &Climb, holds: &[HoldResolvers]) -> Result<Vec<Placed>, NoMemory>
+    requires { Ascend climb.now.ids.items }
+    ensures { IfOk result (λ found. (content : Content)
+        → IsClimb content climb.now.ids.items climb.now.below
+        → ((hold : HoldLists) → Contains holds.now hold → AreResolversOf climb.now.ids.items hold)
         → found.items ≡ map (Plans.placed content) holds.now) }
 {
+    let good = known_of(alloc, climb, Status::Good, holds)?;
+    let held = known_of(alloc, climb, Status::Held, holds)?;
     let mut found = Vec::with_capacity(alloc, holds.len())?;
     for hold in holds {
-        put_placed(alloc, known, lists, hold, &mut found)?;
+        put_placed(alloc, climb, &good, &held, hold, &mut found)?;
     }
     Ok(found)
 }
 
 fn put_placed(
     alloc: Global,
-    known: &[Id],
-    lists: &[Vec<Id>],
+    climb: &Climb,
+    good: &Known,
+    held: &Known,
     hold: &HoldResolvers,
     found: &mut Vec<Placed>,
 ) -> Result<(), NoMemory>
-    requires { Ascend known.now }
-    ensures { OnOk result ((content : Content) (rows : List ZoneRow)
-        → AreKnown content rows known.now lists.now → MayPlace content rows known.now hold.now
+    requires ascend { Ascend climb.now.ids.items }
+    requires good { AreKnown climb.now.ids.items climb.now.below good.now }
+    requires held { AreKnown climb.now.ids.items climb.now.below held.now }
+    ensures { OnOk result ((content : Content)
+        → IsClimb content climb.now.ids.items climb.now.below
+        → AreResolversOf climb.now.ids.items hold.now
         → found.new.items ≡ found.old.items ++ Plans.placed content hold.now ∷ []) }
 {
-    let good = choice(alloc, known, lists, Status::Good, hold)?;
-    let held = choice(alloc, known, lists, Status::Held, hold)?;
+    let good = choice(alloc, climb, good, Status::Good, hold)?;
+    let held = choice(alloc, climb, held, Status::Held, hold)?;
     found.push(Placed {
         hold: hold_on(hold.hold()),
         fate: fate_by(good, held),

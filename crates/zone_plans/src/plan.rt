@@ -110,7 +110,7 @@ pub fn zone_plan<P: Published, J: Judge<P>>(
     ensures right { Tells P.content_view source.old source.new
         (λ content. J.is_right judge.old content → J.is_right judge.new content) }
 {
-    let placed = place_all(alloc, source, judge, zone, holds)?;
+    let placed = place_all(alloc, source, holds)?;
     plan_for(alloc, source, judge, zone, &placed)
 }
 

@@ -1,7 +1,7 @@
 use Rattle.std.proofs.Common.{◌∙◌, ap}
 use Rattle.lemmas.proofs.ResultFacts.{ok_so}
 use Rattle.catalogue.specs.Ids.{put_among}
-use Rattle.zone_plans.proofs.choice.ordered.Goals as goal
+use Rattle.zone_plans.proofs.tops.ordered.Goals as goal
 
 pub returns-clause-ids : goal.returns-clause-ids
 returns-clause-ids c =
