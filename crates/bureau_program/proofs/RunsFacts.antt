@@ -286,7 +286,9 @@ module _ {D : Type 0} {g : disk.Ghosts D} (from : Image) where
 
 pub goes_on : {D : Type 0} {g : disk.Ghosts D} (from : Image) (log log_after : Log) (outcome : Option AnyFault) (ended : Ended D g)
     → KeepsServed from log log_after outcome ended → GoesOn from log log_after outcome ended
-goes_on from log log_after why ended kept well source image made runs are left may =
+goes_on from log log_after why ended kept well image runs are left may =
     let this : FileRun = Serves log log_after why left in
-    held_since source image made (runs ++ this ∷ []) left
-    (one_more image runs from this are (serves_over from ended well left may log log_after why kept))
+    let all = one_more image runs from this are (serves_over from ended well left may log log_after why kept) in (
+      λ source made. held_since source image made (runs ++ this ∷ []) left all,
+      λ opening held. held_after opening image held (runs ++ this ∷ []) left all,
+    )

@@ -186,9 +186,11 @@ abbrev pub HoldSinceInit : List ℕ → List FileRun → Image → Type 0
 HoldSinceInit source files image = (rows : List CallerRow) × AreRowsOf source rows × HaveThePublisher rows × HoldAfter (opened rows) files image
 
 module _ {D : Type 0} {g : disk.Ghosts D} where
-  -- A run of `serve` goes on: `init` made the store, runs came after it, and this one began over what the last of them left. Then
-  -- whatever a stop leaves of the files, they hold the store, with the tables to which the calls of all runs lead, and of this one.
+  -- A run of `serve` goes on: there was a store, which `init` made or any other, runs came after it, and this one began over what the
+  -- last of them left. Then whatever a stop leaves of the files, they hold the store, with the tables to which the calls of all runs
+  -- lead, and of this one.
   abbrev pub GoesOn : Image → Log → Log → Option AnyFault → Ended D g → Type 0
   GoesOn from log log_after outcome ended = EndsWell from ended
-      → (source : List ℕ) (image : Image) → HoldCallers source image → (runs : List FileRun) → AreRunsOver image runs from
-      → (left : Image) → Leaves from ended left → HoldSinceInit source (runs ++ Serves log log_after outcome left ∷ []) left
+      → (image : Image) (runs : List FileRun) → AreRunsOver image runs from → (left : Image) → Leaves from ended left
+      → ((source : List ℕ) → HoldCallers source image → HoldSinceInit source (runs ++ Serves log log_after outcome left ∷ []) left)
+      × ((opening : Tables) → HoldTables image (λ this. this ≡ opening) → HoldAfter opening (runs ++ Serves log log_after outcome left ∷ []) left)
