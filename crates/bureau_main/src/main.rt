@@ -3,6 +3,7 @@
 
 mod database;
 mod log_writer;
+mod place;
 mod run;
 mod stores;
 mod system;

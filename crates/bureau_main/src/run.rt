@@ -5,10 +5,10 @@ ghost use Rattle.store_runs.specs.Ended.{IsCopiedEnd};
 ghost use Rattle.bureau_program.specs.Program.{IsRun, found_in};
 
 use bureau_program::Surroundings;
-use sqlite::{FileFrom, Start};
+use sqlite::Start;
 use std::alloc::Global;
 use std::io::{Read, Write};
-use store_runs::{Ended, Stores};
+use store_runs::{Ended, StoreFile, Stores};
 
 /// Does what the words say, and copies the log of a store into its file as the last thing. Returns the exit status, and
 /// what is left of the files.
@@ -23,7 +23,7 @@ pub(crate) fn run<S: Surroundings, T: Stores, D: Start, I: Read, O: Write, E: Wr
     input: &mut I,
     output: &mut O,
     errors: &mut E,
-) -> (u8, Ended<FileFrom<D>>)
+) -> (u8, Ended<StoreFile<D, T::Place>>)
     ensures { (ended : _) × IsCopiedEnd ended result.1
         × IsRun (S.known_words surroundings.old) (S.known_watched surroundings.old)
         (found_in (S.known_file surroundings.old) (T.asked stores.old) (T.asked stores.new)

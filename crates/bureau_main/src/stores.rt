@@ -2,13 +2,19 @@
 ghost use Rattle.std.specs.Prelude.{◌≡◌, ◌≢◌, ◌⊎◌};
 
 use crate::database::{names_a_file, open_database};
+use crate::place::StorePlace;
 use bureau_store::StoreFault;
-use sqlite::{Connection, Error, ErrorCode, FileFrom, FileStore, Start};
-use std::fs::{OpenOptions, Permissions, metadata};
+use sqlite::{Connection, Error, ErrorCode, FileStore, Start};
+use std::fs::{File, OpenOptions, Permissions, metadata};
 use std::io;
-use std::os::unix::fs::{OpenOptionsExt, PermissionsExt};
+use std::os::unix::fs::{FileExt, OpenOptionsExt, PermissionsExt};
 use std::path::Path;
-use store_runs::{Ended, Refusal, Stores};
+use store_runs::{Ended, IfMissing, Pages, Refusal, StoreFile, Stores};
+
+// Where the header of a database says how many bytes at the end of each page are reserved, and how many a sum takes.
+const RESERVED_AT: u64 = 20;
+
+const SUM: u8 = 8;
 
 /// The stores that the system's own files have, by the paths of these.
 #[derive(Drop)]
@@ -16,6 +22,8 @@ pub(crate) struct StoreFiles<'a> {
     rt: &'a HostRuntime,
     // Why the last one couldn't be opened, as far as that is known.
     refusal: Refusal,
+    // Whether the pages of the last one end in sums, as far as that is known.
+    pages: Pages,
 }
 
 impl<'a> StoreFiles<'a> {
@@ -23,23 +31,29 @@ impl<'a> StoreFiles<'a> {
         StoreFiles {
             rt,
             refusal: Refusal::Unknown,
+            pages: Pages::Unknown,
         }
     }
 }
 
-impl Stores for StoreFiles<'_> {
+impl<'a> Stores for StoreFiles<'a> {
     ghost use Rattle.std.specs.Prelude.{None};
 
     ghost asked = { λ _. None };
 
+    type Place = StorePlace<'a>;
+
     fn connect<D: Start>(
         &mut self,
         name: &str,
-        makes: bool,
+        missing: IfMissing,
         start: D,
-    ) -> Result<Connection<FileStore<FileFrom<D>>>, (StoreFault, Ended<FileFrom<D>>)> {
+    ) -> Result<
+        Connection<FileStore<StoreFile<D, StorePlace<'a>>>>,
+        (StoreFault, Ended<StoreFile<D, StorePlace<'a>>>),
+    > {
         if is_missing(self.rt, name) {
-            if !makes {
+            if !missing.makes() {
                 return Err((StoreFault::Shape, Ended::Nothing));
             }
             if names_a_file(name) {
@@ -47,7 +61,8 @@ impl Stores for StoreFiles<'_> {
                 let _made = make_private(self.rt, name);
             }
         }
-        match open_database(self.rt, name, start) {
+        self.pages = pages_of(self.rt, name);
+        match open_database(self.rt, name, missing, start) {
             Ok(conn) => Ok(conn),
             Err((refused, Some(left))) => {
                 self.refusal = refused.refusal;
@@ -63,6 +78,10 @@ impl Stores for StoreFiles<'_> {
     fn refusal(&self) -> Refusal {
         self.refusal
     }
+
+    fn pages(&self) -> Pages {
+        self.pages
+    }
 }
 
 // Whether there is no file of this name, in a folder that is there. It opens none: a pipe without a writer would keep
@@ -77,6 +96,26 @@ fn is_missing(rt: &HostRuntime, name: &str) -> bool {
         }
         _ => false,
     }
+}
+
+// Whether the pages of the database in a file end in sums, by what its header says. It is read before the file is
+// locked: if a process closes a file, the system may give up the locks that the process has on it.
+fn pages_of(rt: &HostRuntime, name: &str) -> Pages {
+    match reserved(rt, name) {
+        Ok(0) => Pages::WithoutSums,
+        Ok(SUM) => Pages::WithSums,
+        _ => Pages::Unknown,
+    }
+}
+
+// How many bytes at the end of each page are reserved.
+fn reserved(rt: &HostRuntime, name: &str) -> io::Result<u8> {
+    if !metadata(rt, name)?.is_file() {
+        return Err(io::ErrorKind::Unsupported.into());
+    }
+    let mut byte = [0];
+    File::open(rt, name)?.read_exact_at(&mut byte, RESERVED_AT)?;
+    Ok(byte[0])
 }
 
 // Makes an empty file that its owner alone may read and write, whatever the umask is. The log of a store is made as

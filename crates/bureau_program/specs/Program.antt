@@ -24,6 +24,7 @@ use Rattle.store_runs.specs.Desk.{of_store}
 use Rattle.store_runs.specs.Ended.{IsNothing}
 use Rattle.store_runs.specs.NamedStore.{IsCallers, IsInit, IsMigrate}
 use Rattle.store_runs.specs.declared.ended.Ended.{Ended}
+use Rattle.store_runs.specs.declared.missing.IfMissing.TheVariants.{Refuse}
 use Rattle.bureau_program.specs.Replay.{IsReplayRun}
 use Rattle.bureau_program.specs.Runs.{GoesOn}
 use Rattle.bureau_program.specs.Served.{KeepsServed}
@@ -75,7 +76,7 @@ module _ (found : Found) (from : Image) {D : Type 0} {g : disk.Ghosts D} where
         outputs.output outputs.written outputs.errors outputs.told status
     pub kept : KeepsServed from found.log found.log_after served.outcome ended
     pub goes_on : GoesOn from found.log found.log_after served.outcome ended
-    pub asks : AsksOnce found.asked found.asked_after name false from (λ fault. served.outcome ≡ Some (of_store fault)) ended
+    pub asks : AsksOnce found.asked found.asked_after name Refuse from (λ fault. served.outcome ≡ Some (of_store fault)) ended
 
   -- The run does what a line says, or tells what is wrong with the words. It reads standard input only if a FILE is `-`,
   -- gets connections only for `serve`, and asks for a store only if a STORE is named.
@@ -84,9 +85,9 @@ module _ (found : Found) (from : Image) {D : Type 0} {g : disk.Ghosts D} where
       IsHolds found.files (string_bytes file) input rest outputs status × NobodyCame found × AsksForNone ended
   IsAnswered (Ok (line.Replay cache callers names)) input rest outputs status ended =
       Keeps input rest × IsReplay found.files (string_bytes callers) (map string_bytes names.items) outputs status × NobodyCame found × AsksForNone ended
-  IsAnswered (Ok (line.Init store callers)) input rest outputs status ended =
-      Keeps input rest × NobodyCame found × IsInit found.files found.asked found.asked_after from (string_bytes store) (string_bytes callers) outputs status ended
-  IsAnswered (Ok (line.Serve port cache connections most_open log store)) input rest outputs status ended =
+  IsAnswered (Ok (line.Init store callers sums)) input rest outputs status ended =
+      Keeps input rest × NobodyCame found × IsInit found.files found.asked found.asked_after from sums (string_bytes store) (string_bytes callers) outputs status ended
+  IsAnswered (Ok (line.Serve port cache connections most_open memory log store)) input rest outputs status ended =
       Keeps input rest × IsServe (record { port = port; cache = cache; connections = connections; most_open = most_open; log = log }) (string_bytes store) outputs status ended
   IsAnswered (Ok (line.Migrate store)) input rest outputs status ended =
       Keeps input rest × NobodyCame found × IsMigrate found.asked found.asked_after from (string_bytes store) outputs status ended

@@ -16,7 +16,7 @@ ghost use Rattle.bureau_program.specs.Runs.{AreRunsOver, FileRun, HaveThePublish
 ghost use Rattle.bureau_program.specs.RunsEnd.{IsLastOf, LeavesAtLast};
 ghost use Rattle.bureau_program.specs.Served.{HasFailed, KeepsServed};
 
-use sqlite::{FileFrom, Start};
+use sqlite_disk::Disk;
 use store_runs::Ended;
 
 /// Once `init` has made a store, any number of runs of the program may come one after the other, and each may stop
@@ -49,7 +49,7 @@ pub fn any_number_of_runs()
 /// `KeepsServed` of `serve`; `KeepsCallers` of a `callers` that was given callers; `KeepsTables` of any other that
 /// opened the files of the store). `ended` stands for what is left of the files. A run that opened none keeps the
 /// tables too.
-pub fn what_a_run_keeps<D: Start>(ended: &Ended<FileFrom<D>>)
+pub fn what_a_run_keeps<D: Disk>(ended: &Ended<D>)
     ensures serves { (from : Image) (log log_after : Log) (outcome : Option AnyFault)
         → KeepsServed from log log_after outcome ended.now → EndsWell from ended.now
         → (left : Image) → Leaves from ended.now left

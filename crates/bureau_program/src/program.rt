@@ -13,10 +13,10 @@ use command_line::{Line, LineFault, line_of};
 use questions::Report;
 use report_runs::{Question, do_chain, do_holds, do_report};
 use run_parts::{ProgramFault, explain, read_file, refuse};
-use sqlite::{FileFrom, Start};
+use sqlite::Start;
 use std::alloc::Global;
 use std::io::{Read, Write};
-use store_runs::{Ended, Stores, callers_file, check_file, do_init, migrate_file};
+use store_runs::{Ended, StoreFile, Stores, callers_file, check_file, do_init, migrate_file};
 use transfer::RETRIES;
 
 /// Does what the words of the command line say, and returns the exit status, and what is left of a store's files.
@@ -33,7 +33,7 @@ pub fn run<S: Surroundings, T: Stores, D: Start, I: Read, O: Write, E: Write>(
     input: &mut I,
     output: &mut O,
     errors: &mut E,
-) -> (u8, Ended<FileFrom<D>>)
+) -> (u8, Ended<StoreFile<D, T::Place>>)
     ensures { IsRun (S.known_words surroundings.old) (S.known_watched surroundings.old)
         (found_in (S.known_file surroundings.old) (T.asked stores.old) (T.asked stores.new)
         (S.known_port surroundings.old) (S.is_over surroundings.new)
@@ -91,7 +91,7 @@ fn answer<S: Surroundings, T: Stores, D: Start, I: Read, O: Write, E: Write>(
     input: &mut I,
     output: &mut O,
     errors: &mut E,
-) -> (u8, Ended<FileFrom<D>>)
+) -> (u8, Ended<StoreFile<D, T::Place>>)
     ensures { IsAnswered
         (found_in (S.known_file surroundings.old) (T.asked stores.old) (T.asked stores.new)
         (S.known_port surroundings.old) (S.is_over surroundings.new)
@@ -117,7 +117,13 @@ fn answer<S: Surroundings, T: Stores, D: Start, I: Read, O: Write, E: Write>(
             let status = do_replay(surroundings, alloc, *cache, callers, files, output, errors);
             (status, Ended::Nothing)
         }
-        Ok(Line::Init { store, callers }) => {
+        Ok(
+            Line::Init {
+                store,
+                callers,
+                sums,
+            },
+        ) => {
             let (store, callers) = (store.as_str(), callers.as_str());
             do_init(
                 surroundings,
@@ -125,6 +131,7 @@ fn answer<S: Surroundings, T: Stores, D: Start, I: Read, O: Write, E: Write>(
                 alloc,
                 store,
                 callers,
+                *sums,
                 start,
                 output,
                 errors,

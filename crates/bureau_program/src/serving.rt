@@ -17,10 +17,10 @@ use connections::{Connections, Halt, RoundFault, Rounds, serve_rounds};
 use faults::AnyFault;
 use requests::Routes;
 use run_parts::{ProgramFault, numbered_line, printed, told};
-use sqlite::{Alter, Connection, FileFrom, Start};
+use sqlite::{Alter, Connection, Start};
 use std::alloc::Global;
 use std::io::{ErrorKind, Write};
-use store_runs::{Ended, Stores, end, of_store, run_open};
+use store_runs::{Ended, IfMissing, StoreFile, Stores, end, of_store, run_open};
 
 // The bytes that all connections together may hold, beyond a head of each: four bodies of the largest size.
 const HELD_MOST: usize = 1 << 28;
@@ -67,7 +67,7 @@ pub fn run_serve<S: Surroundings, T: Stores, D: Start, W: Write, E: Write>(
     start: D,
     writer: &mut W,
     errors: &mut E,
-) -> (u8, Ended<FileFrom<D>>)
+) -> (u8, Ended<StoreFile<D, T::Place>>)
     ensures { IsServe
         (found_in (S.known_file surroundings.old) (T.asked stores.old) (T.asked stores.new)
         (S.known_port surroundings.old) (S.is_over surroundings.new)
@@ -76,7 +76,7 @@ pub fn run_serve<S: Surroundings, T: Stores, D: Start, W: Write, E: Write>(
         (outputs_of W.contents E.contents writer.old writer.new errors.old errors.new)
         result.0 result.1 }
 {
-    match stores.connect(store, false, start) {
+    match stores.connect(store, IfMissing::Refuse, start) {
         Ok(conn) => {
             let (status, conn) = open_and_serve(surroundings, alloc, service, conn, writer, errors);
             (status, end(conn))

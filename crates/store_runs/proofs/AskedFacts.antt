@@ -1,5 +1,5 @@
 -- A run that asks for one store asks for it once.
-use Rattle.std.proofs.Common.{Bool, List, ℕ}
+use Rattle.std.proofs.Common.{List, ℕ}
 use Rattle.bureau_store.specs.declared.fault.StoreFault.{StoreFault}
 use Rattle.sqlite_disk.specs.declared.Disk.{Ghosts}
 use Rattle.sqlite_store.specs.declared.store.FileStore.{FileStore}
@@ -9,6 +9,7 @@ use Rattle.store_runs.specs.Asked.{Agrees, Asked, AsksFor, AsksOnce, Connected, 
 use Rattle.store_runs.specs.Ended.{IsClosed, IsEndOf, IsLeftOver}
 use Rattle.store_runs.specs.declared.ended.Ended.{Ended}
 use Rattle.store_runs.specs.declared.ended.Ended.TheVariants.{Nothing, Left, Closed}
+use Rattle.store_runs.specs.declared.missing.IfMissing.{IfMissing}
 
 module _ {D : Type 0} {g : Ghosts D} where
   end_is_closed : (left : Held (FileStore D g)) (ended : Ended D g) → IsEndOf left ended → IsClosed ended
@@ -22,12 +23,12 @@ module _ {D : Type 0} {g : Ghosts D} where
   refusal_agrees Told fault from (Left it) left told = (tt, told)
   refusal_agrees Told fault from (Closed last) left told = absurd left
 
-  module _ (old new : Asked) (name : List ℕ) (makes : Bool) (from : Image) (Told : StoreFault → Type 0) (ended : Ended D g) where
+  module _ (old new : Asked) (name : List ℕ) (missing : IfMissing) (from : Image) (Told : StoreFault → Type 0) (ended : Ended D g) where
     -- a connection was made, and ended
-    pub once_connected : (left : Held (FileStore D g)) → IsEndOf left ended → AsksFor old new name makes from Connected → AsksOnce old new name makes from Told ended
+    pub once_connected : (left : Held (FileStore D g)) → IsEndOf left ended → AsksFor old new name missing from Connected → AsksOnce old new name missing from Told ended
     once_connected left ends asks = record { answer = Connected; once = asks; agrees = end_is_closed left ended ends }
 
     -- none could be made
-    pub once_refused : (fault : StoreFault) → IsLeftOver from ended → Told fault → AsksFor old new name makes from (refused_with fault ended)
-        → AsksOnce old new name makes from Told ended
+    pub once_refused : (fault : StoreFault) → IsLeftOver from ended → Told fault → AsksFor old new name missing from (refused_with fault ended)
+        → AsksOnce old new name missing from Told ended
     once_refused fault left told asks = record { answer = refused_with fault ended; once = asks; agrees = refusal_agrees Told fault from ended left told }

@@ -42,6 +42,7 @@ use Rattle.store_runs.specs.Ended.{HasEnded, HasFound, IsEndOf, IsRefused, IsUse
 use Rattle.store_runs.specs.NamedStore.{HasRows, IsCallers}
 use Rattle.store_runs.specs.Keeping.{HasNoTables, Leaves, TellsOnly}
 use Rattle.store_runs.specs.declared.ended.Ended.{Ended}
+use Rattle.store_runs.specs.declared.missing.IfMissing.TheVariants.{Refuse}
 use Rattle.store_runs.specs.declared.ended.Ended.TheVariants.{Nothing, Left, Closed}
 use Rattle.store_runs.proofs.AskedFacts.{once_connected, once_refused}
 use Rattle.store_runs.proofs.DoneFacts.{is_device, never_done, never_short, some_same, told_once}
@@ -316,7 +317,7 @@ module _ {D : Type 0} {g : disk.Ghosts D} (from : Image) (rows : List CallerRow)
 module _ {D : Type 0} {g : disk.Ghosts D} (files : List ℕ → KnownFile) (asked asked_after : Asked) (from : Image) (ended : Ended D g) (name callers : List ℕ)
     (rows : List CallerRow) (rows_are : HasRows (files callers) rows) (outputs : Outputs) (status : ℕ) where
   -- a connection was made, and ended
-  pub set_over_files : (found left : Held (FileStore D g)) → HasFound from found → IsEndOf left ended → AsksFor asked asked_after name false from Connected
+  pub set_over_files : (found left : Held (FileStore D g)) → HasFound from found → IsEndOf left ended → AsksFor asked asked_after name Refuse from Connected
       → IsCallersRun (connection_set over_files rows found left) outputs.output outputs.written outputs.errors outputs.told status
       → IsCallers files asked asked_after from name callers outputs status ended
   set_over_files found left finds ends asks over =
@@ -325,12 +326,12 @@ module _ {D : Type 0} {g : disk.Ghosts D} (files : List ℕ → KnownFile) (aske
         rows_are = rows_are;
         set = run;
         kept = kept_callers from rows ended run.outcome outputs.output outputs.written run.output;
-        asks = once_connected asked asked_after name false from (λ fault. run.outcome ≡ Some (of_store fault)) ended left ends asks;
+        asks = once_connected asked asked_after name Refuse from (λ fault. run.outcome ≡ Some (of_store fault)) ended left ends asks;
       })
 
   -- no connection could be made
   pub not_set_over : (fault : StoreFault) (any : AnyFault) → IsRefused false from fault ended → any ≡ of_store fault → outputs.written ≡ outputs.output
-      → IsTold (Some any) outputs.errors outputs.told → status ≡ run_status (Some any) → AsksFor asked asked_after name false from (refused_with fault ended)
+      → IsTold (Some any) outputs.errors outputs.told → status ≡ run_status (Some any) → AsksFor asked asked_after name Refuse from (refused_with fault ended)
       → IsCallers files asked asked_after from name callers outputs status ended
   not_set_over fault any refused is silent told status_is asks =
       let set : IsCallersOutput (files_set rows from ended) (Some any) outputs.output outputs.written =
@@ -340,7 +341,7 @@ module _ {D : Type 0} {g : disk.Ghosts D} (files : List ℕ → KnownFile) (aske
         rows_are = rows_are;
         set = record { outcome = Some any; output = set; told = told; status_is = status_is };
         kept = kept_callers from rows ended (Some any) outputs.output outputs.written set;
-        asks = once_refused asked asked_after name false from (λ (other : StoreFault). Some any ≡ Some (of_store other)) ended fault refused.left (ap Some is) asks;
+        asks = once_refused asked asked_after name Refuse from (λ (other : StoreFault). Some any ≡ Some (of_store other)) ended fault refused.left (ap Some is) asks;
       })
 
 pub same_callers_run : {D : Type 0} {g : disk.Ghosts D} (files : List ℕ → KnownFile) (asked asked_after : Asked) (from : Image) (ended : Ended D g)

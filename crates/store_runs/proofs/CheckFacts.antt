@@ -56,6 +56,7 @@ use Rattle.store_runs.specs.declared.checking.CheckFault.{CheckFault}
 use Rattle.store_runs.specs.declared.checking.CheckPlace.{CheckPlace}
 use Rattle.store_runs.specs.declared.checking.CheckPlace.TheVariants.{Table}
 use Rattle.store_runs.specs.declared.ended.Ended.{Ended}
+use Rattle.store_runs.specs.declared.missing.IfMissing.TheVariants.{Refuse}
 use Rattle.store_runs.specs.declared.ended.Ended.TheVariants.{Nothing, Left, Closed}
 use Rattle.transfer.specs.Transfer.{AppendsFront}
 use Rattle.store_runs.proofs.AskedFacts.{once_connected, once_refused}
@@ -284,7 +285,7 @@ module _ (explain : Bool) (asked asked_after : Asked) (from : Image) {D : Type 0
   -- a connection was made, its store was looked through, and it was ended
   pub looked_through : (found left : Held (FileStore D g)) → HasFound from found → IsEndOf left ended → IsAtRest (file_state found) → OnlyReads (file_state found) (file_state left)
       → IsCheckRun explain (λ outcome. IsCheckOutput outcome (file_state found) (file_state left) outputs.output outputs.written) outputs.errors outputs.told status
-      → AsksFor asked asked_after name false from Connected → IsCheck explain asked asked_after from name outputs status ended
+      → AsksFor asked asked_after name Refuse from Connected → IsCheck explain asked asked_after from name outputs status ended
   looked_through found left finds ends rests reads run asks = record {
     checked = record {
       outcome = run.outcome;
@@ -294,16 +295,16 @@ module _ (explain : Bool) (asked asked_after : Asked) (from : Image) {D : Type 0
     };
     faults = faults_read from found left ended finds reads ends run.outcome outputs.output outputs.written run.output;
     kept = kept_read from found left ended finds rests reads ends;
-    asks = once_connected asked asked_after name false from (λ (fault : StoreFault). run.outcome ≡ Some (in_no_table (of_store fault))) ended left ends asks;
+    asks = once_connected asked asked_after name Refuse from (λ (fault : StoreFault). run.outcome ≡ Some (in_no_table (of_store fault))) ended left ends asks;
   }
 
   -- no connection could be made
   pub not_connected : (refused : StoreFault) (told : CheckFault) → told ≡ in_no_table (of_store refused) → IsRefused false from refused ended → Keeps outputs.output outputs.written
-      → IsCheckTold explain (Some told) outputs.errors outputs.told → status ≡ check_status (Some told) → AsksFor asked asked_after name false from (refused_with refused ended)
+      → IsCheckTold explain (Some told) outputs.errors outputs.told → status ≡ check_status (Some told) → AsksFor asked asked_after name Refuse from (refused_with refused ended)
       → IsCheck explain asked asked_after from name outputs status ended
   not_connected refused told is why keeps said status_is asks = record {
     checked = record { outcome = Some told; output = inl (refused, ap Some is, why, keeps); told = said; status_is = status_is };
     faults = faults_refused from ended refused told is why;
     kept = kept_found from ended why.left;
-    asks = once_refused asked asked_after name false from (λ (fault : StoreFault). Some told ≡ Some (in_no_table (of_store fault))) ended refused why.left (ap Some is) asks;
+    asks = once_refused asked asked_after name Refuse from (λ (fault : StoreFault). Some told ≡ Some (in_no_table (of_store fault))) ended refused why.left (ap Some is) asks;
   }

@@ -1,5 +1,5 @@
 -- What `init` leaves of a database, and what it and an opening tell.
-use Rattle.std.proofs.Common.{◌≡◌, ◌⊎◌, ◌∙◌, ℕ, List, Option, Some, Ok, IsTrue, ap, arith, inl, inr, refl, subst, sym}
+use Rattle.std.proofs.Common.{◌≡◌, ◌⊎◌, ◌∙◌, ℕ, List, Option, None, Some, Ok, IsTrue, ap, arith, inl, inr, refl, subst, sym}
 use Rattle.std.specs.Prelude.{Bool, is_none}
 use Rattle.std.specs.Io.KnownBytes.{Keeps}
 use Rattle.faults.specs.declared.any.AnyFault.{AnyFault}
@@ -27,6 +27,8 @@ use Rattle.bureau_store.specs.declared.fault.StoreFault.{StoreFault}
 use Rattle.store_runs.specs.Asked.{Asked, AsksFor, Connected, refused_with}
 use Rattle.store_runs.specs.Desk.{HasOpened, InitSurvives, IsInitLeft, IsInitRefused, IsInitRun, IsOpenRefused, of_store, of_unopened}
 use Rattle.store_runs.specs.Ended.{HasFound, IsEndOf, IsRefused}
+use Rattle.store_runs.specs.Missing.{if_missing, makes}
+use Rattle.store_runs.specs.declared.missing.IfMissing.{IfMissing}
 use Rattle.run_parts.specs.Outputs.{IsEndedBy, IsTold, run_status, IsToldAlone, Outputs}
 use Rattle.run_parts.specs.ProgramFault.{of_program}
 use Rattle.run_parts.specs.declared.fault.ProgramFault.{ProgramFault}
@@ -117,13 +119,17 @@ not_read fault outputs status (inr unread) keeps told is = inl (keeps, subst (λ
 
 -- ---- over files
 
+made_for_none : (sums : Bool) (theirs : Option AnyFault) → makes (if_missing sums theirs) ≡ is_none theirs
+made_for_none sums None = refl
+made_for_none sums (Some fault) = refl
+
 module _ (files : List ℕ → KnownFile) (asked asked_after : Asked) (from : Image) {D : Type 0} {g : disk.Ghosts D} (ended : Ended D g)
-    (name callers source : List ℕ) (theirs : Option AnyFault) (is : IsLookedAt (files callers) source theirs) (makes : Bool) (makes_is : makes ≡ is_none theirs) (outputs : Outputs) (status : ℕ) where
+    (name callers source : List ℕ) (theirs : Option AnyFault) (is : IsLookedAt (files callers) source theirs) (sums : Bool) (missing : IfMissing) (missing_is : missing ≡ if_missing sums theirs) (outputs : Outputs) (status : ℕ) where
   -- a connection was made, a store was made in its database or not, and it was ended
-  pub made_over_files : (found left : Held (FileStore D g)) → AsksFor asked asked_after name makes from Connected
+  pub made_over_files : (found left : Held (FileStore D g)) → AsksFor asked asked_after name missing from Connected
       → HasFound from found → IsEndOf left ended → IsAtRest (file_state found) → InitSurvives source (file_state found) (file_state left)
       → IsInitRun (λ outcome. IsInitLeft outcome source (file_state found) (file_state left)) source outputs.output outputs.written outputs.errors outputs.told status
-      → IsInit files asked asked_after from name callers outputs status ended
+      → IsInit files asked asked_after from sums name callers outputs status ended
   made_over_files found left asks finds ends rested stopped run = inl (record {
     source = source;
     theirs = theirs;
@@ -136,30 +142,30 @@ module _ (files : List ℕ → KnownFile) (asked asked_after : Asked) (from : Im
       status_is = run.status_is;
     };
     kept = kept_made from source run.outcome ended (record { found = found; finds = finds; left = left; used = (rested, run.left, stopped); ends = ends });
-    asks = once_connected asked asked_after name (is_none theirs) from (λ fault. run.outcome ≡ Some (of_store fault)) ended left ends
-        (subst (λ (it : Bool). AsksFor asked asked_after name it from Connected) makes_is asks);
+    asks = once_connected asked asked_after name (if_missing sums theirs) from (λ fault. run.outcome ≡ Some (of_store fault)) ended left ends
+        (subst (λ (it : IfMissing). AsksFor asked asked_after name it from Connected) missing_is asks);
   })
 
   -- no connection could be made
-  pub not_connected : (fault : StoreFault) (any : AnyFault) → AsksFor asked asked_after name makes from (refused_with fault ended)
-      → IsRefused makes from fault ended → any ≡ of_unopened theirs fault → Keeps outputs.output outputs.written → IsTold (Some any) outputs.errors outputs.told → status ≡ run_status (Some any)
-      → IsInit files asked asked_after from name callers outputs status ended
+  pub not_connected : (fault : StoreFault) (any : AnyFault) → AsksFor asked asked_after name missing from (refused_with fault ended)
+      → IsRefused (makes missing) from fault ended → any ≡ of_unopened theirs fault → Keeps outputs.output outputs.written → IsTold (Some any) outputs.errors outputs.told → status ≡ run_status (Some any)
+      → IsInit files asked asked_after from sums name callers outputs status ended
   not_connected fault any asks refused same keeps told status_is = inr (inl (record {
     source = source;
     theirs = theirs;
     callers_are = is;
     fault = fault;
-    refused = subst (λ (it : Bool). IsRefused it from fault ended) makes_is refused;
+    refused = subst (λ (it : Bool). IsRefused it from fault ended) (ap makes missing_is ∙ made_for_none sums theirs) refused;
     kept = kept_found from ended refused.left;
     told = subst (λ (any : AnyFault). IsToldAlone any outputs status) same (keeps, told, status_is);
-    asks = once_refused asked asked_after name (is_none theirs) from (λ told. told ≡ fault) ended fault refused.left refl
-        (subst (λ (it : Bool). AsksFor asked asked_after name it from (refused_with fault ended)) makes_is asks);
+    asks = once_refused asked asked_after name (if_missing sums theirs) from (λ told. told ≡ fault) ended fault refused.left refl
+        (subst (λ (it : IfMissing). AsksFor asked asked_after name it from (refused_with fault ended)) missing_is asks);
   }))
 
 module _ (files : List ℕ → KnownFile) (asked asked_after : Asked) (from : Image) {D : Type 0} {g : disk.Ghosts D} (ended : Ended D g) where
   -- the same of names that are the same
-  pub same_init : (name name_slice callers callers_slice : List ℕ) (outputs : Outputs) (status : ℕ) → name_slice ≡ name → callers_slice ≡ callers
-      → IsInit files asked asked_after from name_slice callers_slice outputs status ended → IsInit files asked asked_after from name callers outputs status ended
-  same_init name name_slice callers callers_slice outputs status same same_callers init =
-      subst (λ (it : List ℕ). IsInit files asked asked_after from it callers outputs status ended) same
-      (subst (λ (it : List ℕ). IsInit files asked asked_after from name_slice it outputs status ended) same_callers init)
+  pub same_init : (sums : Bool) (name name_slice callers callers_slice : List ℕ) (outputs : Outputs) (status : ℕ) → name_slice ≡ name → callers_slice ≡ callers
+      → IsInit files asked asked_after from sums name_slice callers_slice outputs status ended → IsInit files asked asked_after from sums name callers outputs status ended
+  same_init sums name name_slice callers callers_slice outputs status same same_callers init =
+      subst (λ (it : List ℕ). IsInit files asked asked_after from sums it callers outputs status ended) same
+      (subst (λ (it : List ℕ). IsInit files asked asked_after from sums name_slice it outputs status ended) same_callers init)

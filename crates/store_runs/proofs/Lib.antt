@@ -10,3 +10,4 @@ pub mod LeftFacts
 pub mod MigratingFacts
 pub mod OpensFacts
 pub mod StayFacts
+pub mod WatchedFacts

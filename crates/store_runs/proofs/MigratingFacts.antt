@@ -20,6 +20,7 @@ use Rattle.store_runs.specs.Migrating.{HasMigrated, IsMigrateLeft, IsMigrateRun,
 use Rattle.run_parts.specs.ProgramFault.{of_program}
 use Rattle.store_runs.specs.NamedStore.{IsMigrate}
 use Rattle.store_runs.specs.declared.ended.Ended.{Ended}
+use Rattle.store_runs.specs.declared.missing.IfMissing.TheVariants.{Refuse}
 use Rattle.run_parts.specs.declared.fault.ProgramFault.TheVariants.{NotWritten}
 use Rattle.store_runs.proofs.AskedFacts.{once_connected, once_refused}
 use Rattle.store_runs.proofs.KeptFacts.{kept_migrated}
@@ -40,23 +41,23 @@ not_migrated refused fault before after is why kept untouched = inr (refused, is
 module _ {D : Type 0} {g : disk.Ghosts D} (asked asked_after : Asked) (from : Image) (name : List ℕ) (outputs : Outputs) (status : ℕ) (ended : Ended D g) where
   -- no connection to the files could be made
   pub not_connected : (fault : StoreFault) (any : AnyFault) → IsRefused false from fault ended → any ≡ of_store fault → Keeps outputs.output outputs.written
-      → IsTold (Some any) outputs.errors outputs.told → status ≡ run_status (Some any) → AsksFor asked asked_after name false from (refused_with fault ended)
+      → IsTold (Some any) outputs.errors outputs.told → status ≡ run_status (Some any) → AsksFor asked asked_after name Refuse from (refused_with fault ended)
       → IsMigrate asked asked_after from name outputs status ended
   not_connected fault any refused is keeps told status_is asks =
       let left : LeavesMigrated from (Some any) ended = inl (fault, ap Some is, refused) in record {
         migrated = record { outcome = Some any; left = left; output = inr (fault, is, keeps); told = told; status_is = status_is };
         kept = kept_migrated from (Some any) ended left;
-        asks = once_refused asked asked_after name false from (λ (other : StoreFault). Some any ≡ Some (of_store other)) ended fault refused.left (ap Some is) asks;
+        asks = once_refused asked asked_after name Refuse from (λ (other : StoreFault). Some any ≡ Some (of_store other)) ended fault refused.left (ap Some is) asks;
       }
 
   -- one was made, and ended
   pub over_files : (found left : Held (FileStore D g)) → HasFound from found → IsEndOf left ended → IsAtRest (file_state found)
       → Survives (file_state found) (file_state left) (AreMigrated (file_state found))
       → IsMigrateRun (λ outcome. IsMigrateLeft outcome (file_state found) (file_state left)) outputs.output outputs.written outputs.errors outputs.told status
-      → AsksFor asked asked_after name false from Connected → IsMigrate asked asked_after from name outputs status ended
+      → AsksFor asked asked_after name Refuse from Connected → IsMigrate asked asked_after from name outputs status ended
   over_files found conn finds ends rested stopped run asks =
       let left : LeavesMigrated from run.outcome ended = inr (record { found = found; finds = finds; left = conn; used = (rested, run.left, stopped); ends = ends }) in record {
         migrated = record { outcome = run.outcome; left = left; output = run.output; told = run.told; status_is = run.status_is };
         kept = kept_migrated from run.outcome ended left;
-        asks = once_connected asked asked_after name false from (λ fault. run.outcome ≡ Some (of_store fault)) ended conn ends asks;
+        asks = once_connected asked asked_after name Refuse from (λ fault. run.outcome ≡ Some (of_store fault)) ended conn ends asks;
       }

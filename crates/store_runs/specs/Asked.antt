@@ -1,11 +1,12 @@
 -- The stores that a run asks for, and the answers.
-use Rattle.std.specs.Prelude.{◌≡◌, ℕ, Bool, List, [], ◌∷◌, ◌++◌, option_map, Option, Some, IfSome, Result, Ok, Err}
+use Rattle.std.specs.Prelude.{◌≡◌, ℕ, List, [], ◌∷◌, ◌++◌, option_map, Option, Some, IfSome, Result, Ok, Err}
 use Rattle.bureau_store.specs.declared.fault.StoreFault.{StoreFault}
 use Rattle.sqlite_disk.specs.declared.Disk.{Ghosts}
 use Rattle.sqlite_wal.specs.Recovery.{Image}
 use Rattle.store_runs.specs.Ended.{IsClosed, IsLeft, IsNothing}
 use Rattle.store_runs.specs.declared.ended.Ended.{Ended}
 use Rattle.store_runs.specs.declared.ended.Ended.TheVariants.{Nothing, Left, Closed}
+use Rattle.store_runs.specs.declared.missing.IfMissing.{IfMissing}
 
 -- A connection was made. Or none could be, for this fault: no files were opened, or an open failed and something is left of them.
 pub data Answer : Type 0 where
@@ -13,11 +14,11 @@ pub data Answer : Type 0 where
   Unopened : StoreFault → Answer
   Failed : StoreFault → Answer
 
--- A store that was asked for: the name of its file, whether that was to be made if it isn't there, what stands for what the
--- files held, and the answer.
+-- A store that was asked for: the name of its file, what was to become of one that isn't there, what stands for what the files
+-- held, and the answer.
 pub record Asking : Type 0 where
   pub name : List ℕ
-  pub makes : Bool
+  pub missing : IfMissing
   pub from : Image
   pub answer : Answer
 
@@ -30,8 +31,8 @@ abbrev pub Asks : Asked → Asked → List Asking → Type 0
 Asks old new more = IfSome new (λ all. option_map (λ before. before ++ more) old ≡ Some all)
 
 -- one store was
-abbrev pub AsksFor : Asked → Asked → List ℕ → Bool → Image → Answer → Type 0
-AsksFor old new name makes from answer = Asks old new (record { name = name; makes = makes; from = from; answer = answer } ∷ [])
+abbrev pub AsksFor : Asked → Asked → List ℕ → IfMissing → Image → Answer → Type 0
+AsksFor old new name missing from answer = Asks old new (record { name = name; missing = missing; from = from; answer = answer } ∷ [])
 
 module _ {D : Type 0} {g : Ghosts D} where
   -- the answer if no connection could be made
@@ -52,7 +53,7 @@ module _ {D : Type 0} {g : Ghosts D} where
 
   -- A run asked for the store of this name, once, and for no other. It left the files of the answer, and told the fault, if
   -- there was one.
-  pub record AsksOnce (old new : Asked) (name : List ℕ) (makes : Bool) (from : Image) (Told : StoreFault → Type 0) (ended : Ended D g) : Type 0 where
+  pub record AsksOnce (old new : Asked) (name : List ℕ) (missing : IfMissing) (from : Image) (Told : StoreFault → Type 0) (ended : Ended D g) : Type 0 where
     pub answer : Answer
-    pub once : AsksFor old new name makes from answer
+    pub once : AsksFor old new name missing from answer
     pub agrees : Agrees Told answer ended

@@ -42,6 +42,7 @@ use Rattle.store_runs.specs.declared.checking.CheckFault.{CheckFault}
 use Rattle.store_runs.specs.declared.checking.CheckPlace.{CheckPlace}
 use Rattle.store_runs.specs.declared.checking.CheckPlace.TheVariants.{Table, Listing}
 use Rattle.store_runs.specs.declared.ended.Ended.{Ended}
+use Rattle.store_runs.specs.declared.missing.IfMissing.TheVariants.{Refuse}
 
 -- a fault that is in no table
 abbrev pub in_no_table : AnyFault → CheckFault
@@ -131,9 +132,10 @@ abbrev pub check_line : CheckFault → Option CheckPlace → List ℕ
 check_line told None = text_of told.fault
 check_line told (Some place) = line_in told.fault (place_name place)
 
--- standard error gets nothing, or the line that tells the fault, as far as it takes it, and what it means, if that is asked for
+-- standard error gets the line that tells the fault, as far as it takes it, if there is one; and a text that explains more, if that is
+-- asked for
 abbrev pub IsCheckTold : Bool → Option CheckFault → Option (List ℕ) → Option (List ℕ) → Type 0
-IsCheckTold explain None old new = Keeps old new
+IsCheckTold explain None old new = IsMeant explain old new
 IsCheckTold explain (Some told) old new = (line : Option (List ℕ)) × AppendsFront old line (check_line told told.place) × IsMeant explain line new
 
 abbrev pub check_status : Option CheckFault → ℕ
@@ -166,7 +168,7 @@ pub record IsCheck (explain : Bool) (asked asked_after : Asked) (from : Image) {
   pub checked : IsCheckRun explain (IsFilesChecked from outputs.output outputs.written ended) outputs.errors outputs.told status
   pub faults : TellsOnly IsOfRead (λ fault. checked.outcome ≡ Some (in_no_table (of_store fault))) from ended
   pub kept : KeepsFound from ended
-  pub asks : AsksOnce asked asked_after name false from (λ fault. checked.outcome ≡ Some (in_no_table (of_store fault))) ended
+  pub asks : AsksOnce asked asked_after name Refuse from (λ fault. checked.outcome ≡ Some (in_no_table (of_store fault))) ended
 
 -- ---- No part of what is promised: private contracts cite it.
 

@@ -6,3 +6,5 @@ pub mod Ended
 pub mod Keeping
 pub mod Migrating
 pub mod NamedStore
+pub mod Watched
+pub mod Missing

@@ -1,6 +1,6 @@
 -- What `init`, `migrate` and `callers` do with a store, by the name of its file: what they read, which store they ask for, what is left of
 -- its files, what both streams get, and the exit status.
-use Rattle.std.specs.Prelude.{◌≡◌, ◌⊎◌, ℕ, List, Option, Some, false, is_none}
+use Rattle.std.specs.Prelude.{◌≡◌, ◌⊎◌, ℕ, Bool, List, Option, Some, is_none}
 use Rattle.faults.specs.declared.any.AnyFault.{AnyFault}
 use Rattle.bureau_store.specs.declared.caller.CallerRow.{CallerRow}
 use Rattle.bureau_store.specs.declared.fault.StoreFault.{StoreFault}
@@ -15,16 +15,19 @@ use Rattle.store_runs.specs.Callers.{IsCallersRun, KeepsCallers, files_set}
 use Rattle.store_runs.specs.Desk.{AreRowsOf, IsCallersFault, IsInitRun, LeavesMade, MayHaveFault, of_store, of_unopened}
 use Rattle.store_runs.specs.Ended.{IsNothing, IsRefused}
 use Rattle.store_runs.specs.Keeping.{KeepsFound, KeepsMade, KeepsMigrated}
+use Rattle.store_runs.specs.Missing.{if_missing}
 use Rattle.store_runs.specs.Migrating.{IsMigrateRun, LeavesMigrated}
 use Rattle.store_runs.specs.declared.ended.Ended.{Ended}
+use Rattle.store_runs.specs.declared.missing.IfMissing.TheVariants.{Refuse}
 
 -- the callers file was read, and has this fault, if it has one
 pub record IsLookedAt (callers : KnownFile) (source : List ℕ) (fault : Option AnyFault) : Type 0 where
   pub content : IsContent callers source
   pub fault_is : MayHaveFault source fault
 
--- Of the files by their names, of the stores that were asked for before the run and by its end, and of what those of its own held.
-module _ (files : List ℕ → KnownFile) (asked asked_after : Asked) (from : Image) {D : Type 0} {g : disk.Ghosts D} where
+-- Of the files by their names, of the stores that were asked for before the run and by its end, of what those of its own held, and
+-- whether the pages of a file that is made are to end in sums.
+module _ (files : List ℕ → KnownFile) (asked asked_after : Asked) (from : Image) (sums : Bool) {D : Type 0} {g : disk.Ghosts D} where
   -- A store with the callers of the callers file is made in the database that a connection finds in the store's files. A file that
   -- isn't there was to be made for callers without a fault alone.
   pub record IsMade (name callers : List ℕ) (outputs : Outputs) (status : ℕ) (ended : Ended D g) : Type 0 where
@@ -33,7 +36,7 @@ module _ (files : List ℕ → KnownFile) (asked asked_after : Asked) (from : Im
     pub callers_are : IsLookedAt (files callers) source theirs
     pub made : IsInitRun (λ outcome. LeavesMade from source outcome ended) source outputs.output outputs.written outputs.errors outputs.told status
     pub kept : KeepsMade from source made.outcome ended
-    pub asks : AsksOnce asked asked_after name (is_none theirs) from (λ fault. made.outcome ≡ Some (of_store fault)) ended
+    pub asks : AsksOnce asked asked_after name (if_missing sums theirs) from (λ fault. made.outcome ≡ Some (of_store fault)) ended
 
   -- No connection to the store's files can be made, and the fault is told: before one of the callers, but where the file isn't there and
   -- none is made.
@@ -45,9 +48,9 @@ module _ (files : List ℕ → KnownFile) (asked asked_after : Asked) (from : Im
     pub refused : IsRefused (is_none theirs) from fault ended
     pub kept : KeepsFound from ended
     pub told : IsToldAlone (of_unopened theirs fault) outputs status
-    pub asks : AsksOnce asked asked_after name (is_none theirs) from (λ told. told ≡ fault) ended
+    pub asks : AsksOnce asked asked_after name (if_missing sums theirs) from (λ told. told ≡ fault) ended
 
-  -- `init STORE CALLERS`. No store is asked for if the callers file can't be read, or memory ran out for that.
+  -- `init [--sums] STORE CALLERS`. No store is asked for if the callers file can't be read, or memory ran out for that.
   abbrev pub IsInit : List ℕ → List ℕ → Outputs → ℕ → Ended D g → Type 0
   IsInit name callers outputs status ended =
       IsMade name callers outputs status ended ⊎ IsNotMade name callers outputs status ended
@@ -57,7 +60,7 @@ module _ (files : List ℕ → KnownFile) (asked asked_after : Asked) (from : Im
 pub record IsMigrate (asked asked_after : Asked) (from : Image) {D : Type 0} {g : disk.Ghosts D} (name : List ℕ) (outputs : Outputs) (status : ℕ) (ended : Ended D g) : Type 0 where
   pub migrated : IsMigrateRun (λ outcome. LeavesMigrated from outcome ended) outputs.output outputs.written outputs.errors outputs.told status
   pub kept : KeepsMigrated from migrated.outcome ended
-  pub asks : AsksOnce asked asked_after name false from (λ fault. migrated.outcome ≡ Some (of_store fault)) ended
+  pub asks : AsksOnce asked asked_after name Refuse from (λ fault. migrated.outcome ≡ Some (of_store fault)) ended
 
 -- the callers file has these callers
 pub record HasRows (callers : KnownFile) (rows : List CallerRow) : Type 0 where
@@ -81,7 +84,7 @@ module _ (files : List ℕ → KnownFile) (asked asked_after : Asked) (from : Im
     pub rows_are : HasRows (files callers) rows
     pub set : IsCallersRun (files_set rows from ended) outputs.output outputs.written outputs.errors outputs.told status
     pub kept : KeepsCallers from rows set.outcome ended
-    pub asks : AsksOnce asked asked_after name false from (λ fault. set.outcome ≡ Some (of_store fault)) ended
+    pub asks : AsksOnce asked asked_after name Refuse from (λ fault. set.outcome ≡ Some (of_store fault)) ended
 
   abbrev pub IsCallers : List ℕ → List ℕ → Outputs → ℕ → Ended D g → Type 0
   IsCallers name callers outputs status ended =

@@ -9,13 +9,14 @@ ghost use Rattle.sqlite_wal.specs.Files.{image_at};
 
 use crate::desk::{callers_in, of_store, open};
 use crate::ended::{Ended, end};
-use crate::stores::Stores;
+use crate::missing::IfMissing;
+use crate::stores::{StoreFile, Stores};
 use bureau_sql::SqlStore;
 use bureau_store::{CallerCounts, CallerRow};
 use faults::AnyFault;
 use itoa::Buffer;
 use run_parts::{Files, ProgramFault, printed, read_file, told};
-use sqlite::{Alter, Connection, FileFrom, Start};
+use sqlite::{Alter, Connection, Start};
 use std::alloc::Global;
 use std::io::Write;
 use transfer::RETRIES;
@@ -129,7 +130,7 @@ pub fn callers_file<F: Files, S: Stores, D: Start, O: Write, E: Write>(
     start: D,
     output: &mut O,
     errors: &mut E,
-) -> (u8, Ended<FileFrom<D>>)
+) -> (u8, Ended<StoreFile<D, S::Place>>)
     ensures { IsCallers (F.known_file files.now) (S.asked stores.old) (S.asked stores.new)
         (image_at D.Start) store.now callers.now
         (outputs_of O.contents E.contents output.old output.new errors.old errors.new)
@@ -139,7 +140,7 @@ pub fn callers_file<F: Files, S: Stores, D: Start, O: Write, E: Write>(
         Ok(callers) => callers,
         Err(fault) => return (told(errors, Err(fault)), Ended::Nothing),
     };
-    match stores.connect(store, false, start) {
+    match stores.connect(store, IfMissing::Refuse, start) {
         Ok(conn) => {
             let (status, conn) = run_callers(alloc, conn, callers.as_slice(), output, errors);
             (status, end(conn))

@@ -20,15 +20,17 @@ ghost use Rattle.transfer.specs.Transfer.{AppendsFront};
 
 use crate::desk::of_store;
 use crate::ended::{Ended, end};
+use crate::missing::IfMissing;
+use crate::pages::Pages;
 use crate::refusal::Refusal;
-use crate::stores::Stores;
+use crate::stores::{StoreFile, Stores};
 use bureau_sql::find_store;
 use bureau_store::StoreFault;
 use faults::AnyFault;
 use run_parts::{ProgramFault, exit_status, explain_fault, printed, report, tell, tell_in};
 use sql_checks::{Finding, StoreTable, StoreTally, check, every_caller, store_tally, tally_text};
 use sql_reads::ReadFault;
-use sqlite::{Alter, Connection, FileFrom, Start};
+use sqlite::{Alter, Connection, Start};
 use std::alloc::Global;
 use std::io::{self, Write};
 
@@ -62,12 +64,14 @@ pub struct CheckFault {
 
 /// Looks through the store in the database of a connection, and prints how much it has. Returns the exit status.
 ///
-/// It writes nothing to the database. A fault goes to `errors` alone, with the name of the table that is wrong. Below it
-/// stands what it means, if `explain` asks for that.
+/// It writes nothing to the database. A fault goes to `errors` alone, with the name of the table that is wrong. If
+/// `explain` asks for that, what it means stands below it. If there is none, `errors` gets what is known of the pages
+/// then.
 pub fn run_check<S: Alter, W: Write, E: Write>(
     alloc: Global,
     conn: &mut Connection<S>,
     explain: bool,
+    pages: Pages,
     writer: &mut W,
     errors: &mut E,
 ) -> u8
@@ -82,7 +86,7 @@ pub fn run_check<S: Alter, W: Write, E: Write>(
 {
     let _rested = conn.is_autocommit();
     let outcome = check_and_print(alloc, conn, writer);
-    told_in(errors, explain, outcome)
+    told_in(errors, explain, pages, outcome)
 }
 
 /// The same for the store that a file has. It makes no file that isn't there. Returns the exit status, and what is left
@@ -95,15 +99,15 @@ pub fn check_file<S: Stores, D: Start, W: Write, E: Write>(
     start: D,
     writer: &mut W,
     errors: &mut E,
-) -> (u8, Ended<FileFrom<D>>)
+) -> (u8, Ended<StoreFile<D, S::Place>>)
     ensures { IsCheck explain (S.asked stores.old) (S.asked stores.new) (image_at D.Start) store.now
         (outputs_of W.contents E.contents writer.old writer.new errors.old errors.new)
         result.0 result.1 }
 {
-    match stores.connect(store, false, start) {
+    match stores.connect(store, IfMissing::Refuse, start) {
         Ok(conn) => {
             let mut conn = conn;
-            let status = run_check(alloc, &mut conn, explain, writer, errors);
+            let status = run_check(alloc, &mut conn, explain, stores.pages(), writer, errors);
             (status, end(conn))
         }
         Err((fault, ended)) => (
@@ -229,19 +233,37 @@ fn in_no_table(fault: AnyFault) -> CheckFault
     CheckFault { fault, place: None }
 }
 
-// Writes how a check ended, if it ended with a fault, and returns the exit status.
-fn told_in<E: Write>(errors: &mut E, explain: bool, outcome: Result<(), CheckFault>) -> u8
+// Writes how a check ended, if it ended with a fault, and else what is known of the pages, if that is asked for. Returns
+// the exit status.
+fn told_in<E: Write>(
+    errors: &mut E,
+    explain: bool,
+    pages: Pages,
+    outcome: Result<(), CheckFault>,
+) -> u8
     ensures told { IsCheckTold explain (check_fault_in outcome)
         (E.contents errors.old) (E.contents errors.new) }
     ensures status { result ≡ check_status (check_fault_in outcome) }
 {
     match outcome {
-        Ok(()) => 0,
+        Ok(()) => {
+            explain_pages(errors, explain, pages);
+            0
+        }
         Err(told) => {
             let _ = tell_check(errors, told);
             explain_fault(errors, explain, told.fault);
             exit_status(told.fault)
         }
+    }
+}
+
+// Writes whether the pages of a store end in sums, as far as that is known.
+fn explain_pages<E: Write>(errors: &mut E, explain: bool, pages: Pages)
+    ensures { IsMeant explain (E.contents errors.old) (E.contents errors.new) }
+{
+    if let (true, Some(words)) = (explain, pages.words()) {
+        let _ = tell(errors, words.as_bytes());
     }
 }
 

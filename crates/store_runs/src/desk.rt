@@ -11,12 +11,13 @@ ghost use Rattle.bureau_sql.specs.SqlView.{IsAtRest};
 ghost use Rattle.sql_tables.specs.Reading.{OnlyReads};
 
 use crate::ended::{Ended, end};
-use crate::stores::Stores;
+use crate::missing::if_missing;
+use crate::stores::{StoreFile, Stores};
 use bureau_sql::{SqlStore, find_store, init};
 use bureau_store::{CallerRow, StoreFault, callers};
 use faults::AnyFault;
 use run_parts::{Files, numbered_line, printed, read_file, refuse, told};
-use sqlite::{Alter, Connection, FileFrom, Start};
+use sqlite::{Alter, Connection, Start};
 use std::alloc::Global;
 use std::io::Write;
 use transfer::RETRIES;
@@ -106,19 +107,20 @@ pub fn of_store(fault: StoreFault) -> AnyFault
 /// of the store's files.
 ///
 /// A store that can't be opened is told before a fault of the callers file. A file that isn't there is made for callers
-/// without a fault alone.
+/// without a fault alone. Each of its pages ends in a sum if `sums` asks for that.
 pub fn do_init<F: Files, S: Stores, D: Start, O: Write, E: Write>(
     files: &F,
     stores: &mut S,
     alloc: Global,
     store: &str,
     callers: &str,
+    sums: bool,
     start: D,
     output: &mut O,
     errors: &mut E,
-) -> (u8, Ended<FileFrom<D>>)
+) -> (u8, Ended<StoreFile<D, S::Place>>)
     ensures { IsInit (F.known_file files.now) (S.asked stores.old) (S.asked stores.new)
-        (image_at D.Start) store.now callers.now
+        (image_at D.Start) sums store.now callers.now
         (outputs_of O.contents E.contents output.old output.new errors.old errors.new)
         result.0 result.1 }
 {
@@ -128,8 +130,7 @@ pub fn do_init<F: Files, S: Stores, D: Start, O: Write, E: Write>(
     };
     let source = callers.as_slice();
     let fault = fault_of(alloc, source);
-    let makes = fault.is_none();
-    match stores.connect(store, makes, start) {
+    match stores.connect(store, if_missing(fault, sums), start) {
         Ok(conn) => {
             let mut conn = conn;
             let status = run_init(alloc, &mut conn, source, output, errors);

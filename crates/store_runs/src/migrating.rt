@@ -11,11 +11,12 @@ ghost use Rattle.sqlite_wal.specs.Files.{image_at};
 
 use crate::desk::of_store;
 use crate::ended::{Ended, end};
-use crate::stores::Stores;
+use crate::missing::IfMissing;
+use crate::stores::{StoreFile, Stores};
 use bureau_sql::migrate;
 use faults::AnyFault;
 use run_parts::{printed, told};
-use sqlite::{Alter, Connection, FileFrom, Start};
+use sqlite::{Alter, Connection, Start};
 use std::alloc::Global;
 use std::io::Write;
 
@@ -71,12 +72,12 @@ pub fn migrate_file<S: Stores, D: Start, W: Write, E: Write>(
     start: D,
     writer: &mut W,
     errors: &mut E,
-) -> (u8, Ended<FileFrom<D>>)
+) -> (u8, Ended<StoreFile<D, S::Place>>)
     ensures { IsMigrate (S.asked stores.old) (S.asked stores.new) (image_at D.Start) store.now
         (outputs_of W.contents E.contents writer.old writer.new errors.old errors.new)
         result.0 result.1 }
 {
-    match stores.connect(store, false, start) {
+    match stores.connect(store, IfMissing::Refuse, start) {
         Ok(conn) => {
             let mut conn = conn;
             let status = run_migrate(&mut conn, writer, errors);

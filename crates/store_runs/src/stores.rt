@@ -3,11 +3,18 @@ ghost use Rattle.std.specs.Prelude.{◌≡◌, false, IfErr, IfOk};
 ghost use Rattle.sqlite_wal.specs.Files.{image_at};
 ghost use Rattle.store_runs.specs.Asked.{Asked, AsksFor, answer_in};
 ghost use Rattle.store_runs.specs.Ended.{HasFound, IsRefused};
+ghost use Rattle.store_runs.specs.Missing.{HasSumsAsAsked, makes};
 
 use crate::ended::Ended;
+use crate::missing::IfMissing;
+use crate::pages::Pages;
 use crate::refusal::Refusal;
+use crate::watched::{Place, Watched};
 use bureau_store::StoreFault;
 use sqlite::{Connection, FileFrom, FileStore, Start};
+
+/// A file of a store that held this as it was opened, and its place.
+pub type StoreFile<D, P> = Watched<FileFrom<D>, P>;
 
 /// Connections to the databases in files, by the names of these.
 ///
@@ -17,8 +24,12 @@ pub trait Stores {
     /// The stores that were asked for, the oldest first, as far as they are known.
     ghost asked: { Self → Asked };
 
-    /// Connects to the database in the file of this name, and leaves it at rest. It makes a file that isn't there, if
-    /// that is asked for. What the files held stands as a `Start`, since no code can read it.
+    /// The place of the files of a store.
+    type Place: Place + Drop;
+
+    /// Connects to the database in the file of this name, and leaves it at rest. `missing` says what becomes
+    /// of a file that isn't there. What the files held stands as a `Start`, since no code can read it. If the files are
+    /// no longer in their place, the next change fails as one of a device that has failed.
     ///
     /// # Errors
     ///
@@ -28,16 +39,23 @@ pub trait Stores {
     fn connect<D: Start>(
         &mut self,
         name: &str,
-        makes: bool,
+        missing: IfMissing,
         start: D,
-    ) -> Result<Connection<FileStore<FileFrom<D>>>, (StoreFault, Ended<FileFrom<D>>)>
+    ) -> Result<
+        Connection<FileStore<StoreFile<D, Self::Place>>>,
+        (StoreFault, Ended<StoreFile<D, Self::Place>>),
+    >
         ensures rest { IfOk result (λ conn. conn.in_transaction ≡ false) }
         ensures found { IfOk result (HasFound (image_at D.Start)) }
-        ensures asked { AsksFor (asked self.old) (asked self.new) name.now makes (image_at D.Start)
+        ensures sums { IfOk result (HasSumsAsAsked missing (image_at D.Start)) }
+        ensures asked { AsksFor (asked self.old) (asked self.new) name.now missing (image_at D.Start)
             (answer_in result) }
         ensures refused { IfErr result
-            (λ refused. IsRefused makes (image_at D.Start) refused.0 refused.1) };
+            (λ refused. IsRefused (makes missing) (image_at D.Start) refused.0 refused.1) };
 
     /// Why the last connection couldn't be made, as far as that is known. Nothing is promised of it.
     fn refusal(&self) -> Refusal;
+
+    /// Whether the pages of the last store end in sums, as far as that is known. Nothing is promised of it.
+    fn pages(&self) -> Pages;
 }

@@ -6,11 +6,11 @@ use command_line::LineFault;
 use connections::{Connections, Event, Round, RoundFault, Rounds};
 use run_parts::Files;
 use socket_desk::SocketRounds;
-use sqlite::{Connection, FileFrom, FileStore, Start};
+use sqlite::{Connection, FileStore, Start};
 use std::alloc::Global;
 use std::hash::RandomState;
 use std::io::{self, ErrorKind};
-use store_runs::{Ended, Refusal, Stores};
+use store_runs::{Ended, IfMissing, Pages, Place, Refusal, StoreFile, Stores};
 use testing::{Failures, Pieces, Ticking};
 
 /// The name of a store, whose blanks count.
@@ -148,18 +148,37 @@ impl Files for Around<'_> {
 #[derive(Drop)]
 pub(crate) struct NoStores;
 
+/// The place of no file.
+#[derive(Drop)]
+pub(crate) struct Nowhere;
+
+impl Place for Nowhere {
+    ghost use Rattle.std.specs.Prelude.{None};
+
+    ghost sights = { λ _. None };
+
+    fn stands(&mut self) -> bool {
+        false
+    }
+}
+
 impl Stores for NoStores {
     ghost use Rattle.std.specs.Prelude.{None};
 
     ghost asked = { λ _. None };
 
+    type Place = Nowhere;
+
     fn connect<D: Start>(
         &mut self,
         name: &str,
-        makes: bool,
+        missing: IfMissing,
         _start: D,
-    ) -> Result<Connection<FileStore<FileFrom<D>>>, (StoreFault, Ended<FileFrom<D>>)> {
-        let fault = match (name == STORE, makes) {
+    ) -> Result<
+        Connection<FileStore<StoreFile<D, Nowhere>>>,
+        (StoreFault, Ended<StoreFile<D, Nowhere>>),
+    > {
+        let fault = match (name == STORE, missing.makes()) {
             (true, true) => StoreFault::Memory,
             (true, false) => StoreFault::Shape,
             (false, _) => StoreFault::Device,
@@ -169,6 +188,10 @@ impl Stores for NoStores {
 
     fn refusal(&self) -> Refusal {
         Refusal::InUse
+    }
+
+    fn pages(&self) -> Pages {
+        Pages::Unknown
     }
 }
 

@@ -18,11 +18,11 @@ returns-in-Ok-Init g c =
     let input = g.I.Read.remaining c.args.input.now in
     let outputs : Outputs =
     outputs_of g.O.Write.contents g.E.Write.contents c.args.output.now c.do_init.new.output c.args.errors.now c.do_init.new.errors in
-    let is : c.args.line.now ≡ Ok (Init c.in-Ok-Init.store c.in-Ok-Init.callers) = search rules in
+    let is : c.args.line.now ≡ Ok (Init c.in-Ok-Init.store c.in-Ok-Init.callers c.in-Ok-Init.sums) = search rules in
     subst (λ line. IsAnswered of (image_at g.D.Start) line input input outputs c.do_init.result.0 c.do_init.result.1) (sym is) (
       Keeps-refl input,
       refl,
-      same_init of.files of.asked of.asked_after (image_at g.D.Start) c.do_init.result.1 (string_bytes c.in-Ok-Init.store) c.as_str-store.result.now (string_bytes c.in-Ok-Init.callers) c.as_str-callers-in-Ok-Init.result.now
+      same_init of.files of.asked of.asked_after (image_at g.D.Start) c.do_init.result.1 c.in-Ok-Init.sums (string_bytes c.in-Ok-Init.store) c.as_str-store.result.now (string_bytes c.in-Ok-Init.callers) c.as_str-callers-in-Ok-Init.result.now
           outputs c.do_init.result.0 c.as_str-store.ensures.value c.as_str-callers-in-Ok-Init.ensures.value c.do_init.ensures,
     )
 

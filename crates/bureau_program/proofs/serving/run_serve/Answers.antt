@@ -1,7 +1,8 @@
-use Rattle.std.proofs.Common.{◌≡◌, Option, Some, ap, false, refl}
+use Rattle.std.proofs.Common.{◌≡◌, Option, Some, ap, refl}
 use Rattle.faults.specs.declared.any.AnyFault.{AnyFault}
 use Rattle.sqlite_wal.specs.Files.{image_at}
 use Rattle.store_runs.specs.Desk.{of_store}
+use Rattle.store_runs.specs.declared.missing.IfMissing.TheVariants.{Refuse}
 use Rattle.store_runs.proofs.AskedFacts.{once_connected, once_refused}
 use Rattle.bureau_program.specs.Serving.{session_of}
 use Rattle.bureau_program.proofs.KeepingFacts.{kept_served}
@@ -22,7 +23,7 @@ returns-in-Ok g c =
       kept = kept;
       goes_on = goes_on (image_at g.D.Start) session.log session.log_after run.outcome c.end.result kept;
       asks =
-          once_connected (g.T.Stores.asked c.args.stores.now) (g.T.Stores.asked c.connect.new.self) c.args.store.now false (image_at g.D.Start) (λ fault. run.outcome ≡ Some (of_store fault)) c.end.result
+          once_connected (g.T.Stores.asked c.args.stores.now) (g.T.Stores.asked c.connect.new.self) c.args.store.now Refuse (image_at g.D.Start) (λ fault. run.outcome ≡ Some (of_store fault)) c.end.result
           c.open_and_serve-status.result.1 c.end.ensures c.in-Ok.ensures.asked;
     }
 
@@ -39,6 +40,6 @@ returns-in-Err g c =
       kept = kept;
       goes_on = goes_on (image_at g.D.Start) log log told c.in-Err.ended kept;
       asks =
-          once_refused (g.T.Stores.asked c.args.stores.now) (g.T.Stores.asked c.connect.new.self) c.args.store.now false (image_at g.D.Start) (λ fault. told ≡ Some (of_store fault)) c.in-Err.ended
+          once_refused (g.T.Stores.asked c.args.stores.now) (g.T.Stores.asked c.connect.new.self) c.args.store.now Refuse (image_at g.D.Start) (λ fault. told ≡ Some (of_store fault)) c.in-Err.ended
           c.in-Err.fault c.in-Err.ensures.refused.left (ap Some c.of_store.ensures) c.in-Err.ensures.asked;
     }
