@@ -1,10 +1,11 @@
 #!/usr/bin/env python3
-"""Turns bits of a store while its desk is stopped, and starts the desk: bits.py PROGRAM [--made-by OTHER] [--bits N] [--seed N]
+"""Turns bits of a store while its desk is stopped, and starts the desk: bits.py PROGRAM [--sums] [--made-by OTHER] [--bits N] [--seed N]
 
 A store is made, ten calls of three callers, a publication of 300 SYSMODs and a zone that has them go into it, and the desk ends. Then
 one bit is turned: in each page of the file N drawn ones (8 where it isn't given), and each bit of what is left of the log. The desk
 refuses the file; or all questions and all tables are as before; or something else is told. Where the pages of the file end
-in sums, the last of these is a failure; else it is counted. With --made-by another program makes the store and serves the calls.
+in sums (--sums), the last of these is a failure; else it is counted. With --made-by another program makes the store and serves the
+calls.
 Python 3.9.
 """
 import argparse
@@ -26,12 +27,14 @@ MORE = [request("POST /publish", PUBLISHER, 3, statements(300)), request("PUT /z
 ASKED = QUESTIONS + [request("GET /zones/TGT2/errsysmods", ALPHA), request("GET /zones/TGT2/chains/U299", ALPHA)]
 
 
-def made(maker):
+def made(maker, sums):
     """The files of a store that has served the calls."""
     maker.lay({})
-    see(maker.run("init", maker.store, maker.callers)[1] == b"CALLERS 3\n", "init")
+    see(maker.run("init", *sums, maker.store, maker.callers)[1] == b"CALLERS 3\n", "init")
     maker.serve(SCRIPT + MORE)
-    return maker.files()
+    files = maker.files()
+    see(not sums or files["store"][RESERVED] == SUM, "init made pages without sums")
+    return files
 
 
 def turned(files, name, place, bit):
@@ -85,6 +88,7 @@ def sweep(losing, files, words):
 def main():
     reader = argparse.ArgumentParser(description=__doc__, formatter_class=argparse.RawDescriptionHelpFormatter)
     reader.add_argument("program")
+    reader.add_argument("--sums", action="store_const", const=["--sums"], default=[])
     reader.add_argument("--made-by")
     reader.add_argument("--bits", type=int, default=8)
     reader.add_argument("--seed", type=int, default=1)
@@ -92,7 +96,7 @@ def main():
     with tempfile.TemporaryDirectory(dir="/dev/shm" if os.access("/dev/shm", os.W_OK) else None) as room:
         losing = Losing(os.path.abspath(words.program), os.path.realpath(room))
         maker = Losing(os.path.abspath(words.made_by), os.path.realpath(room)) if words.made_by else losing
-        good = sweep(losing, made(maker), words)
+        good = sweep(losing, made(maker, words.sums), words)
     print("bits: %d passed, %d failed" % (good, not good))
     sys.exit(0 if good else 1)
 

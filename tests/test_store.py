@@ -318,6 +318,58 @@ ROWS 3
         check("and the change that was not is made now", desk.bytes(large).endswith(b"ZONE TGT2 ROWS 6001\n"))
         desk.end()
 
+    def test_a_store_whose_file_is_gone_or_replaced(self):
+        def put_away(place):
+            os.rename(place, place + " away")
+
+        def replace(place):
+            shutil.copy(place, place + " copy")
+            os.rename(place + " copy", place)
+
+        def put_a_pipe(place):
+            put_away(place)
+            os.mkfifo(place)
+
+        for what in (put_away, replace, os.remove, put_a_pipe):
+            for part in ("", "-wal"):
+                name = "%s of %s" % (what.__name__, "the log" if part else "the file")
+                placed = made(name)
+                desk = Served(placed)
+                same("a change before it", desk.ask("PUT", "/zones/TGT1", ALPHA, 1, ZONE), (200, b"ZONE TGT1 ROWS 2\n"))
+                what(placed + part)
+                same("%s: questions are answered" % name, desk.ask("GET", "/zones", ALPHA)[0], 200)
+                same("%s: a change is not acknowledged" % name, desk.ask("PUT", "/zones/TGT2", ALPHA, 2, ZONE), (503, b"NO ROOM\n"))
+                output, errors = desk.process.communicate(timeout=60)
+                same("%s: the desk ends, and says why" % name, (desk.process.returncode, output, errors), (3, "", "FAULT 42\n"))
+                if what == put_away:
+                    os.rename(placed + part + " away", placed + part)
+                    desk = Served(placed)
+                    zones = desk.ask("GET", "/zones", ALPHA)[1]
+                    check("%s: back in its place it has what was acknowledged" % name, b"TGT1     2\n" in zones, zones)
+                    same("%s: and takes the change" % name, desk.ask("PUT", "/zones/TGT2", ALPHA, 2, ZONE), (200, b"ZONE TGT2 ROWS 2\n"))
+                    desk.end()
+
+    def test_a_link_that_leads_elsewhere(self):
+        first, second, link = made("first"), made("second"), os.path.join(room, "leads")
+        os.symlink(first, link)
+        desk = Served(link)
+        same("a change", desk.ask("PUT", "/zones/TGT1", ALPHA, 1, ZONE), (200, b"ZONE TGT1 ROWS 2\n"))
+        os.remove(link)
+        os.symlink(second, link)
+        same("a change that the link would not lead to", desk.ask("PUT", "/zones/TGT2", ALPHA, 2, ZONE), (503, b"NO ROOM\n"))
+        output, errors = desk.process.communicate(timeout=60)
+        same("ends the desk", (desk.process.returncode, output, errors), (3, "", "FAULT 42\n"))
+
+    def test_the_mode_of_a_log_that_lies_there(self):
+        for name, is_there in (("fresh", False), ("empty", True)):
+            place = os.path.join(room, name)
+            if is_there:
+                os.chmod(write(place, ""), 0o640)
+            os.chmod(write(place + "-wal", ""), 0o666)
+            made(name)
+            modes = [oct(os.stat(path).st_mode & 0o777) for path in (place, place + "-wal")]
+            same("the modes of both files", modes, ["0o640" if is_there else "0o600"] * 2)
+
     def test_each_exchange_of_the_page_over_a_file_that_is_opened_again_before_each_connection(self):
         listed, connections, wanted = exchanges()
         page = os.path.join(room, "page")
