@@ -5,6 +5,7 @@
 """
 import os
 import resource
+import signal
 import socket
 import struct
 import subprocess
@@ -92,11 +93,11 @@ def longest(port, count=200):
     return waited
 
 
-def open_desk(*words):
+def open_desk(*words, errors=None):
     """A desk with these words more: its process and its port."""
     store, port = os.path.join(folder(), "store"), free_port()
     subprocess.run([PROGRAM, "init", store, CALLERS], check=True, stdout=subprocess.DEVNULL)
-    process = subprocess.Popen([PROGRAM, "serve", "--port", str(port), *words, store], stdout=subprocess.PIPE, text=True)
+    process = subprocess.Popen([PROGRAM, "serve", "--port", str(port), *words, store], stdout=subprocess.PIPE, stderr=errors, text=True)
     check("a desk with %s listens" % " ".join(words), process.stdout.readline() == "LISTENING 127.0.0.1:%d\n" % port)
     return process, port
 
@@ -218,6 +219,36 @@ class SideBySide(unittest.TestCase):
         for it in crowd:
             it.close()
         check("in the time of a few reports", waited < 15 * sorted(alone)[2], "%.3f s, and %.3f s for one report" % (waited, sorted(alone)[2]))
+
+    def test_who_comes_last(self):
+        """While a desk is stopped, a crowd asks, and then one other. Once it goes on, the log tells whom it answers first."""
+        for name, tokens in (("one caller", [NORTH] * 200), ("strangers", ["stranger-%d" % number for number in range(200)])):
+            path = os.path.join(folder(), "log")
+            with open(path, "w") as log:
+                process, port = open_desk("--log", errors=log)
+            self.addCleanup(lambda process=process: (process.terminate(), process.wait(), process.stdout.close()))
+            crowd, other = [connect(port) for _ in tokens], connect(port)
+            other.sendall(request("GET", "/zones", SOUTH))
+            first = Reader(other).reply()
+            for token in (NORTH, SOUTH):  # whoever was answered before is no stranger
+                same("an answer before", answered(port, request("GET", "/zones", token)), first)
+            process.send_signal(signal.SIGSTOP)
+            for it, token in zip(crowd, tokens):
+                it.sendall(request("GET", "/zones", token) * 2)
+            other.sendall(request("GET", "/zones", SOUTH))
+            process.send_signal(signal.SIGCONT)
+            Reader(other).reply()
+            for it in crowd:
+                reader = Reader(it)
+                check("all are answered", len(reader.reply()) > 0 and len(reader.reply()) > 0)
+                it.close()
+            other.close()
+            process.terminate()
+            process.wait()
+            with open(path) as log:
+                callers = [line.split()[1] for line in log][3:]
+            same("all are in the log, beside " + name, len(callers), 2 * len(tokens) + 1)
+            check("the other is among the first two, beside " + name, "SOUTH" in callers[:2], str(callers.index("SOUTH")))
 
     def test_places(self):
         """With four places the connection that has been idle longest gives way; --connections counts who was accepted."""

@@ -15,6 +15,7 @@
 
 mod accepting;
 mod fault;
+mod known;
 mod lines;
 mod log;
 mod moment;

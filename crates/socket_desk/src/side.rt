@@ -71,6 +71,8 @@ pub(crate) struct Side<T> {
     pub(crate) room: usize,
     // how many of those that lie there end its next request, once it waits for its turn
     pub(crate) due: usize,
+    // the token of that request, until it is answered
+    pub(crate) token: Option<Vec<u8>>,
     // the desk has ended its side
     pub(crate) is_closing: bool,
     // it came, or bytes were written to it, and the desk has not noted that yet
@@ -95,6 +97,7 @@ impl<T: Stream> Side<T> {
             told: now,
             room: 0,
             due: 0,
+            token: None,
             is_closing: false,
             is_ahead: true,
             list: Listed::Nowhere,

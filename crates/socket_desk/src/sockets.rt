@@ -4,6 +4,7 @@ ghost use Rattle.connections.specs.Items.{event_of};
 ghost use Rattle.socket_desk.specs.Traffic.{IsNoted, Tells, TellsBut, socket_of, sockets_of};
 
 use crate::fault::LoopFault;
+use crate::known::Known;
 use crate::lines::Lines;
 use crate::moment::Moment;
 use crate::patience::{Patience, Stage};
@@ -34,8 +35,12 @@ pub(crate) struct Sockets<T> {
     pub(crate) short: VecDeque<usize>,
     // Those whose next request lies there whole: each caller has its turn.
     pub(crate) turns: Turns,
+    // The callers that have turns of their own. The others have theirs as one.
+    pub(crate) known: Known,
     // How many of those that are ready are visited before the next turn.
     pub(crate) before_turn: usize,
+    // The next turn waited for a round, in which connections were accepted.
+    pub(crate) has_waited: bool,
     // Connections may wait to be accepted, of which the system won't tell.
     pub(crate) more_wait: bool,
     // How many are to be accepted yet.
@@ -69,7 +74,9 @@ impl<T: Stream> Sockets<T> {
             ready: VecDeque::with_capacity(alloc, slots)?,
             short: VecDeque::with_capacity(alloc, slots)?,
             turns: Turns::new(alloc),
+            known: Known::new(alloc),
             before_turn: 0,
+            has_waited: false,
             more_wait: true,
             left: 0,
             swept: None,

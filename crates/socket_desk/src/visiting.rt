@@ -88,6 +88,12 @@ impl<T: Stream> Sockets<T> {
         if !self.may_turn(connections) {
             return Ok(());
         }
+        // Who waits to be accepted is heard of first, and this one has its turn in the next round.
+        if self.more_wait && !self.has_waited {
+            self.has_waited = true;
+            return Ok(());
+        }
+        self.has_waited = false;
         let Some(slot) = self.turns.next() else {
             return Ok(());
         };

@@ -87,8 +87,9 @@ impl<T: Stream> Sockets<T> {
         }
         match self.look(connections, slot, side) {
             Look::Read(count) => self.read_some(connections, slot, side, count, now),
-            Look::Turn(count) => {
+            Look::Turn(count, token) => {
                 side.due = count;
+                side.token = Some(token);
                 Visit::Turn
             }
             Look::Waits => Visit::Waits,
@@ -113,10 +114,13 @@ impl<T: Stream> Sockets<T> {
             Err(error) => return Look::stopped(&error),
         };
         match preview(self.alloc, connections, slot, &room[..count]) {
-            Some(Preview::Whole(due, caller)) => match self.turns.join(caller.as_slice(), slot) {
-                Ok(()) => Look::Turn(due),
-                Err(_) => Look::Read(count),
-            },
+            Some(Preview::Whole(due, token)) => {
+                let caller = self.known.token(token.as_slice());
+                match self.turns.join(caller, slot) {
+                    Ok(()) => Look::Turn(due, token),
+                    Err(_) => Look::Read(count),
+                }
+            }
             _ => Look::Read(count),
         }
     }
@@ -223,6 +227,7 @@ impl<T: Stream> Sockets<T> {
         if let Some(Some(connection)) = connections.slots.get(slot) {
             side.parting = Parting::of(connection, connection.phase);
             if let Some(note) = &connection.note {
+                self.known.learn(side.token.take(), note);
                 self.lines.request(note, side.taken(now));
             }
         }
@@ -266,12 +271,12 @@ impl<T: Stream> Sockets<T> {
 }
 
 // What lies there over a connection.
-#[derive(Clone, Copy, Debug, PartialEq, Eq)]
+#[derive(Drop)]
 enum Look {
     // So many bytes may be read at once: no request ends in them.
     Read(usize),
-    // So many end a request, which waits for its turn.
-    Turn(usize),
+    // So many end a request with this token, which waits for its turn.
+    Turn(usize, Vec<u8>),
     // Nothing yet.
     Waits,
     // It was interrupted, and is to be made again.
