@@ -88,7 +88,7 @@ module _ (found : Found) (from : Image) {D : Type 0} {g : disk.Ghosts D} where
   IsAnswered (Ok (line.Init store callers sums)) input rest outputs status ended =
       Keeps input rest × NobodyCame found × IsInit found.files found.asked found.asked_after from sums (string_bytes store) (string_bytes callers) outputs status ended
   IsAnswered (Ok (line.Serve port cache connections most_open memory log store)) input rest outputs status ended =
-      Keeps input rest × IsServe (record { port = port; cache = cache; connections = connections; most_open = most_open; log = log }) (string_bytes store) outputs status ended
+      Keeps input rest × IsServe (record { port = port; cache = cache; connections = connections; most_open = most_open; memory = memory; log = log }) (string_bytes store) outputs status ended
   IsAnswered (Ok (line.Migrate store)) input rest outputs status ended =
       Keeps input rest × NobodyCame found × IsMigrate found.asked found.asked_after from (string_bytes store) outputs status ended
   IsAnswered (Ok (line.ErrSysmods files)) input rest outputs status ended =

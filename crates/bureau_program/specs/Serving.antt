@@ -1,5 +1,5 @@
 -- Serving a store by `serve`: the output, and why it ends.
-use Rattle.std.specs.Prelude.{◌≡◌, ◌≤◌, ◌⊎◌, ◌++◌, ℕ, Bool, List, codes, decimal, false, replicate, Option, Some, None}
+use Rattle.std.specs.Prelude.{◌≡◌, ◌*◌, ◌≤◌, ◌⊎◌, ◌++◌, ℕ, Bool, List, codes, decimal, false, replicate, Option, Some, None}
 use Rattle.std.specs.Io.KnownBytes.{Appends, Keeps}
 use Rattle.faults.specs.declared.any.AnyFault.{AnyFault}
 use Rattle.transfer.specs.Transfer.{AppendsFront}
@@ -80,12 +80,12 @@ pub record IsNewCache (room : ℕ) (cache : CacheLists) : Type 0 where
   pub right : IsAlwaysRight cache
   pub room_is : 1 ≤ room → room ≤ 65536 → cache.capacity ≡ room
 
--- Serves private contracts alone: a desk that is prepared has a new cache, free slots, and room for four of the largest
--- bodies.
+-- Serves private contracts alone: a desk that is prepared has a new cache, free slots, and as much room for bodies and
+-- replies as it may have.
 pub record IsPrepared (service : Service) (prepared : Prepared) : Type 0 where
   pub cache : IsNewCache service.cache prepared.cache
   pub free : prepared.connections.slots.items ≡ replicate service.most_open None
-  pub limit : prepared.connections.shares.limit ≡ 268435456
+  pub limit : prepared.connections.shares.limit ≡ service.memory * 1048576
   pub within : IsWithin prepared.connections
 
 -- that was done with a store by a desk with a new cache

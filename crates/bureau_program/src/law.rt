@@ -67,7 +67,7 @@ pub fn what_a_run_keeps<D: Disk>(ended: &Ended<D>)
 /// `brings`: such a `migrate` leaves one with the tables of the store of version 1. `finds`: if a `check` told that a
 /// store is whole, the publisher is among its callers. A `callers` that has set callers gives that too
 /// (`AreCoursesOn`).
-pub fn where_runs_begin<D: Start>(ended: &Ended<FileFrom<D>>)
+pub fn where_runs_begin<D: Disk>(ended: &Ended<D>)
     ensures makes { (from : Image) (source : List ℕ) (outcome : Option AnyFault)
         → KeepsMade from source outcome ended.now → IsDone outcome → EndsWell from ended.now
         → (left : Image) → Leaves from ended.now left → HoldCallers source left }
@@ -83,7 +83,7 @@ pub fn where_runs_begin<D: Start>(ended: &Ended<FileFrom<D>>)
 /// The last thing of the program is to copy the log of a store into its file ([`Ended::close`]). `well`: if the disk
 /// returned what was written by then, it had at the end of the run. `left`: what a stop leaves from then on is what a
 /// stop may leave from the end of the run on, so [`what_a_run_keeps`] says what it holds.
-pub fn what_a_copy_leaves<D: Start>(ended: &Ended<FileFrom<D>>, closed: &Ended<FileFrom<D>>)
+pub fn what_a_copy_leaves<D: Disk>(ended: &Ended<D>, closed: &Ended<D>)
     ensures well { (from : Image) → IsLastOf from ended.now closed.now → EndsWell from ended.now }
     ensures left { (from : Image) → IsLastOf from ended.now closed.now
         → (left : Image) → LeavesAtLast from closed.now left → Leaves from ended.now left }

@@ -143,6 +143,7 @@ fn answer<S: Surroundings, T: Stores, D: Start, I: Read, O: Write, E: Write>(
                 cache,
                 connections,
                 most_open,
+                memory,
                 log,
                 store,
             },
@@ -152,6 +153,7 @@ fn answer<S: Surroundings, T: Stores, D: Start, I: Read, O: Write, E: Write>(
                 cache: *cache,
                 connections: *connections,
                 most_open: *most_open,
+                memory: *memory,
                 log: *log,
             };
             let store = store.as_str();

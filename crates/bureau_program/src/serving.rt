@@ -1,5 +1,5 @@
 //! `serve`: a desk whose store is kept in a file.
-ghost use Rattle.std.specs.Prelude.{◌≡◌, IfErr, IfOk, OnOk, None, false, replicate};
+ghost use Rattle.std.specs.Prelude.{◌≡◌, ◌*◌, IfErr, IfOk, OnOk, None, false, replicate};
 ghost use Rattle.std.specs.Io.KnownBytes.{Appends};
 ghost use Rattle.run_parts.specs.Outputs.{fault_in, outputs_of};
 ghost use Rattle.bureau_program.specs.Program.{IsServe, found_in};
@@ -22,8 +22,8 @@ use std::alloc::Global;
 use std::io::{ErrorKind, Write};
 use store_runs::{Ended, IfMissing, StoreFile, Stores, end, of_store, run_open};
 
-// The bytes that all connections together may hold, beyond a head of each: four bodies of the largest size.
-const HELD_MOST: usize = 1 << 28;
+// A mebibyte, in bytes.
+const MIB: usize = 1 << 20;
 
 /// The options of `serve`.
 #[derive(Clone, Copy, Debug)]
@@ -36,6 +36,9 @@ pub struct Service {
     pub connections: u32,
     /// The most of them that are open at once.
     pub most_open: u32,
+    /// What bodies that come and replies that aren't read take together, beyond a head of each connection, in MiB. One
+    /// reply more may come above it.
+    pub memory: u32,
     /// Whether a log is kept.
     pub log: bool,
 }
@@ -206,7 +209,7 @@ fn prepare<S: Surroundings>(
 {
     // The cache is the largest, and made last: all that stands before a call that may fail is dropped there too.
     let routes = routes(alloc)?;
-    let connections = free_slots(alloc, service.most_open)?;
+    let connections = free_slots(alloc, service.most_open, service.memory)?;
     let cache = new_cache(surroundings, alloc, service.cache)?;
     Ok(Prepared {
         cache,
@@ -215,14 +218,14 @@ fn prepare<S: Surroundings>(
     })
 }
 
-// So many free slots.
-fn free_slots(alloc: Global, most_open: u32) -> Result<Connections, AnyFault>
+// So many free slots, and a limit of so many MiB for bodies and replies.
+fn free_slots(alloc: Global, most_open: u32, memory: u32) -> Result<Connections, AnyFault>
     ensures free { IfOk result (λ connections. connections.slots.items ≡ replicate most_open None) }
-    ensures limit { IfOk result (λ connections. connections.shares.limit ≡ 268435456) }
+    ensures limit { IfOk result (λ connections. connections.shares.limit ≡ memory * 1048576) }
     ensures within { IfOk result IsWithin }
     ensures fault { IfErr result IsNotListening }
 {
-    match Connections::new(alloc, most_open as usize, HELD_MOST) {
+    match Connections::new(alloc, most_open as usize, memory as usize * MIB) {
         Ok(connections) => Ok(connections),
         Err(_) => Err(AnyFault::from(ProgramFault::Memory)),
     }

@@ -318,7 +318,8 @@ impl Connections {
 
     // The bytes that the reply in a slot takes.
     fn kept(&self, slot: usize) -> usize
-        ensures { result ≡ kept_of (get_or self.now.replies slot 0) (out_at (slice_get self.now.slots.items slot)) }
+        ensures { result ≡ kept_of (get_or self.now.replies slot 0)
+            (out_at (slice_get self.now.slots.items slot)) }
     {
         let left = self.outgoing(slot).len();
         if left == 0 {

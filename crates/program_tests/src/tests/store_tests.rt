@@ -71,6 +71,7 @@ pub(super) fn served<U: Surroundings, S: Alter + Drop>(
         cache: 1,
         connections,
         most_open: 2,
+        memory: 64,
         log: true,
     };
     let (mut output, mut errors) = (Vec::new(alloc), Vec::new(alloc));

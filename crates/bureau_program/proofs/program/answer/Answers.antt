@@ -31,10 +31,10 @@ returns-in-Ok-Serve g c =
     let at = c.args.surroundings.now in
     let of : Found = found_in (g.S.Files.known_file at) (g.T.Stores.asked c.args.stores.now) (g.T.Stores.asked c.run_serve.new.stores) (g.S.Surroundings.known_port at) (g.S.Rounds.is_over c.run_serve.new.surroundings) (g.S.Rounds.log at) (g.S.Rounds.log c.run_serve.new.surroundings) in
     let input = g.I.Read.remaining c.args.input.now in
-    let service : Service = record { port = c.in-Ok-Serve.port; cache = c.in-Ok-Serve.cache; connections = c.in-Ok-Serve.connections; most_open = c.in-Ok-Serve.most_open; log = c.in-Ok-Serve.log } in
+    let service : Service = record { port = c.in-Ok-Serve.port; cache = c.in-Ok-Serve.cache; connections = c.in-Ok-Serve.connections; most_open = c.in-Ok-Serve.most_open; memory = c.in-Ok-Serve.memory; log = c.in-Ok-Serve.log } in
     let outputs : Outputs =
     outputs_of g.O.Write.contents g.E.Write.contents c.args.output.now c.run_serve.new.writer c.args.errors.now c.run_serve.new.errors in
-    let is : c.args.line.now ≡ Ok (Serve c.in-Ok-Serve.port c.in-Ok-Serve.cache c.in-Ok-Serve.connections c.in-Ok-Serve.most_open c.in-Ok-Serve.log c.in-Ok-Serve.store) = search rules in
+    let is : c.args.line.now ≡ Ok (Serve c.in-Ok-Serve.port c.in-Ok-Serve.cache c.in-Ok-Serve.connections c.in-Ok-Serve.most_open c.in-Ok-Serve.memory c.in-Ok-Serve.log c.in-Ok-Serve.store) = search rules in
     subst (λ line. IsAnswered of (image_at g.D.Start) line input input outputs c.run_serve.result.0 c.run_serve.result.1) (sym is) (
       Keeps-refl input,
       subst (λ (name : List ℕ). IsServe of (image_at g.D.Start) service name outputs c.run_serve.result.0 c.run_serve.result.1) c.as_str-store-in-Ok-Serve.ensures.value c.run_serve.ensures,
