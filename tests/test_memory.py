@@ -17,8 +17,8 @@ CALLERS = write(os.path.join(folder(), "callers.csv"), "NAME,TOKEN\nPUBLISH,publ
 LIMIT = 30000  # KB of data: a small desk starts with them, and a large publication needs more
 STATEMENTS = "++PTF(UA{0:05d}).\n++VER(Z038) FMID(HBB7790) PRE(UA00001,UA00002) REQ(UB00001).\n++HOLD(UA{0:05d}) FMID(HBB7790) ERROR REASON(AA{0:05d}).\n"
 HELD, REASONS = 16000, "ABCDEF"  # SYSMODs, each held for so many reasons: a report on them is larger than what the system keeps of a reply that nobody reads
-UNREAD = 30
-MEMORY = 64  # MiB: some ten of these reports
+UNREAD = 64
+MEMORY = 128  # MiB: some twenty of these reports
 SOON = 30  # seconds: half of what a desk waits for who reads nothing, on however busy a machine
 
 store, port = os.path.join(folder(), "store"), free_port()
@@ -43,7 +43,7 @@ class Memory(unittest.TestCase):
         desk.wait()
 
     def test_replies_that_nobody_reads(self):
-        """Thirty clients ask for large reports and read nothing. The desk keeps to its limit, and another client is answered."""
+        """Many clients ask for large reports and read nothing. The desk keeps to its limit, and another client is answered."""
         kept, at = os.path.join(folder(), "unread"), free_port()
         subprocess.run([PROGRAM, "init", kept, CALLERS], check=True, stdout=subprocess.DEVNULL)
         desk = subprocess.Popen([PROGRAM, "serve", "--port", str(at), "--memory", str(MEMORY), kept], stdout=subprocess.PIPE, text=True)

@@ -58,7 +58,7 @@ open_rule = number_rule (codes "open") 1 8192 (codes "1024")
 
 -- `--memory MIB`: the most MiB that bodies and replies take together
 abbrev pub memory_rule : Rule
-memory_rule = number_rule (codes "memory") 64 65536 (codes "512")
+memory_rule = number_rule (codes "memory") 128 65536 (codes "512")
 
 -- `--sums`: whether the pages of a new file end in sums
 abbrev pub sums_rule : Rule
@@ -214,7 +214,7 @@ given (Serve port cache connections most_open memory log store) =
     ∷ (codes "cache", number 1 65536 cache)
     ∷ (codes "connections", number 1 1000000 connections)
     ∷ (codes "open", number 1 8192 most_open)
-    ∷ (codes "memory", number 64 65536 memory)
+    ∷ (codes "memory", number 128 65536 memory)
     ∷ (codes "log", flag log)
     ∷ (codes "store", one (string_bytes store))
     ∷ []

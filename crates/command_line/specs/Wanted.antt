@@ -40,7 +40,7 @@ commands =
           ∷ (codes "cache", number 1 65536 0)
           ∷ (codes "connections", number 1 1000000 0)
           ∷ (codes "open", number 1 8192 0)
-          ∷ (codes "memory", number 64 65536 0)
+          ∷ (codes "memory", number 128 65536 0)
           ∷ (codes "log", flag false)
           ∷ (codes "store", one [])
           ∷ [],

@@ -135,8 +135,8 @@ pub const OPEN: Argument = Argument {
 /// `--memory MIB`
 pub const MEMORY: Argument = Argument {
     name: "memory",
-    kind: Kind::Number("MIB", 64, 65_536, "512"),
-    help: "How many MiB bodies and replies take together at most, 64 to 65536",
+    kind: Kind::Number("MIB", 128, 65_536, "512"),
+    help: "How many MiB bodies and replies take together at most, 128 to 65536",
 };
 
 /// `--sums`

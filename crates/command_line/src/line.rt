@@ -32,7 +32,7 @@ pub enum Line {
     /// `serve --port P --cache N --connections K --open M --memory MIB --log STORE`: serves K connections to a port of
     /// 127.0.0.1, 1 to 65,535, side by side over the store in a file. N frames at most are kept, 1 to 65,536. K is 1 to
     /// 1,000,000, and M of them at most are open at once, 1 to 8,192. Bodies that come and replies that aren't read take
-    /// so many MiB together at most, 64 to 65,536. It keeps a log if `--log` is given.
+    /// so many MiB together at most, 128 to 65,536. It keeps a log if `--log` is given.
     Serve {
         port: u16,
         cache: u32,
@@ -216,7 +216,7 @@ fn serve_with(alloc: Global, matches: &ArgMatches) -> Result<Line, LineFault>
         cache: number(alloc, matches, "serve", "cache", 1, 65_536)?,
         connections: number(alloc, matches, "serve", "connections", 1, 1_000_000)?,
         most_open: number(alloc, matches, "serve", "open", 1, 8192)?,
-        memory: number(alloc, matches, "serve", "memory", 64, 65_536)?,
+        memory: number(alloc, matches, "serve", "memory", 128, 65_536)?,
         log: flag_with(matches, "log"),
         store: text(alloc, matches, "serve", "store")?,
     })

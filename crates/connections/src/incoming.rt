@@ -97,7 +97,8 @@ impl Incoming {
         if self.is_short_of(unread.len()) {
             return Ok(Preview::Part);
         }
-        if self.len() == 0 {
+        // A head that was found isn't looked for again, and a body not copied.
+        if self.len() == 0 || self.wanted() > 0 {
             return preview_of(alloc, self.bytes.bytes(), unread);
         }
         let mut all = Vec::from_slice(alloc, self.bytes.bytes())?;

@@ -1,5 +1,5 @@
 //! Connections, each in its slot.
-ghost use Rattle.std.specs.Prelude.{◌≡◌, ◌+◌, ◌<◌, ◌≤◌, ◌↔◌, true, IsTrue, get_or, length, None, Some, IfNone, IfOk, IfSome, replicate, slice_get, slice_set, sum};
+ghost use Rattle.std.specs.Prelude.{◌≡◌, ◌+◌, ◌/◌, ◌<◌, ◌≤◌, ◌↔◌, true, IsTrue, get_or, length, None, Some, IfNone, IfOk, IfSome, replicate, slice_get, slice_set, sum};
 ghost use Rattle.connections.specs.Items.{AreFree, NoneIs, bytes, came, ended, event_of, failed, wrote};
 ghost use Rattle.connections.specs.Memory.{AreBeside, HasRoom, IsReplyCounted, IsWithin, Needs, ReadsOn, StaysWithin};
 ghost use Rattle.connections.specs.Replies.{kept_of};
@@ -10,6 +10,9 @@ use crate::event::{Event, Told};
 use crate::replies::Replies;
 use crate::shares::Shares;
 use std::alloc::{AllocError, Global};
+
+// One part in so many of the limit is for replies alone.
+const OF_REPLIES: usize = 8;
 
 // The bytes that came over a connection and that each may hold: as many as a head may have.
 const HEAD_ROOM: usize = 16_384;
@@ -80,6 +83,13 @@ impl Connections {
             self.now.shares.limit < sum self.now.shares.given + sum self.now.replies }
     {
         self.shares.left() < self.replies.all()
+    }
+
+    /// Whether replies take more than an eighth of the limit. So much is theirs alone: a body never waits for that.
+    pub fn are_crowding(&self) -> bool
+        ensures { IsTrue result ↔ self.now.shares.limit / 8 < sum self.now.replies }
+    {
+        self.shares.limit() / OF_REPLIES < self.replies.all()
     }
 
     /// The bytes that have to go out over the connection in a slot, and were not yet written.
@@ -282,12 +292,15 @@ impl Connections {
         self.shares.give(slot, share)
     }
 
-    // Whether so much is left of the limit beside the replies that wait.
+    // Whether so much is left of the limit beside the replies that wait, and beside the part that is theirs alone.
     fn has_left(&self, more: usize) -> bool
         ensures { result ≡ true →
             sum self.now.shares.given + sum self.now.replies + more ≤ self.now.shares.limit }
     {
-        match self.replies.all().checked_add(more) {
+        let own = self.shares.limit() / OF_REPLIES;
+        let replies = self.replies.all();
+        let beside = if replies < own { own } else { replies };
+        match beside.checked_add(more) {
             Some(taken) => taken <= self.shares.left(),
             None => false,
         }

@@ -73,6 +73,8 @@ pub(crate) struct Side<T> {
     pub(crate) due: usize,
     // the token of that request, until it is answered
     pub(crate) token: Option<Vec<u8>>,
+    // as that request came to lie there, nobody was known by its token
+    pub(crate) is_strange: bool,
     // the desk has ended its side
     pub(crate) is_closing: bool,
     // it came, or bytes were written to it, and the desk has not noted that yet
@@ -98,6 +100,7 @@ impl<T: Stream> Side<T> {
             room: 0,
             due: 0,
             token: None,
+            is_strange: false,
             is_closing: false,
             is_ahead: true,
             list: Listed::Nowhere,

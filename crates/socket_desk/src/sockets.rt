@@ -112,12 +112,17 @@ impl<T: Stream> Sockets<T> {
     pub(crate) fn rests(&self, connections: &Connections) -> bool {
         self.ready.is_empty()
             && !self.more_wait
-            && (self.turns.len() == 0 || connections.are_full())
+            && (self.turns.len() == 0 || self.holds_back(connections))
     }
 
-    /// Whether others wait for the memory of replies that nobody reads, or of bodies.
+    /// Whether the replies that wait leave no room for one more, or for a body.
+    pub(crate) fn holds_back(&self, connections: &Connections) -> bool {
+        connections.are_full() || (!self.short.is_empty() && connections.are_crowding())
+    }
+
+    /// Whether others wait for the memory of replies that nobody reads.
     pub(crate) fn is_pressed(&self, connections: &Connections) -> bool {
-        !self.short.is_empty() || (self.turns.len() > 0 && connections.are_full())
+        (!self.short.is_empty() || self.turns.len() > 0) && self.holds_back(connections)
     }
 
     /// One read or write of each socket that is ready, beside connections as they stand. What came of it is to be told.

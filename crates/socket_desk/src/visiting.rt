@@ -12,7 +12,7 @@ use connections::{Connections, Event};
 
 impl<T: Stream> Sockets<T> {
     /// Those that may have something to do are visited. Once all were that had at the last turn, the next caller has its
-    /// own, unless replies that nobody reads leave no room for one more.
+    /// own, unless replies that nobody reads leave no room for one more, or for a body.
     pub(crate) fn visit_due(
         &mut self,
         connections: &Connections,
@@ -30,7 +30,7 @@ impl<T: Stream> Sockets<T> {
 
     // Whether the next caller may have its turn.
     fn may_turn(&self, connections: &Connections) -> bool {
-        (self.before_turn == 0 || self.ready.is_empty()) && !connections.are_full()
+        (self.before_turn == 0 || self.ready.is_empty()) && !self.holds_back(connections)
     }
 
     // Each that is ready is visited, as long as more may be told. The others keep their places before those that were.

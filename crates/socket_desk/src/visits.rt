@@ -83,18 +83,39 @@ impl<T: Stream> Sockets<T> {
             (socket_of T.left T.written side.old) (socket_of T.left T.written side.new) }
     {
         if has_turn {
+            if self.joins_its_own(slot, side) {
+                return Visit::Turn;
+            }
             return self.read_some(connections, slot, side, side.due, now);
         }
         match self.look(connections, slot, side) {
             Look::Read(count) => self.read_some(connections, slot, side, count, now),
-            Look::Turn(count, token) => {
+            Look::Turn(count, token, is_strange) => {
                 side.due = count;
                 side.token = Some(token);
+                side.is_strange = is_strange;
                 Visit::Turn
             }
             Look::Waits => Visit::Waits,
             Look::Interrupted => Visit::Goes,
             Look::Failed => self.failed(ConnFault::Read),
+        }
+    }
+
+    // A request that lay there before its caller was known stands behind that caller's others from now on.
+    fn joins_its_own(&mut self, slot: usize, side: &mut Side<T>) -> bool
+        ensures sides { self.new.sides.items ≡ self.old.sides.items }
+        ensures socket { socket_of T.left T.written side.new ≡ socket_of T.left T.written side.old }
+    {
+        if !side.is_strange {
+            return false;
+        }
+        side.is_strange = false;
+        match &side.token {
+            Some(token) if !self.known.token(token.as_slice()).is_empty() => {
+                self.turns.join(token.as_slice(), slot).is_ok()
+            }
+            _ => false,
         }
     }
 
@@ -116,8 +137,9 @@ impl<T: Stream> Sockets<T> {
         match preview(self.alloc, connections, slot, &room[..count]) {
             Some(Preview::Whole(due, token)) => {
                 let caller = self.known.token(token.as_slice());
+                let is_strange = caller.is_empty();
                 match self.turns.join(caller, slot) {
-                    Ok(()) => Look::Turn(due, token),
+                    Ok(()) => Look::Turn(due, token, is_strange),
                     Err(_) => Look::Read(count),
                 }
             }
@@ -275,8 +297,8 @@ impl<T: Stream> Sockets<T> {
 enum Look {
     // So many bytes may be read at once: no request ends in them.
     Read(usize),
-    // So many end a request with this token, which waits for its turn.
-    Turn(usize, Vec<u8>),
+    // So many end a request with this token, which waits for its turn; and whether nobody is known by the token.
+    Turn(usize, Vec<u8>, bool),
     // Nothing yet.
     Waits,
     // It was interrupted, and is to be made again.
