@@ -222,16 +222,20 @@ class SideBySide(unittest.TestCase):
 
     def test_who_comes_last(self):
         """While a desk is stopped, a crowd asks, and then one other. Once it goes on, the log tells whom it answers first."""
-        for name, tokens in (("one caller", [NORTH] * 200), ("strangers", ["stranger-%d" % number for number in range(200)])):
+        strangers = ["stranger-%d" % number for number in range(200)]
+        for name, tokens, known in (("one caller", [NORTH] * 200, True), ("strangers", strangers, True), ("one caller at a start", [NORTH] * 200, False)):
             path = os.path.join(folder(), "log")
             with open(path, "w") as log:
                 process, port = open_desk("--log", errors=log)
             self.addCleanup(lambda process=process: (process.terminate(), process.wait(), process.stdout.close()))
             crowd, other = [connect(port) for _ in tokens], connect(port)
-            other.sendall(request("GET", "/zones", SOUTH))
-            first = Reader(other).reply()
-            for token in (NORTH, SOUTH):  # whoever was answered before is no stranger
-                same("an answer before", answered(port, request("GET", "/zones", token)), first)
+            before = 0
+            if known:  # whoever was answered before is no stranger
+                before = 3
+                other.sendall(request("GET", "/zones", SOUTH))
+                first = Reader(other).reply()
+                for token in (NORTH, SOUTH):
+                    same("an answer before", answered(port, request("GET", "/zones", token)), first)
             process.send_signal(signal.SIGSTOP)
             for it, token in zip(crowd, tokens):
                 it.sendall(request("GET", "/zones", token) * 2)
@@ -243,12 +247,18 @@ class SideBySide(unittest.TestCase):
                 check("all are answered", len(reader.reply()) > 0 and len(reader.reply()) > 0)
                 it.close()
             other.close()
+            wanted, callers, late = before + 2 * len(tokens) + 1, [], time.monotonic() + 20
+            while len(callers) < wanted and time.monotonic() < late:  # a line is written behind its reply
+                time.sleep(0.05)
+                with open(path) as log:
+                    callers = [line.split()[1] for line in log]
             process.terminate()
             process.wait()
-            with open(path) as log:
-                callers = [line.split()[1] for line in log][3:]
-            same("all are in the log, beside " + name, len(callers), 2 * len(tokens) + 1)
-            check("the other is among the first two, beside " + name, "SOUTH" in callers[:2], str(callers.index("SOUTH")))
+            same("all are in the log, beside " + name, len(callers), wanted)
+            # One is answered as the desk goes on, and one more of the crowd's as the other is heard of. The first eight tokens that
+            # wait have turns of their own, whether a caller has them or not.
+            at, most = callers[before:].index("SOUTH"), 2 + min(8, len(set(tokens)) - 1)
+            check("the other waits for few, beside " + name, at <= most, at)
 
     def test_places(self):
         """With four places the connection that has been idle longest gives way; --connections counts who was accepted."""

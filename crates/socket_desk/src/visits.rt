@@ -13,6 +13,9 @@ use connections::{Connections, Event, Phase, Preview};
 use std::alloc::Global;
 use std::io::{self, ErrorKind};
 
+// So many callers may wait before their tokens are looked at: invented ones cost a known caller no more.
+const FEW: usize = 8;
+
 // The most bytes of a read.
 pub(crate) const ROOM: usize = 65_536;
 
@@ -102,6 +105,14 @@ impl<T: Stream> Sockets<T> {
         }
     }
 
+    // By which token a caller has its turns. Where few wait each token is a caller's, and else those that are known.
+    fn caller_by<'a>(&self, token: &'a [u8]) -> &'a [u8] {
+        if self.turns.len() < FEW {
+            return token;
+        }
+        self.known.token(token)
+    }
+
     // A request that lay there before its caller was known stands behind that caller's others from now on.
     fn joins_its_own(&mut self, slot: usize, side: &mut Side<T>) -> bool
         ensures sides { self.new.sides.items ≡ self.old.sides.items }
@@ -136,7 +147,7 @@ impl<T: Stream> Sockets<T> {
         };
         match preview(self.alloc, connections, slot, &room[..count]) {
             Some(Preview::Whole(due, token)) => {
-                let caller = self.known.token(token.as_slice());
+                let caller = self.caller_by(token.as_slice());
                 let is_strange = caller.is_empty();
                 match self.turns.join(caller, slot) {
                     Ok(()) => Look::Turn(due, token, is_strange),
